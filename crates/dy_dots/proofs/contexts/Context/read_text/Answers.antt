@@ -1,0 +1,46 @@
+use Rattle.std.proofs.Common.{◌≡◌, ap, ◌∙◌, sym, rules, inl, inr, refl, true, false, ◌⊎◌}
+use Rattle.dy_dots.specs.Spelling.{all_allowed, runs_text, read_runs}
+use Rattle.dy_dots.proofs.Sizes.{allowed_readable}
+use Rattle.dy_dots.proofs.Readings.{not_dash, found_empty, refused_unread, refused_unfit, refused_other, found_runs, same_text, other_text}
+use Rattle.dy_dots.proofs.contexts.Context.read_text.Goals as goal
+
+pub returns-then-eq-clause-found : goal.returns-then-eq-clause-found
+returns-then-eq-clause-found c = found_empty c.args.text.now c.new.result c.new.ensures (sym c.eq.ensures ∙ c.if-eq.true)
+
+on_right : (A B C P : Type 0) → A ⊎ (B × C) → (C → P) → A ⊎ (B × P)
+on_right A B C P (inl a) f = inl a
+on_right A B C P (inr p) f = inr (p.0, f p.1)
+
+pub returns-in-Err-clause-refused : goal.returns-in-Err-clause-refused
+returns-in-Err-clause-refused c =
+    on_right _ _ _ _ c.in-Err.ensures.errors (λ none.
+    refused_unread c.args.text.now (not_dash _ (sym c.eq.ensures ∙ c.if-eq.false)) (ap read_runs (sym c.as_bytes.ensures.value) ∙ none))
+
+pub returns-then-not-are_allowed-clause-refused : goal.returns-then-not-are_allowed-clause-refused
+returns-then-not-are_allowed-clause-refused c =
+    inr (
+      refl,
+      refused_unfit c.args.text.now c.in-Ok.runs.items (not_dash _ (sym c.eq.ensures ∙ c.if-eq.false))
+          (ap read_runs (sym c.as_bytes.ensures.value) ∙ c.in-Ok.ensures.found)
+          (ap (all_allowed 0 0 100000) (sym c.as_slice.ensures.value) ∙ sym c.are_allowed.ensures ∙ c.if-not-are_allowed.true),
+    )
+
+pub returns-then-ne-clause-refused : goal.returns-then-ne-clause-refused
+returns-then-ne-clause-refused c =
+    inr (
+      refl,
+      refused_other c.args.text.now c.in-Ok.runs.items (not_dash _ (sym c.eq.ensures ∙ c.if-eq.false))
+          (ap read_runs (sym c.as_bytes.ensures.value) ∙ c.in-Ok.ensures.found)
+          (λ same. other_text c.as_str.result.now c.args.text.now c.ne.result c.ne.ensures c.if-ne.true
+          (c.as_str.ensures.value ∙ c.in_ok-again.ensures ∙ ap runs_text c.as_slice-2.ensures.value ∙ same)),
+    )
+
+pub invariant_of-result : goal.invariant_of-result
+invariant_of-result c =
+    (allowed_readable c.in-Ok.runs.items (ap (all_allowed 0 0 100000) (sym c.as_slice.ensures.value) ∙ sym c.are_allowed.ensures ∙ c.if-not-are_allowed.false)).0
+
+pub returns-clause-found : goal.returns-clause-found
+returns-clause-found c =
+    found_runs c.args.text.now c.in-Ok.runs.items (ap (all_allowed 0 0 100000) (sym c.as_slice.ensures.value) ∙ sym c.are_allowed.ensures ∙ c.if-not-are_allowed.false)
+    (sym (same_text c.as_str.result.now c.args.text.now c.ne.result c.ne.ensures c.if-ne.false)
+    ∙ c.as_str.ensures.value ∙ c.in_ok-again.ensures ∙ ap runs_text c.as_slice-2.ensures.value)

@@ -1,0 +1,66 @@
+ghost use Rattle.std.specs.Prelude.{◌≡◌, ◌≤◌, ◌↔◌, IsSome, IfSome};
+ghost use Rattle.dy_dots.specs.Dots.{DotNumbers, dot_code, IsDot};
+ghost use Rattle.dy_dots.specs.declared.dots.TheConstants.{MAX_COUNTER};
+
+use crate::nodes::NodeId;
+use std::fmt;
+use std::marker::Model;
+
+/// The greatest counter of a dot.
+pub const MAX_COUNTER: u32 = 1_000_000;
+
+/// The name of one version of a key: the node that made it, and which of that node's versions of
+/// the key it is, from 1 (Preguiça et al., dotted version vectors, section 4). Dots are ordered by
+/// node, then by counter.
+#[derive(Clone, Copy, Debug, PartialEq, Eq, PartialOrd, Ord)]
+pub struct Dot {
+    node: NodeId,
+    counter: u32,
+}
+
+impl Model for Dot {
+    ghost Value = { DotNumbers };
+
+    ghost coded = { dot_code };
+
+    ghost view = { λ dot. record { node = dot.node; counter = dot.counter } };
+
+    ghost invariant = { λ dot. IsDot (record { node = dot.node; counter = dot.counter }) };
+
+    ghost inverse = { λ dot. record { node = dot.node; counter = dot.counter } };
+}
+
+impl Dot {
+    /// The node's dot of this counter. Takes no memory.
+    pub fn new(node: NodeId, counter: u32) -> Option<Dot>
+        ensures valid { IsSome result ↔ ((1 ≤ counter) × (counter ≤ MAX_COUNTER)) }
+        ensures value { IfSome result (λ dot. dot ≡ record { node = node; counter = counter }) }
+    {
+        if 1 <= counter && counter <= MAX_COUNTER {
+            Some(Dot { node, counter })
+        } else {
+            None
+        }
+    }
+
+    /// The node that made the version. Takes no memory.
+    pub fn node(self) -> NodeId
+        ensures { result ≡ self.node }
+    {
+        self.node
+    }
+
+    /// Which of the node's versions of the key it is, from 1. Takes no memory.
+    pub fn counter(self) -> u32
+        ensures value { result ≡ self.counter }
+        ensures valid { IsDot self }
+    {
+        self.counter
+    }
+}
+
+impl fmt::Display for Dot {
+    fn fmt<W: fmt::Write>(&self, f: &mut fmt::Formatter<W>) -> fmt::Result {
+        write!(f, "n{}:{}", self.node, self.counter)
+    }
+}

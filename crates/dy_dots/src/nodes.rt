@@ -1,0 +1,62 @@
+ghost use Rattle.std.specs.Prelude.{◌≡◌, ℕ, ◌<◌, ◌↔◌, IsSome, IfSome};
+ghost use Rattle.dy_dots.specs.declared.nodes.TheConstants.{MAX_NODES};
+
+use std::fmt;
+use std::marker::Model;
+
+/// How many nodes a cluster has at most.
+pub const MAX_NODES: u8 = 32;
+
+/// The number of a node, from 0 to 31.
+#[derive(Clone, Copy, Debug, PartialEq, Eq, PartialOrd, Ord)]
+pub struct NodeId {
+    number: u8,
+}
+
+impl Model for NodeId {
+    ghost Value = { ℕ };
+
+    ghost view = { λ node. node.number };
+
+    ghost invariant = { λ node. node.number < MAX_NODES };
+
+    ghost inverse = { λ number. record { number = number } };
+}
+
+impl NodeId {
+    /// The node of this number, where there can be one. Takes no memory.
+    pub fn new(number: u8) -> Option<NodeId>
+        ensures valid { IsSome result ↔ (number < MAX_NODES) }
+        ensures value { IfSome result (λ node. node ≡ number) }
+    {
+        if number < MAX_NODES {
+            Some(NodeId { number })
+        } else {
+            None
+        }
+    }
+
+    /// The node at this place of a list of all nodes. Takes no memory.
+    pub fn nth(number: usize) -> NodeId
+        requires { number < MAX_NODES }
+        ensures { result ≡ number }
+    {
+        NodeId {
+            number: number as u8,
+        }
+    }
+
+    /// The node's number. Takes no memory.
+    pub fn number(self) -> u8
+        ensures value { result ≡ self }
+        ensures small { result < MAX_NODES }
+    {
+        self.number
+    }
+}
+
+impl fmt::Display for NodeId {
+    fn fmt<W: fmt::Write>(&self, f: &mut fmt::Formatter<W>) -> fmt::Result {
+        write!(f, "{}", self.number)
+    }
+}

@@ -1,0 +1,208 @@
+ghost use Rattle.std.specs.Prelude.{◌≡◌, ◌+◌, ◌<◌, ◌≤◌, ◌≢◌, ◌⊎◌, ◌||◌, ℕ, true, false, max, length, slice_index_or, IfOk, IfSome, IfNone, OnOk, OnErr, [], ◌∷◌};
+ghost use Rattle.dy_dots.specs.Dots.{DotSet};
+ghost use Rattle.dy_dots.specs.declared.dots.Dot.{Dot};
+ghost use Rattle.dy_dots.specs.Runs.{AreApart, StartsFrom, RiseFrom, in_run, in_runs};
+ghost use Rattle.dy_dots.specs.Kinds.{single, joined, covers_run, IsBelow, IsReached, IsNext, IsOutside, Added};
+ghost use Rattle.dy_dots.specs.Spelling.{run_to};
+
+use crate::dots::Dot;
+use crate::nodes::NodeId;
+use std::alloc::{AllocError, AllocFailed, Global};
+
+/// Dots of one node whose counters follow one another, from the first to the last.
+#[derive(Clone, Copy, Debug, PartialEq, Eq)]
+pub struct Run {
+    pub node: NodeId,
+    pub first: u32,
+    pub last: u32,
+}
+
+impl Run {
+    fn of(dot: &Dot) -> Run
+        ensures { result ≡ single dot.now }
+    {
+        Run {
+            node: dot.node(),
+            first: dot.counter(),
+            last: dot.counter(),
+        }
+    }
+
+    /// The run that ends at this counter, and has one dot where no first is given.
+    pub(crate) fn to(node: NodeId, first: Option<u32>, last: u32) -> Run
+        ensures { result ≡ run_to node first last }
+    {
+        Run {
+            node,
+            first: first.unwrap_or(last),
+            last,
+        }
+    }
+
+    fn holds(&self, dot: &Dot) -> bool
+        ensures { result ≡ in_run self.now dot.now }
+    {
+        self.node == dot.node() && self.first <= dot.counter() && dot.counter() <= self.last
+    }
+
+    /// The run with what the other adds at its end.
+    fn joined(&self, other: &Run) -> Run
+        ensures { result ≡ joined self.now other.now }
+    {
+        Run {
+            node: self.node,
+            first: self.first,
+            last: self.last.max(other.last),
+        }
+    }
+
+    /// Whether it has each dot of the other.
+    fn covers(&self, other: &Run) -> bool
+        ensures { result ≡ covers_run self.now other.now }
+    {
+        self.node == other.node && self.first <= other.first && other.last <= self.last
+    }
+
+    /// Whether the other run comes later, with a counter missing between the two.
+    fn is_below(&self, other: &Run) -> bool
+        ensures yes { result ≡ true → IsBelow self.now other.now }
+        ensures no { result ≡ false → IsReached self.now other.now }
+    {
+        self.node < other.node
+            || self.node == other.node && self.last < other.first && other.first - self.last > 1
+    }
+
+    /// Whether it starts where the other does, or before.
+    fn starts_by(&self, other: &Run) -> bool
+        ensures yes { result ≡ true → StartsFrom self.now.node self.now.first other.now }
+        ensures no { result ≡ false → StartsFrom other.now.node other.now.first self.now }
+    {
+        self.node < other.node || self.node == other.node && self.first <= other.first
+    }
+}
+
+/// How many runs come before the dot's place, all of them with a counter missing in between.
+fn place_of(runs: &[Run], dot: &Run) -> usize
+    requires { AreApart runs.now }
+    ensures within { result ≤ length runs.now }
+    ensures below { (k : ℕ) → k < result → IsBelow (slice_index_or runs.now k dot.now) dot.now }
+    ensures reached { result < length runs.now → IsReached (slice_index_or runs.now result dot.now) dot.now }
+{
+    let mut low = 0;
+    let mut high = runs.len();
+    while low < high {
+        let middle = low + (high - low) / 2;
+        if runs[middle].is_below(dot) {
+            low = middle + 1;
+        } else {
+            high = middle;
+        }
+    }
+    low
+}
+
+/// Whether the dot is one of the runs'.
+pub(crate) fn holds(runs: &[Run], dot: &Dot) -> bool
+    requires { AreApart runs.now }
+    ensures { result ≡ in_runs runs.now dot.now }
+{
+    let place = place_of(runs, &Run::of(dot));
+    place < runs.len() && runs[place].holds(dot)
+}
+
+/// Whether each dot of the run is one of the runs'.
+pub(crate) fn cover(runs: &[Run], run: &Run) -> bool
+    requires apart { AreApart runs.now }
+    requires some { run.now.first ≤ run.now.last }
+    ensures yes { result ≡ true → (d : Dot) → in_run run.now d ≡ true → in_runs runs.now d ≡ true }
+    ensures no { result ≡ false → IsOutside runs.now run.now }
+{
+    let first = Run::to(run.node, None, run.first);
+    let place = place_of(runs, &first);
+    place < runs.len() && runs[place].covers(run)
+}
+
+/// Adds the dot.
+pub(crate) fn add(runs: &mut Vec<Run>, dot: &Dot) -> Result<(), AllocFailed<Run>>
+    requires { AreApart runs.old.items }
+    ensures ok { OnOk result (Added runs.old.items (single dot.now) runs.new.items) }
+    ensures err { OnErr result (runs.new.items ≡ runs.old.items) }
+{
+    let alone = Run::of(dot);
+    let place = place_of(runs.as_slice(), &alone);
+    if place == runs.len() {
+        runs.push(alone)?;
+        return Ok(());
+    }
+    let run = runs[place];
+    if alone.is_below(&run) {
+        runs.insert(place, alone)?;
+        return Ok(());
+    }
+    if alone.first < run.first {
+        runs[place] = alone.joined(&run);
+        return Ok(());
+    }
+    if alone.last <= run.last {
+        return Ok(());
+    }
+    let longer = run.joined(&alone);
+    let next = place + 1;
+    if next == runs.len() {
+        runs[place] = longer;
+        return Ok(());
+    }
+    let after = runs[next];
+    if longer.is_below(&after) {
+        runs[place] = longer;
+        return Ok(());
+    }
+    runs.remove(next);
+    runs[place] = longer.joined(&after);
+    Ok(())
+}
+
+/// The one that starts first of the first runs of two lists, and what is left of both.
+fn split_next<'a>(a: &'a [Run], b: &'a [Run]) -> Option<(Run, &'a [Run], &'a [Run])>
+    ensures some { IfSome result (λ p. IsNext a.now b.now p.0 p.1.now p.2.now) }
+    ensures none { IfNone result ((a.now ≡ []) × (b.now ≡ [])) }
+{
+    match (a.split_first(), b.split_first()) {
+        (None, None) => None,
+        (Some((run, rest)), None) => Some((*run, rest, b)),
+        (None, Some((run, rest))) => Some((*run, a, rest)),
+        (Some((run, rest)), Some((other, others))) => {
+            if run.starts_by(other) {
+                Some((*run, rest, b))
+            } else {
+                Some((*other, a, others))
+            }
+        }
+    }
+}
+
+/// The runs of the dots of both lists.
+pub(crate) fn union_of(alloc: Global, a: &[Run], b: &[Run]) -> Result<Vec<Run>, AllocError>
+    requires a_apart { AreApart a.now }
+    requires b_apart { AreApart b.now }
+    ensures apart { IfOk result (λ runs. AreApart runs.items) }
+    ensures members { IfOk result (λ runs. (d : Dot) → in_runs runs.items d ≡ (in_runs a.now d || in_runs b.now d)) }
+{
+    let mut runs = Vec::new(alloc);
+    let Some((first, mut left, mut right)) = split_next(a, b) else {
+        return Ok(runs);
+    };
+    let mut run = first;
+    while let Some((next, left_rest, right_rest)) = split_next(left, right) {
+        left = left_rest;
+        right = right_rest;
+        if run.is_below(&next) {
+            runs.push(run)?;
+            run = next;
+        } else {
+            run = run.joined(&next);
+        }
+    }
+    runs.push(run)?;
+    Ok(runs)
+}

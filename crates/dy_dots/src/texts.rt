@@ -1,0 +1,116 @@
+ghost use Rattle.std.specs.Prelude.{◌≡◌, ◌⊎◌, ◌++◌, Some, None, OnOk, IfOk, IfErr, string_bytes};
+ghost use Rattle.dy_dots.specs.Spelling.{all_allowed, allowed, read_runs, run_text, runs_text};
+
+use crate::dots::MAX_COUNTER;
+use crate::faults::Fault;
+use crate::nodes::{MAX_NODES, NodeId};
+use crate::runs::Run;
+use std::alloc::{AllocError, Global};
+
+/// How many dots a text names at most.
+pub const MAX_CONTEXT_DOTS: u32 = 100_000;
+
+fn push_run(text: &mut String, run: Run) -> Result<(), AllocError>
+    ensures { OnOk result (string_bytes text.new ≡ string_bytes text.old ++ run_text run) }
+{
+    if run.first == run.last {
+        write!(text, "{}", run.first)
+    } else {
+        write!(text, "{}-{}", run.first, run.last)
+    }
+}
+
+/// The text of runs that rise.
+pub(crate) fn text_of(alloc: Global, runs: &[Run]) -> Result<String, AllocError>
+    ensures { IfOk result (λ text. string_bytes text ≡ runs_text runs.now) }
+{
+    let mut text = String::new(alloc);
+    let Some((first, rest)) = runs.split_first() else {
+        text.push_str("-")?;
+        return Ok(text);
+    };
+    let mut node = first.node;
+    write!(text, "n{}:", node.number())?;
+    push_run(&mut text, *first)?;
+    for run in rest {
+        if run.node == node {
+            text.push_str(",")?;
+        } else {
+            node = run.node;
+            write!(text, " n{}:", node.number())?;
+        }
+        push_run(&mut text, *run)?;
+    }
+    Ok(text)
+}
+
+/// The runs that the bytes name, perhaps by other words than their own text.
+pub(crate) fn runs_in(alloc: Global, bytes: &[u8]) -> Result<Vec<Run>, Fault>
+    ensures found { IfOk result (λ runs. read_runs bytes.now ≡ Some runs.items) }
+    ensures errors { IfErr result (λ fault. (fault ≡ Fault.OutOfMemory) ⊎ ((fault ≡ Fault.ContextSyntax) × (read_runs bytes.now ≡ None))) }
+{
+    let mut runs = Vec::new(alloc);
+    let mut node = NodeId::nth(0);
+    let mut first = None;
+    let mut number = 0;
+    for byte in bytes {
+        match *byte {
+            b'0'..=b'9' => {
+                if number > MAX_COUNTER {
+                    return Err(Fault::ContextSyntax);
+                }
+                number = number * 10 + u32::from(*byte - b'0');
+            }
+            b':' => {
+                if number >= u32::from(MAX_NODES) {
+                    return Err(Fault::ContextSyntax);
+                }
+                node = NodeId::nth(number as usize);
+                first = None;
+                number = 0;
+            }
+            b'-' => {
+                first = Some(number);
+                number = 0;
+            }
+            b',' | b' ' => {
+                runs.push(Run::to(node, first, number))?;
+                first = None;
+                number = 0;
+            }
+            _ => {}
+        }
+    }
+    runs.push(Run::to(node, first, number))?;
+    Ok(runs)
+}
+
+/// Whether the runs are apart and rise, in range, with at most as many dots as a text may name.
+pub(crate) fn are_allowed(runs: &[Run]) -> bool
+    ensures { result ≡ all_allowed 0 0 100000 runs.now }
+{
+    let mut node = 0;
+    let mut least = 0;
+    let mut room = MAX_CONTEXT_DOTS;
+    for run in runs {
+        if !is_allowed(run, node, least, room) {
+            return false;
+        }
+        node = run.node.number();
+        least = run.last + 2;
+        room -= run.last - run.first + 1;
+    }
+    true
+}
+
+fn is_allowed(run: &Run, node: u8, least: u32, room: u32) -> bool
+    ensures { result ≡ allowed node least room run.now }
+{
+    let own = run.node.number();
+    own < MAX_NODES
+        && (node < own || node == own && least <= run.first)
+        && 1 <= run.first
+        && run.first <= run.last
+        && run.last <= MAX_COUNTER
+        && run.last - run.first < room
+}

@@ -1,0 +1,58 @@
+ghost use Rattle.std.specs.Prelude.{◌≡◌, ◌≤◌, take, length};
+ghost use Rattle.dy_preference.specs.Preferences.{may_hold};
+
+use dy_dots::NodeId;
+use std::marker::Model;
+
+/// All nodes of a ring in the order in which a key prefers them; the first n are its homes (Dynamo,
+/// section 4.3).
+#[derive(Debug, Drop)]
+pub struct Preference {
+    nodes: Vec<NodeId>,
+    n: usize,
+}
+
+impl Model for Preference {
+    ghost use Rattle.std.specs.Prelude.{◌≤◌, length};
+    ghost use Rattle.dy_preference.specs.Preferences.{Preferred, preferred_code};
+
+    ghost Value = { Preferred };
+
+    ghost coded = { preferred_code };
+
+    ghost view = { λ list. record { nodes = list.nodes.items; n = list.n } };
+
+    ghost invariant = { λ list. list.n ≤ length list.nodes.items };
+}
+
+impl Preference {
+    /// The list of these nodes, of which the first n are homes. Takes no memory.
+    pub(crate) fn of(nodes: Vec<NodeId>, n: usize) -> Preference
+        requires { n ≤ length nodes.items }
+        ensures { result ≡ record { nodes = nodes.items; n = n } }
+    {
+        Preference { nodes, n }
+    }
+
+    /// All nodes, the nearest first. Takes no memory.
+    pub fn nodes(&self) -> &[NodeId]
+        ensures { result.now ≡ self.now.nodes }
+    {
+        self.nodes.as_slice()
+    }
+
+    /// The homes of the key, the nearest first. Takes no memory.
+    pub fn homes(&self) -> &[NodeId]
+        ensures { result.now ≡ take self.now.n self.now.nodes }
+    {
+        &self.nodes.as_slice()[..self.n]
+    }
+
+    /// Whether the holder may hold the key for the home. Takes no memory.
+    pub fn may_hold(&self, holder: NodeId, home: NodeId) -> bool
+        ensures { result ≡ may_hold (take self.now.n self.now.nodes) holder home }
+    {
+        let homes = self.homes();
+        homes.contains(&home) && (holder == home || !homes.contains(&holder))
+    }
+}

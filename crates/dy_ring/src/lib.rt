@@ -1,0 +1,6 @@
+//! The fixed ring of tokens, and the positions of keys on it.
+#![tactic(auto)]
+
+mod rings;
+
+pub use rings::{MAX_TOKENS_PER_NODE, Ring};

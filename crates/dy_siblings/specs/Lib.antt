@@ -1,0 +1,3 @@
+pub mod Siblings
+pub mod Sizes
+pub mod Versions

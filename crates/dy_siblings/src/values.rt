@@ -1,0 +1,53 @@
+ghost use Rattle.std.specs.Prelude.{◌≡◌, ◌<◌, ◌⊎◌, ◌↔◌, ℕ, List, length, IfOk, IfErr, IsErrOf, IsOkUnless};
+ghost use Rattle.dy_siblings.specs.Sizes.{IsValue};
+
+use dy_dots::Fault;
+use std::alloc::Global;
+use std::marker::Model;
+
+/// What a version stores: up to 4,096 bytes.
+#[derive(Debug, Drop)]
+pub struct Value {
+    bytes: Vec<u8>,
+}
+
+impl Model for Value {
+    ghost Value = { List ℕ };
+
+    ghost view = { λ value. value.bytes.items };
+
+    ghost invariant = { λ value. IsValue value.bytes.items };
+}
+
+impl Value {
+    pub const MAX_BYTES: usize = 4_096;
+
+    pub fn new(alloc: Global, bytes: &[u8]) -> Result<Value, Fault>
+        ensures size { IsErrOf result Fault.ValueSize ↔ (4096 < length bytes.now) }
+        ensures value { IfOk result (λ value. value ≡ bytes.now) }
+        ensures errors { IfErr result (λ fault. (fault ≡ Fault.ValueSize) ⊎ (fault ≡ Fault.OutOfMemory)) }
+    {
+        if bytes.len() > Self::MAX_BYTES {
+            return Err(Fault::ValueSize);
+        }
+        Ok(Value {
+            bytes: Vec::from_slice(alloc, bytes)?,
+        })
+    }
+
+    pub fn as_bytes(&self) -> &[u8]
+        ensures value { result.now ≡ self.now }
+        ensures size { IsValue self.now }
+    {
+        self.bytes.as_slice()
+    }
+
+    pub fn try_clone(&self, alloc: Global) -> Result<Value, Fault>
+        ensures value { IfOk result (λ value. value ≡ self.now) }
+        ensures memory { IsOkUnless result Fault.OutOfMemory }
+    {
+        Ok(Value {
+            bytes: Vec::from_slice(alloc, self.bytes.as_slice())?,
+        })
+    }
+}
