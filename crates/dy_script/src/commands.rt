@@ -1,0 +1,40 @@
+/// What a node does with the asks that reach it.
+#[derive(Clone, Copy, Debug, PartialEq, Eq)]
+pub enum Mode {
+    /// Does them, and answers.
+    None,
+    /// Does them, and answers nothing.
+    Mute,
+    /// Does them, and answers nothing at first; the answer comes later.
+    Late,
+    /// Does each three times, and gives the last answer.
+    Repeat,
+    /// Keeps stores for later, does no fetch, and answers nothing.
+    Delay,
+}
+
+/// What a put and a delete say beside the value.
+#[derive(Debug, Drop)]
+pub struct Write {
+    pub key: String,
+    /// The text of the context, where one is given.
+    pub context: Option<String>,
+    pub session: u8,
+    /// How many homes must have it, where the script's own number is not to hold.
+    pub w: Option<u8>,
+}
+
+/// One command of a script. Sizes of keys and values and the syntax of contexts are judged when the
+/// command runs.
+#[derive(Debug, Drop)]
+pub enum Command {
+    Put { write: Write, value: Vec<u8> },
+    Delete { write: Write },
+    Get { key: String, session: u8 },
+    Down { node: usize },
+    Up { node: usize },
+    Fault { node: usize, mode: Mode },
+    Deliver { node: usize },
+    Handoff { node: usize },
+    Show { node: usize, key: String },
+}
