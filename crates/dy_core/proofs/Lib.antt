@@ -1,0 +1,13 @@
+pub mod Members
+pub mod Tests
+pub mod Ordered
+pub mod Places
+pub mod Kept
+pub mod Receipts
+pub mod OverLogs
+pub mod Counters
+pub mod Pigeons
+pub mod SettledGets
+pub mod RingValues
+pub mod LogValues
+pub mod Merging

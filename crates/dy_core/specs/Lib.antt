@@ -1,0 +1,4 @@
+pub mod Worlds
+pub mod Covers
+pub mod Steps
+pub mod Logs

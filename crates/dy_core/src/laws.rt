@@ -1,0 +1,107 @@
+//! The laws of every legal log. Each is a function that does nothing, and its contract is the law.
+ghost use Rattle.std.specs.Prelude.{◌≡◌, ℕ, ◌+◌, ◌<◌, ◌≤◌, ◌↔◌, ◌&&◌, IsTrue, List, ◌++◌, take, length, map, nat_eq};
+ghost use Rattle.std.specs.List.{All, Contains, IsDistinct, filter};
+ghost use Rattle.std.specs.FinSet as set;
+ghost use Rattle.dy_dots.specs.Dots.{same_dot};
+ghost use Rattle.dy_dots.specs.declared.dots.Dot.{Dot};
+ghost use Rattle.dy_siblings.specs.Siblings.{IsSameRow, same_key, covers, newest, merge};
+ghost use Rattle.dy_siblings.specs.declared.versions.Version.{Version};
+ghost use Rattle.dy_ring.specs.Rings.{Tokens};
+ghost use Rattle.dy_preference.specs.Preferences.{homes_of, may_hold};
+ghost use Rattle.dy_core.specs.Worlds.{Layout, layout_of, IsSettled, AreMadeOf, is_issued};
+ghost use Rattle.dy_core.specs.Covers.{CoversAt, HasCover, AcksAreCovered, ReceiptHolds};
+ghost use Rattle.dy_core.specs.Steps.{IsAllowed, world_after_step, IsReleaseAt};
+ghost use Rattle.dy_core.specs.Logs.{Known, world_after, IsLegal, Answer, MatchesLog, AreOfHomes, rows_of};
+ghost use Rattle.dy_core.specs.declared.steps.Step.{Step};
+
+/// Each dot in a version's past is of a version of the same key, whose history lies in that past.
+pub fn pasts_are_closed()
+    ensures { (layout : Layout) (steps : List Step) → IsLegal layout steps →
+        (v : Version) → Contains (world_after steps).versions v →
+        (d : Dot) → IsTrue (set.contains v.past d) → Known (world_after steps).versions v d }
+{}
+
+/// The dots that a node made for a key have the counters from 1 to the last, each once.
+pub fn counters_have_no_gaps()
+    ensures used { (layout : Layout) (steps : List Step) → IsLegal layout steps →
+        (node : ℕ) (key : List ℕ) (counter : ℕ) →
+        IsTrue (is_issued (world_after steps).versions key (record { node = node; counter = counter }))
+        ↔ (1 ≤ counter) × (counter ≤ (world_after steps).counters node key) }
+    ensures once { (layout : Layout) (steps : List Step) → IsLegal layout steps →
+        (key : List ℕ) (d : Dot) →
+        length (filter (λ v. same_key v.key key && same_dot v.dot d) (world_after steps).versions) ≤ 1 }
+{}
+
+/// Who holds may hold, and what is held was made.
+pub fn holdings_are_placed()
+    ensures may_hold { (layout : Layout) (steps : List Step) → IsLegal layout steps →
+        (holder home : ℕ) (key : List ℕ) (d : Dot) →
+        IsTrue ((world_after steps).holdings holder home key d) →
+        IsTrue (may_hold (layout.homes key) holder home) }
+    ensures issued { (layout : Layout) (steps : List Step) → IsLegal layout steps →
+        (holder home : ℕ) (key : List ℕ) (d : Dot) →
+        IsTrue ((world_after steps).holdings holder home key d) →
+        IsTrue (is_issued (world_after steps).versions key d) }
+{}
+
+/// A place covers a dot until a release at that place, and a home that holds for itself forever.
+pub fn covers_last()
+    ensures place { (layout : Layout) (steps : List Step) → IsLegal layout steps →
+        (step : Step) → IsAllowed layout (world_after steps) step →
+        (key : List ℕ) (d : Dot) (home holder : ℕ) →
+        CoversAt (world_after steps) key d home holder → (IsReleaseAt holder home key step → ⊥) →
+        CoversAt (world_after_step (world_after steps) step) key d home holder }
+    ensures own { (layout : Layout) (steps more : List Step) → IsLegal layout (steps ++ more) →
+        (key : List ℕ) (d : Dot) (home : ℕ) → CoversAt (world_after steps) key d home home →
+        CoversAt (world_after (steps ++ more)) key d home home }
+{}
+
+/// A receipt that holds keeps holding.
+pub fn receipts_last()
+    ensures { (layout : Layout) (steps more : List Step) → IsLegal layout (steps ++ more) →
+        (key : List ℕ) (d : Dot) (home holder : ℕ) →
+        ReceiptHolds (world_after steps) key d home holder →
+        ReceiptHolds (world_after (steps ++ more)) key d home holder }
+{}
+
+/// Receipts of one key and dot that hold, with distinct homes and distinct holders, make a cover of
+/// as many places.
+pub fn receipts_make_a_cover()
+    ensures { (layout : Layout) (steps : List Step) → IsLegal layout steps →
+        (key : List ℕ) (d : Dot) (receipts : List (ℕ × ℕ)) →
+        All (λ p. ReceiptHolds (world_after steps) key d p.0 p.1) receipts →
+        IsDistinct nat_eq (map (λ p. p.0) receipts) → IsDistinct nat_eq (map (λ p. p.1) receipts) →
+        HasCover (world_after steps) key d (length receipts) }
+{}
+
+/// Each ack keeps its cover, whatever steps come.
+pub fn acks_stay_covered()
+    ensures { (layout : Layout) (steps : List Step) → IsLegal layout steps →
+        AcksAreCovered (world_after steps) }
+{}
+
+/// Once a key is settled and a put of it was told of w homes, each later get of r homes themselves,
+/// where r and w are together more than the homes of the key, answers that put's version or one
+/// that follows it.
+pub fn settled_gets_cover_acks()
+    ensures { (ring : Tokens) (n : ℕ) (steps : List Step) → IsLegal (layout_of ring n) steps →
+        (key : List ℕ) (since : ℕ) → IsSettled (world_after (take since steps)) key →
+        (d : Dot) (w : ℕ) →
+        Contains (world_after (take since steps)).acks (record { key = key; dot = d; w = w }) →
+        (r : ℕ) (answers : List Answer) → MatchesLog steps key r since answers →
+        AreOfHomes (homes_of ring n key) answers → n < r + w →
+        IsTrue (covers (newest (rows_of answers)) d) }
+{}
+
+/// Rows merged one after another are the rows merged at once, and it is all one in which order
+/// three rows are merged by twos.
+pub fn rows_merge_in_any_order()
+    ensures at_once { (layout : Layout) (steps : List Step) → IsLegal layout steps →
+        (key : List ℕ) (xs ys : List Version) →
+        AreMadeOf (world_after steps) key xs → AreMadeOf (world_after steps) key ys →
+        IsSameRow (merge (newest xs) ys) (newest (xs ++ ys)) }
+    ensures associative { (layout : Layout) (steps : List Step) → IsLegal layout steps →
+        (key : List ℕ) (xs ys zs : List Version) → AreMadeOf (world_after steps) key xs →
+        AreMadeOf (world_after steps) key ys → AreMadeOf (world_after steps) key zs →
+        IsSameRow (merge (merge xs ys) zs) (merge xs (merge ys zs)) }
+{}
