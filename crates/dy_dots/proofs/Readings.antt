@@ -1,16 +1,17 @@
 -- Every text of runs is read.
-use Rattle.std.proofs.Common.{◌≡◌, ℕ, zero, suc, ◌+◌, ◌-◌, ◌*◌, ◌/◌, ◌%◌, ◌^◌, ◌<◌, ◌≤◌, ◌==◌, Bool, true, false, not, cond, ◌&&◌, ◌||◌, List, [], ◌∷◌, ◌++◌, refl, sym, ap, ◌∙◌, arith, nat_lt, nat_le, nat_eq, subst, Option, Some, None, codes, decimal, append_assoc, if◌then◌else◌}
+use Rattle.std.proofs.Common.{◌≡◌, ℕ, zero, suc, ◌+◌, ◌-◌, ◌*◌, ◌/◌, ◌%◌, ◌^◌, ◌<◌, ◌≤◌, ◌==◌, Bool, true, false, not, cond, ◌&&◌, ◌||◌, List, [], ◌∷◌, ◌++◌, refl, sym, ap, ◌∙◌, arith, nat_lt, nat_le, nat_eq, subst, Option, Some, None, codes, decimal, append_assoc, if◌then◌else◌, Result, Ok, Err, IfOk, IfErr, inl, inr, ◌⊎◌}
 use Rattle.std.proofs.lemmas.Bool.{not-true, not-false, eqb-true, lt-ltb, le-leb, le-ltb, lt-leb, eq-eqb}
 use Rattle.std.proofs.lemmas.Fmt.{decimal_by_steps}
 use Rattle.std.specs.FinSet as set
 use Rattle.std.specs.Cmp.Lexicographic.{pointwise, bytes_decides}
 use Rattle.dy_dots.specs.Dots.{DotSet}
-use Rattle.dy_dots.specs.Runs.{AreRunsOf, set_of}
-use Rattle.dy_dots.specs.Spelling.{run_to, read_from, read_runs, run_text, later_text, runs_text, Spells, IsReadable, all_allowed}
-use Rattle.dy_dots.specs.declared.dots.Dot.{Dot}
+use Rattle.dy_dots.specs.Runs.{AreKept, AreRunsOf, set_of}
+use Rattle.dy_dots.specs.Spelling.{run_to, read_from, read_runs, run_text, later_text, runs_text, Spells, IsReadable, IsFound, IsRefused, all_allowed}
+use Rattle.dy_dots.specs.declared.faults.Fault.{Fault}
+use Rattle.dy_dots.specs.declared.faults.Fault.TheVariants.{OutOfMemory, ContextSyntax}
 use Rattle.dy_dots.specs.declared.runs.Run.{Run}
-use Rattle.dy_dots.proofs.Sets.{set_of_is}
-use Rattle.dy_dots.proofs.Sizes.{IsSmall, AreSmall, readable_runs, own_runs, allowed_readable}
+use Rattle.dy_dots.proofs.Sets.{set_of_is, runs_are}
+use Rattle.dy_dots.proofs.Sizes.{IsSmall, AreSmall, smalls_of, readable_runs, own_runs, allowed_kept, allowed_readable, kept_dots}
 
 digit_step : (rs : List Run) (node : ℕ) (first : Option ℕ) (number b : ℕ) (bs : List ℕ) → 48 ≤ b → b ≤ 57 → number ≤ 1000000 → read_from rs node first number (b ∷ bs) ≡ read_from rs node first (number * 10 + (b - 48)) bs
 digit_step rs node first number b bs low high fits = rw (le-leb 48 b low, le-leb b 57 high, le-leb number 1000000 fits) refl
@@ -109,17 +110,20 @@ reads_back bytes s other spells fit = go spells.runs spells.are_runs spells.byte
   where
     go : (rs : List Run) → AreRunsOf rs s → bytes ≡ runs_text rs → ReadsBack bytes
     go [] are e = absurd (other e)
-    go (r ∷ rest) are e =
-        let facts = readable_runs (r ∷ rest) s are fit in
-        record { runs = r ∷ rest; read = ap read_runs e ∙ text_reads r rest facts.1; allowed = facts.0; bytes_are = e }
+    go (r ∷ rest) are e = record {
+      runs = r ∷ rest;
+      read = ap read_runs e ∙ text_reads r rest (smalls_of (r ∷ rest) s are spells.are_dots);
+      allowed = readable_runs (r ∷ rest) s are spells.are_dots fit;
+      bytes_are = e;
+    }
 
 pub not_dash : (bytes : List ℕ) → pointwise nat_eq bytes (45 ∷ []) ≡ false → bytes ≡ codes "-" → ⊥
 not_dash bytes no_match e = no_true (sym no_match ∙ ap (λ l. pointwise nat_eq l (45 ∷ [])) e)
 
 pub found_runs : (bytes : List ℕ) (rs : List Run) → all_allowed 0 0 100000 rs ≡ true → bytes ≡ runs_text rs → Spells bytes (set_of rs) × IsReadable (set_of rs)
 found_runs bytes rs e is =
-    let facts = allowed_readable rs e in
-    (record { runs = rs; are_runs = own_runs rs facts.0; bytes_are = is }, facts.1)
+    let kept = allowed_kept rs e in
+    (record { runs = rs; are_runs = own_runs rs kept.apart; are_dots = kept_dots rs _ kept refl; bytes_are = is }, allowed_readable rs e)
 
 pub same_text : (a b : List ℕ) (r : Bool) → r ≡ not (pointwise nat_eq a b) → r ≡ false → a ≡ b
 same_text a b r is e = (bytes_decides a b).0 (not-false _ (sym is ∙ e))
@@ -157,18 +161,24 @@ refused_other bytes rs other read differs s spells fit =
     let same = some_same rs back.runs (sym read ∙ back.read) in
     differs (ap runs_text same ∙ sym back.bytes_are)
 
-pub written : (rs : List Run) (s : DotSet) (bytes : List ℕ) → AreRunsOf rs s → bytes ≡ runs_text rs → Spells bytes s
-written rs s bytes are is = record { runs = rs; are_runs = are; bytes_are = is }
+pub written : (rs : List Run) (s : DotSet) (bytes : List ℕ) → AreKept rs → set_of rs ≡ s → bytes ≡ runs_text rs → Spells bytes s
+written rs s bytes kept is_set is = record { runs = rs; are_runs = runs_are rs rs s kept.apart is_set refl; are_dots = kept_dots rs s kept is_set; bytes_are = is }
 
 no_head : (tail : List ℕ) → 45 ∷ [] ≡ 110 ∷ tail → ⊥
 no_head tail e = cc
 
-pub one_set : (bytes : List ℕ) (s t : DotSet) → Spells bytes s → Spells bytes t → IsReadable s → IsReadable t → s ≡ t
-one_set bytes s t p q fit_s fit_t = sym (set_of_is p.runs s p.are_runs.members) ∙ ap set_of (go p.runs q.runs p.are_runs q.are_runs (sym p.bytes_are ∙ q.bytes_are)) ∙ set_of_is q.runs t q.are_runs.members
+pub one_set : (bytes : List ℕ) (s t : DotSet) → Spells bytes s → Spells bytes t → s ≡ t
+one_set bytes s t p q = sym (set_of_is p.runs s p.are_runs.members) ∙ ap set_of (go p.runs q.runs p.are_runs q.are_runs (sym p.bytes_are ∙ q.bytes_are)) ∙ set_of_is q.runs t q.are_runs.members
   where
     go : (xs ys : List Run) → AreRunsOf xs s → AreRunsOf ys t → runs_text xs ≡ runs_text ys → xs ≡ ys
     go [] [] x y e = refl
     go [] (b ∷ ys) x y e = absurd (no_head _ e)
     go (a ∷ xs) [] x y e = absurd (no_head _ (sym e))
     go (a ∷ xs) (b ∷ ys) x y e =
-        some_same (a ∷ xs) (b ∷ ys) (sym (text_reads a xs (readable_runs (a ∷ xs) s x fit_s).1) ∙ ap read_runs e ∙ text_reads b ys (readable_runs (b ∷ ys) t y fit_t).1)
+        some_same (a ∷ xs) (b ∷ ys) (sym (text_reads a xs (smalls_of (a ∷ xs) s x p.are_dots)) ∙ ap read_runs e ∙ text_reads b ys (smalls_of (b ∷ ys) t y q.are_dots))
+
+-- what spells a set is read as that set, memory aside
+pub read_as : (bytes : List ℕ) (s : DotSet) (answer : Result DotSet Fault) → Spells bytes s → IsReadable s → IfOk answer (IsFound bytes) → IfErr answer (IsRefused bytes) → (answer ≡ Ok s) ⊎ (answer ≡ Err OutOfMemory)
+read_as bytes s (Ok t) spells few found refused = inl (ap Ok (one_set bytes t s found.0 spells))
+read_as bytes s (Err fault) spells few found (inl e) = inr (ap Err e)
+read_as bytes s (Err fault) spells few found (inr p) = absurd (p.1 s spells few)

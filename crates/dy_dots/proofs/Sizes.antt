@@ -3,8 +3,8 @@ use Rattle.std.proofs.Common.{◌≡◌, ℕ, zero, suc, ◌+◌, ◌-◌, ◌<�
 use Rattle.std.proofs.lemmas.Bool.{ltb-true, leb-true, eqb-true, lt-ltb, le-leb, eq-eqb, true≢false}
 use Rattle.std.proofs.lemmas.Bool.Decides.{nat_tests}
 use Rattle.std.specs.FinSet as set
-use Rattle.dy_dots.specs.Dots.{DotSet}
-use Rattle.dy_dots.specs.Runs.{in_run, in_runs, StartsFrom, RiseFrom, AreApart, AreRunsOf, with_counters, set_of}
+use Rattle.dy_dots.specs.Dots.{DotSet, IsDot, AreDots}
+use Rattle.dy_dots.specs.Runs.{in_run, in_runs, StartsFrom, RiseFrom, AreApart, AreKept, AreRunsOf, with_counters, set_of}
 use Rattle.dy_dots.specs.Spelling.{allowed, all_allowed, IsReadable}
 use Rattle.dy_dots.specs.declared.dots.Dot.{Dot}
 use Rattle.dy_dots.specs.declared.runs.Run.{Run}
@@ -98,10 +98,7 @@ gives_allowed n c room (r ∷ rs) rise smalls few =
     (and_both _ _ (lt-ltb _ _ smalls.0.0) (and_both _ _ (from_starts n c r rise.0) (and_both _ _ (le-leb _ _ smalls.0.1) (and_both _ _ (le-leb _ _ smalls.0.2) (and_both _ _ (le-leb _ _ smalls.0.3) (lt-ltb _ _ (omega (arith, smalls.0.2, few))))))))
     (gives_allowed r.node (r.last + 2) (room - (r.last - r.first + 1)) rs rise.2 smalls.1 (omega (arith, smalls.0.2, few)))
 
-abbrev InRange : Dot → Type 0
-InRange d = (d.node < 32) × (1 ≤ d.counter) × (d.counter ≤ 1000000)
-
-in_small : (r : Run) (d : Dot) → IsSmall r → in_run r d ≡ true → InRange d
+in_small : (r : Run) (d : Dot) → IsSmall r → in_run r d ≡ true → IsDot d
 in_small r d s e =
     let same : r.node ≡ d.node = eqb-true _ _ (and_left _ _ e) in
     let rest = and_right (r.node == d.node) _ e in
@@ -109,7 +106,7 @@ in_small r d s e =
     let high : d.counter ≤ r.last = leb-true _ _ (and_right (nat_le r.first d.counter) _ rest) in
     (omega (arith, s.0), omega (arith, s.1), omega (arith, s.3))
 
-in_range : (rs : List Run) (d : Dot) → AreSmall rs → in_runs rs d ≡ true → InRange d
+in_range : (rs : List Run) (d : Dot) → AreSmall rs → in_runs rs d ≡ true → IsDot d
 in_range [] d s e = cc
 in_range (r ∷ rs) d s e = or_either (in_run r d) (in_runs rs d) _ e (in_small r d s.0) (in_range rs d s.1)
 
@@ -119,26 +116,37 @@ at_first r v = grind (arith, nat_tests)
 at_last : (r : Run) → r.first ≤ r.last → in_run r (record { node = r.node; counter = r.last }) ≡ true
 at_last r v = grind (arith, nat_tests)
 
-smalls_from : (n c : ℕ) (rs : List Run) → RiseFrom n c rs → ((d : Dot) → in_runs rs d ≡ true → InRange d) → AreSmall rs
+smalls_from : (n c : ℕ) (rs : List Run) → RiseFrom n c rs → ((d : Dot) → in_runs rs d ≡ true → IsDot d) → AreSmall rs
 smalls_from n c [] rise each = tt
 smalls_from n c (r ∷ rs) rise each =
     let first = each (record { node = r.node; counter = r.first }) (or_left _ _ (at_first r rise.1)) in
     let last = each (record { node = r.node; counter = r.last }) (or_left _ _ (at_last r rise.1)) in
     ((first.0, first.1, rise.1, last.2), smalls_from r.node (r.last + 2) rs rise.2 (λ d e. each d (or_right (in_run r d) _ e)))
 
--- the runs of a set that a text may name are allowed
-pub readable_runs : (rs : List Run) (s : DotSet) → AreRunsOf rs s → IsReadable s → (all_allowed 0 0 100000 rs ≡ true) × AreSmall rs
-readable_runs rs s are fit =
-    let smalls = smalls_from 0 0 rs are.apart (λ d e. fit.in_range d (are.members d ∙ e)) in
-    let size : count rs ≡ set.len s = sym (len_set_of 0 0 rs are.apart) ∙ ap set.len (set_of_is rs s are.members) in
-    (gives_allowed 0 0 100000 rs are.apart smalls (omega (arith, fit.few)), smalls)
+-- the runs of a set of dots are in range
+pub smalls_of : (rs : List Run) (s : DotSet) → AreRunsOf rs s → AreDots s → AreSmall rs
+smalls_of rs s are dots = smalls_from 0 0 rs are.apart (λ d e. dots d (are.members d ∙ e))
 
--- and the set of allowed runs is one that a text may name
-pub allowed_readable : (rs : List Run) → all_allowed 0 0 100000 rs ≡ true → AreApart rs × IsReadable (set_of rs)
+-- the runs of a set that a text may name are allowed
+pub readable_runs : (rs : List Run) (s : DotSet) → AreRunsOf rs s → AreDots s → IsReadable s → all_allowed 0 0 100000 rs ≡ true
+readable_runs rs s are dots few =
+    let size : count rs ≡ set.len s = sym (len_set_of 0 0 rs are.apart) ∙ ap set.len (set_of_is rs s are.members) in
+    gives_allowed 0 0 100000 rs are.apart (smalls_of rs s are dots) (omega (arith, few))
+
+-- and allowed runs are such as a context keeps, and a text may name their set
+pub allowed_kept : (rs : List Run) → all_allowed 0 0 100000 rs ≡ true → AreKept rs
+allowed_kept rs e =
+    let facts = allowed_gives 0 0 100000 rs e in
+    record { apart = facts.0; dots = λ d h. in_range rs d facts.1 h }
+
+pub allowed_readable : (rs : List Run) → all_allowed 0 0 100000 rs ≡ true → IsReadable (set_of rs)
 allowed_readable rs e =
     let facts = allowed_gives 0 0 100000 rs e in
     let size : set.len (set_of rs) ≡ count rs = len_set_of 0 0 rs facts.0 in
-    (facts.0, record { in_range = λ d h. in_range rs d facts.1 (sym (contains-set_of rs d) ∙ h); few = omega (arith, facts.2) })
+    omega (arith, facts.2)
+
+pub kept_dots : (rs : List Run) (s : DotSet) → AreKept rs → set_of rs ≡ s → AreDots s
+kept_dots rs s kept is d h = kept.dots d (sym (contains-set_of rs d) ∙ ap (λ t. set.contains t d) is ∙ h)
 
 pub own_runs : (rs : List Run) → AreApart rs → AreRunsOf rs (set_of rs)
 own_runs rs apart = record { apart = apart; members = contains-set_of rs }

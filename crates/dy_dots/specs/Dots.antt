@@ -1,5 +1,5 @@
 -- Dots, and sets of dots.
-use Rattle.std.specs.Prelude.{◌≡◌, ℕ, refl, ◌<◌, ◌≤◌, ◌⊎◌, ◌==◌, ◌&&◌, Bool}
+use Rattle.std.specs.Prelude.{◌≡◌, ℕ, refl, ◌<◌, ◌≤◌, ◌⊎◌, ◌==◌, ◌&&◌, Bool, true}
 use Rattle.std.specs.declared.cmp.Ordering.{Ordering}
 use Rattle.std.specs.Ordering.{nat_cmp, ordering_then}
 use Rattle.std.specs.Coded.{Coded, code_by, coded×, coded_ℕ}
@@ -29,6 +29,10 @@ dot_cmp a b = ordering_then (nat_cmp a.node b.node) (nat_cmp a.counter b.counter
 -- a set of dots
 abbrev pub DotSet : Type 0
 DotSet = set.FinSet dot_cmp
+
+-- the set has dots alone, whose nodes and counters are in range
+abbrev pub AreDots : DotSet → Type 0
+AreDots s = (d : DotNumbers) → set.contains s d ≡ true → IsDot d
 
 -- a dot is stored as the pair of its numbers
 abbrev pub dot_code : Coded DotNumbers

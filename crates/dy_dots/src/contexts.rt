@@ -1,8 +1,8 @@
-ghost use Rattle.std.specs.Prelude.{◌≡◌, ◌⊎◌, ◌++◌, List, ℕ, OnOk, OnErr, IfOk, IfErr, IsOkUnless, string_bytes};
+ghost use Rattle.std.specs.Prelude.{◌≡◌, ◌⊎◌, ◌++◌, List, ℕ, OnOk, OnErr, IfOk, IfErr, IsOkUnless, string_bytes, Result, Ok, Err};
 ghost use Rattle.std.specs.FinSet as set;
-ghost use Rattle.dy_dots.specs.Dots.{DotSet, dot_set_code};
-ghost use Rattle.dy_dots.specs.Runs.{AreApart, AreRunsOf, set_of};
-ghost use Rattle.dy_dots.specs.Spelling.{IsReadable, Spells};
+ghost use Rattle.dy_dots.specs.Dots.{DotSet, dot_set_code, AreDots};
+ghost use Rattle.dy_dots.specs.Runs.{AreKept, AreRunsOf, set_of};
+ghost use Rattle.dy_dots.specs.Spelling.{IsFound, IsReadable, IsRefused, Spells};
 
 use crate::dots::Dot;
 use crate::faults::Fault;
@@ -24,7 +24,7 @@ impl Model for Context {
 
     ghost view = { λ context. set_of context.runs.items };
 
-    ghost invariant = { λ context. AreApart context.runs.items };
+    ghost invariant = { λ context. AreKept context.runs.items };
 }
 
 impl Context {
@@ -45,7 +45,8 @@ impl Context {
 
     /// The maximal runs, rising.
     pub fn runs(&self) -> &[Run]
-        ensures { AreRunsOf result.now self.now }
+        ensures runs { AreRunsOf result.now self.now }
+        ensures valid { AreDots self.now }
     {
         self.runs.as_slice()
     }
@@ -92,8 +93,8 @@ impl Context {
 
     /// The set that the text spells.
     pub fn read_text(alloc: Global, text: &str) -> Result<Context, Fault>
-        ensures found { IfOk result (λ context. Spells text.now context × IsReadable context) }
-        ensures refused { IfErr result (λ fault. (fault ≡ Fault.OutOfMemory) ⊎ ((fault ≡ Fault.ContextSyntax) × ((s : DotSet) → Spells text.now s → IsReadable s → ⊥))) }
+        ensures found { IfOk result (IsFound text.now) }
+        ensures refused { IfErr result (IsRefused text.now) }
     {
         if text == "-" {
             return Ok(Context::new(alloc));
@@ -129,9 +130,14 @@ pub fn spelling_is_unique()
     ensures { (s : DotSet) (a b : List ℕ) → Spells a s → Spells b s → a ≡ b }
 {}
 
-/// A text spells at most one of the sets that a text may name.
+/// No text spells two sets.
 pub fn spelled_set_is_unique()
-    ensures { (bytes : List ℕ) (s t : DotSet) → Spells bytes s → Spells bytes t → IsReadable s → IsReadable t → s ≡ t }
+    ensures { (bytes : List ℕ) (s t : DotSet) → Spells bytes s → Spells bytes t → s ≡ t }
+{}
+
+/// Where the text of a set of at most 100,000 dots is read, the answer is that set, memory aside.
+pub fn written_is_read_back()
+    ensures { (bytes : List ℕ) (s : DotSet) (answer : Result DotSet Fault) → Spells bytes s → IsReadable s → IfOk answer (IsFound bytes) → IfErr answer (IsRefused bytes) → (answer ≡ Ok s) ⊎ (answer ≡ Err Fault.OutOfMemory) }
 {}
 
 #[cfg(test)]

@@ -8,7 +8,7 @@ mod nodes;
 mod runs;
 mod texts;
 
-pub use contexts::{Context, spelled_set_is_unique, spelling_is_unique};
+pub use contexts::{Context, spelled_set_is_unique, spelling_is_unique, written_is_read_back};
 pub use dots::{Dot, MAX_COUNTER};
 pub use faults::Fault;
 pub use nodes::{MAX_NODES, NodeId};

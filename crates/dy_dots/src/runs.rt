@@ -1,5 +1,5 @@
 ghost use Rattle.std.specs.Prelude.{◌≡◌, ◌+◌, ◌<◌, ◌≤◌, ◌≢◌, ◌⊎◌, ◌||◌, ℕ, true, false, max, length, slice_index_or, IfOk, IfSome, IfNone, OnOk, OnErr, [], ◌∷◌};
-ghost use Rattle.dy_dots.specs.Dots.{DotSet};
+ghost use Rattle.dy_dots.specs.Dots.{DotSet, IsDot};
 ghost use Rattle.dy_dots.specs.declared.dots.Dot.{Dot};
 ghost use Rattle.dy_dots.specs.Runs.{AreApart, StartsFrom, RiseFrom, in_run, in_runs};
 ghost use Rattle.dy_dots.specs.Kinds.{single, joined, covers_run, IsBelow, IsReached, IsNext, IsOutside, Added};
@@ -19,7 +19,8 @@ pub struct Run {
 
 impl Run {
     fn of(dot: &Dot) -> Run
-        ensures { result ≡ single dot.now }
+        ensures value { result ≡ single dot.now }
+        ensures valid { IsDot dot.now }
     {
         Run {
             node: dot.node(),
@@ -127,6 +128,7 @@ pub(crate) fn add(runs: &mut Vec<Run>, dot: &Dot) -> Result<(), AllocFailed<Run>
     requires { AreApart runs.old.items }
     ensures ok { OnOk result (Added runs.old.items (single dot.now) runs.new.items) }
     ensures err { OnErr result (runs.new.items ≡ runs.old.items) }
+    ensures valid { IsDot dot.now }
 {
     let alone = Run::of(dot);
     let place = place_of(runs.as_slice(), &alone);

@@ -1,6 +1,6 @@
 use Rattle.std.proofs.Common.{◌≡◌, ap, ◌∙◌, sym, rules, inl, inr, refl, true, false, ◌⊎◌}
 use Rattle.dy_dots.specs.Spelling.{all_allowed, runs_text, read_runs}
-use Rattle.dy_dots.proofs.Sizes.{allowed_readable}
+use Rattle.dy_dots.proofs.Sizes.{allowed_kept}
 use Rattle.dy_dots.proofs.Readings.{not_dash, found_empty, refused_unread, refused_unfit, refused_other, found_runs, same_text, other_text}
 use Rattle.dy_dots.proofs.contexts.Context.read_text.Goals as goal
 
@@ -37,7 +37,7 @@ returns-then-ne-clause-refused c =
 
 pub invariant_of-result : goal.invariant_of-result
 invariant_of-result c =
-    (allowed_readable c.in-Ok.runs.items (ap (all_allowed 0 0 100000) (sym c.as_slice.ensures.value) ∙ sym c.are_allowed.ensures ∙ c.if-not-are_allowed.false)).0
+    allowed_kept c.in-Ok.runs.items (ap (all_allowed 0 0 100000) (sym c.as_slice.ensures.value) ∙ sym c.are_allowed.ensures ∙ c.if-not-are_allowed.false)
 
 pub returns-clause-found : goal.returns-clause-found
 returns-clause-found c =
