@@ -4,7 +4,7 @@ use Rattle.std.proofs.lemmas.List.{get_or_read, drop_all}
 use Rattle.std.proofs.lemmas.Bool.Decides.{nat_tests}
 use Rattle.std.specs.List.{list_any}
 use Rattle.std.proofs.lemmas.List.Folds.{list_any-append, list_any_at}
-use Rattle.dy_dots.specs.Kinds.{single, joined, covers_run, IsBelow, IsReached, IsOutside, StartsBy, IsNext, Added}
+use Rattle.dy_dots.specs.Kinds.{single, joined, covers_run, IsBelow, IsReached, StartsBy, IsNext, Added}
 use Rattle.dy_dots.specs.Runs.{in_run, in_runs, StartsFrom, RiseFrom, AreApart}
 use Rattle.dy_dots.specs.declared.dots.Dot.{Dot}
 use Rattle.dy_dots.specs.declared.runs.Run.{Run}
@@ -335,6 +335,10 @@ add_present rs i s r one apart lt read to from low high = (
     present q true e = list_any_at (λ x. in_run x q) rs i s lt (ap (λ x. in_run x q) (sym is) ∙ in_it q e)
     present q false e = refl
 
+-- a dot of the run that is in none of the runs
+abbrev pub IsOutside : List Run → Run → Type 0
+IsOutside rs r = (d : Dot) × (in_run r d ≡ true) × (in_runs rs d ≡ false)
+
 -- a run that doesn't cover another lacks one of its dots
 past_end : (x r : Run) (d : Dot) → r.node ≡ d.node → r.first ≡ d.counter → r.first ≤ r.last → in_run x d ≡ true → covers_run x r ≡ false → (x.node ≡ r.node) × (x.last < r.last) × (r.first ≤ x.last)
 past_end x r d n c valid here fails = (grind (arith, nat_tests), grind (arith, nat_tests), grind (arith, nat_tests))
@@ -345,7 +349,7 @@ past_last x node = grind (arith, nat_tests)
 in_part : (r x : Run) → x.last < r.last → r.first ≤ x.last → in_run r (record { node = r.node; counter = x.last + 1 }) ≡ true
 in_part r x p q = grind (arith, nat_tests)
 
-itself : (r : Run) (d : Dot) → r.node ≡ d.node → r.first ≡ d.counter → r.first ≤ r.last → in_run r d ≡ true
+pub itself : (r : Run) (d : Dot) → r.node ≡ d.node → r.first ≡ d.counter → r.first ≤ r.last → in_run r d ≡ true
 itself r d n c valid = grind (arith, nat_tests)
 
 pub uncovered : (rs : List Run) (i : ℕ) (s x r : Run) (d : Dot) → AreApart rs → s ≡ single d → ((k : ℕ) → k < i → IsBelow (get_or rs k s) s) → i < length rs → IsReached (get_or rs i s) s → x ≡ get_or rs i x → r.node ≡ d.node → r.first ≡ d.counter → r.first ≤ r.last → covers_run x r ≡ false → IsOutside rs r
@@ -388,14 +392,8 @@ held_nowhere_run rs i x d is below all =
     let c : x.first ≡ d.counter = ap (λ z. z.first) is in
     ap (λ l. in_runs l d) (sym (take_all (length rs) rs (omega arith))) ∙ none_below rs (length rs) x d (λ k lt. below k (omega arith)) (omega arith) n (omega arith)
 
-pub outside_after : (rs : List Run) (i : ℕ) (s r : Run) (d : Dot) → s ≡ single d → ((k : ℕ) → k < i → IsBelow (get_or rs k s) s) → length rs ≤ i → r.node ≡ d.node → r.first ≡ d.counter → r.first ≤ r.last → IsOutside rs r
-outside_after rs i s r d one below all n c valid = (d, itself r d n c valid, held_nowhere_run rs i s d one below all)
-
-covers_each : (x r : Run) (d : Dot) → covers_run x r ≡ true → in_run r d ≡ true → in_run x d ≡ true
+pub covers_each : (x r : Run) (d : Dot) → covers_run x r ≡ true → in_run r d ≡ true → in_run x d ≡ true
 covers_each x r d all here = grind (arith, nat_tests)
-
-pub covered : (rs : List Run) (i : ℕ) (x r : Run) → i < length rs → x ≡ get_or rs i x → covers_run x r ≡ true → (d : Dot) → in_run r d ≡ true → in_runs rs d ≡ true
-covered rs i x r lt read all d here = list_any_at (λ z. in_run z d) rs i x lt (ap (λ z. in_run z d) (sym read) ∙ covers_each x r d all here)
 
 pub valid_at : (rs : List Run) (i : ℕ) (r : Run) → AreApart rs → i < length rs → r ≡ get_or rs i r → r.first ≤ r.last
 valid_at rs i r apart lt read = subst (λ z. z.first ≤ z.last) (sym read) (rise_drop 0 0 rs i r apart lt).0

@@ -1,19 +1,15 @@
 -- How many dots runs have, and which runs a text may name.
-use Rattle.std.proofs.Common.{◌≡◌, ℕ, zero, suc, ◌+◌, ◌-◌, ◌<◌, ◌≤◌, ◌==◌, Bool, true, false, cond, ◌&&◌, ◌||◌, List, [], ◌∷◌, refl, sym, ap, ◌∙◌, inl, inr, ◌⊎◌, arith, nat_lt, nat_le, subst}
+use Rattle.std.proofs.Common.{◌≡◌, ℕ, zero, suc, ◌+◌, ◌-◌, ◌<◌, ◌≤◌, ◌==◌, Bool, true, false, cond, ◌&&◌, ◌||◌, List, [], ◌∷◌, refl, sym, ap, ◌∙◌, inl, inr, ◌⊎◌, arith, nat_lt, nat_le, subst, ◌*◌, length, get_or, drop}
 use Rattle.std.proofs.lemmas.Bool.{ltb-true, leb-true, eqb-true, lt-ltb, le-leb, eq-eqb, true≢false}
 use Rattle.std.proofs.lemmas.Bool.Decides.{nat_tests}
 use Rattle.std.specs.FinSet as set
 use Rattle.dy_dots.specs.Dots.{DotSet, IsDot, AreDots}
-use Rattle.dy_dots.specs.Runs.{in_run, in_runs, StartsFrom, RiseFrom, AreApart, AreKept, AreRunsOf, with_counters, set_of}
+use Rattle.dy_dots.specs.Runs.{in_run, in_runs, StartsFrom, RiseFrom, AreApart, AreKept, AreRunsOf, with_counters, set_of, count_of}
 use Rattle.dy_dots.specs.Spelling.{allowed, all_allowed, IsReadable}
 use Rattle.dy_dots.specs.declared.dots.Dot.{Dot}
 use Rattle.dy_dots.specs.declared.runs.Run.{Run}
-use Rattle.dy_dots.proofs.Lists.{none_before}
+use Rattle.dy_dots.proofs.Lists.{none_before, from_place}
 use Rattle.dy_dots.proofs.Sets.{dot_total, contains-with_counters, contains-set_of, set_of_is, or_either}
-
-abbrev pub count : List Run → ℕ
-count [] = 0
-count (r ∷ rs) = (r.last + 1 - r.first) + count rs
 
 not_yet : (node first n : ℕ) → ((node == node) && (nat_le first (first + n) && nat_lt (first + n) (first + n))) ≡ false
 not_yet node first n = grind (arith, nat_tests)
@@ -28,10 +24,10 @@ len_counters s node first (suc n) fresh =
     let before : set.len w ≡ set.len s + n = len_counters s node first n (λ k lt. fresh k (omega arith)) in
     set.len-insert dot_total w d ∙ ap (λ b. cond b (set.len w) (set.len w + 1)) absent ∙ ap (λ k. k + 1) before ∙ omega arith
 
-pub len_set_of : (n c : ℕ) (rs : List Run) → RiseFrom n c rs → set.len (set_of rs) ≡ count rs
+pub len_set_of : (n c : ℕ) (rs : List Run) → RiseFrom n c rs → set.len (set_of rs) ≡ count_of rs
 len_set_of n c [] rise = set.len-empty _
 len_set_of n c (r ∷ rs) rise =
-    let rest : set.len (set_of rs) ≡ count rs = len_set_of r.node (r.last + 2) rs rise.2 in
+    let rest : set.len (set_of rs) ≡ count_of rs = len_set_of r.node (r.last + 2) rs rise.2 in
     len_counters (set_of rs) r.node r.first (r.last + 1 - r.first) (λ k lt.
     contains-set_of rs _ ∙ none_before r.node (r.last + 2) rs (record { node = r.node; counter = r.first + k }) rise.2 (inr (refl, omega arith)))
     ∙ ap (λ k. k + (r.last + 1 - r.first)) rest ∙ omega arith
@@ -84,14 +80,14 @@ small r n c room e =
       ltb-true _ _ five,
     )
 
-pub allowed_gives : (n c room : ℕ) (rs : List Run) → all_allowed n c room rs ≡ true → RiseFrom n c rs × AreSmall rs × (count rs ≤ room)
+pub allowed_gives : (n c room : ℕ) (rs : List Run) → all_allowed n c room rs ≡ true → RiseFrom n c rs × AreSmall rs × (count_of rs ≤ room)
 allowed_gives n c room [] e = (tt, tt, omega arith)
 allowed_gives n c room (r ∷ rs) e =
     let first = small r n c room (and_left _ _ e) in
     let rest = allowed_gives r.node (r.last + 2) (room - (r.last - r.first + 1)) rs (and_right (allowed n c room r) _ e) in
     ((first.0, first.1.2, rest.0), (first.1, rest.1), omega (arith, first.1.2, first.2, rest.2))
 
-pub gives_allowed : (n c room : ℕ) (rs : List Run) → RiseFrom n c rs → AreSmall rs → count rs ≤ room → all_allowed n c room rs ≡ true
+pub gives_allowed : (n c room : ℕ) (rs : List Run) → RiseFrom n c rs → AreSmall rs → count_of rs ≤ room → all_allowed n c room rs ≡ true
 gives_allowed n c room [] rise smalls few = refl
 gives_allowed n c room (r ∷ rs) rise smalls few =
     and_both (allowed n c room r) _
@@ -130,7 +126,7 @@ smalls_of rs s are dots = smalls_from 0 0 rs are.apart (λ d e. dots d (are.memb
 -- the runs of a set that a text may name are allowed
 pub readable_runs : (rs : List Run) (s : DotSet) → AreRunsOf rs s → AreDots s → IsReadable s → all_allowed 0 0 100000 rs ≡ true
 readable_runs rs s are dots few =
-    let size : count rs ≡ set.len s = sym (len_set_of 0 0 rs are.apart) ∙ ap set.len (set_of_is rs s are.members) in
+    let size : count_of rs ≡ set.len s = sym (len_set_of 0 0 rs are.apart) ∙ ap set.len (set_of_is rs s are.members) in
     gives_allowed 0 0 100000 rs are.apart (smalls_of rs s are dots) (omega (arith, few))
 
 -- and allowed runs are such as a context keeps, and a text may name their set
@@ -142,7 +138,7 @@ allowed_kept rs e =
 pub allowed_readable : (rs : List Run) → all_allowed 0 0 100000 rs ≡ true → IsReadable (set_of rs)
 allowed_readable rs e =
     let facts = allowed_gives 0 0 100000 rs e in
-    let size : set.len (set_of rs) ≡ count rs = len_set_of 0 0 rs facts.0 in
+    let size : set.len (set_of rs) ≡ count_of rs = len_set_of 0 0 rs facts.0 in
     omega (arith, facts.2)
 
 pub kept_dots : (rs : List Run) (s : DotSet) → AreKept rs → set_of rs ≡ s → AreDots s
@@ -150,3 +146,30 @@ kept_dots rs s kept is d h = kept.dots d (sym (contains-set_of rs d) ∙ ap (λ 
 
 pub own_runs : (rs : List Run) → AreApart rs → AreRunsOf rs (set_of rs)
 own_runs rs apart = record { apart = apart; members = contains-set_of rs }
+
+pub count_at : (rs : List Run) (i : ℕ) (r : Run) → i < length rs → r ≡ get_or rs i r → count_of (drop i rs) ≡ (r.last + 1 - r.first) + count_of (drop (i + 1) rs)
+count_at rs i r lt read =
+    let next : suc i ≡ i + 1 = omega arith in
+    ap count_of (from_place rs i r lt) ∙ ap (λ z. count_of (z ∷ drop (suc i) rs)) (sym read) ∙ ap (λ k. count_of (r ∷ drop k rs)) next
+
+-- each counter from this place on may be in the runs once
+bounded : (n c : ℕ) (rs : List Run) → RiseFrom n c rs → AreSmall rs → n ≤ 31 → c ≤ 1000002 → 1 ≤ c → count_of rs + n * 1000000 + c ≤ 32000002
+bounded n c [] rise small low fits one = omega arith
+bounded n c (r ∷ rs) rise small low fits one = go (bounded r.node (r.last + 2) rs rise.2 small.1 (omega (arith, small.0.0)) (omega (arith, small.0.3)) (omega arith)) rise.0
+  where
+    go : count_of rs + r.node * 1000000 + (r.last + 2) ≤ 32000002 → StartsFrom n c r → count_of (r ∷ rs) + n * 1000000 + c ≤ 32000002
+    go rest (inl p) = omega (arith, rest, p, small.0, rise.1)
+    go rest (inr p) = omega (arith, rest, p.0, p.1, small.0, rise.1)
+
+pub count_small : (rs : List Run) → AreKept rs → count_of rs ≤ 32000001
+count_small rs kept = go rs kept.apart (smalls_from 0 0 rs kept.apart kept.dots)
+  where
+    from_one : (r : Run) → StartsFrom 0 0 r → 1 ≤ r.first → StartsFrom 0 1 r
+    from_one r (inl p) one = inl p
+    from_one r (inr p) one = inr (p.0, one)
+
+    go : (xs : List Run) → AreApart xs → AreSmall xs → count_of xs ≤ 32000001
+    go [] apart small = omega arith
+    go (r ∷ xs) apart small =
+        let all = bounded 0 1 (r ∷ xs) (from_one r apart.0 small.0.1, apart.1, apart.2) small (omega arith) (omega arith) (omega arith) in
+        omega (arith, all)

@@ -1,14 +1,15 @@
 -- A set has one list of maximal runs.
-use Rattle.std.proofs.Common.{◌≡◌, ℕ, ◌+◌, ◌<◌, ◌≤◌, Bool, true, false, ◌||◌, List, [], ◌∷◌, refl, sym, ap, ◌∙◌, inl, inr, ◌⊎◌, arith, subst}
+use Rattle.std.proofs.Common.{◌≡◌, ℕ, suc, ◌+◌, ◌<◌, ◌≤◌, Bool, true, false, ◌||◌, List, [], ◌∷◌, refl, sym, ap, ◌∙◌, inl, inr, ◌⊎◌, arith, subst, length, nat_eq, ◌↔◌}
 use Rattle.std.proofs.lemmas.Bool.{true≢false}
 use Rattle.std.proofs.lemmas.Bool.Decides.{nat_tests}
 use Rattle.std.specs.FinSet as set
-use Rattle.dy_dots.specs.Dots.{DotSet}
-use Rattle.dy_dots.specs.Runs.{in_run, in_runs, RiseFrom, AreRunsOf}
+use Rattle.dy_dots.specs.Dots.{DotSet, dot_cmp}
+use Rattle.dy_dots.specs.Runs.{in_run, in_runs, RiseFrom, AreApart, AreRunsOf, set_of}
 use Rattle.dy_dots.specs.Spelling.{Spells, runs_text}
 use Rattle.dy_dots.specs.declared.dots.Dot.{Dot}
 use Rattle.dy_dots.specs.declared.runs.Run.{Run}
 use Rattle.dy_dots.proofs.Lists.{IsBefore, none_before}
+use Rattle.dy_dots.proofs.Sets.{contains-set_of}
 
 abbrev at : ℕ → ℕ → Dot
 at node counter = record { node = node; counter = counter }
@@ -76,3 +77,14 @@ same_runs n c (x ∷ xs) (y ∷ ys) rx ry same =
 pub one_spelling : (s : DotSet) (a b : List ℕ) → Spells a s → Spells b s → a ≡ b
 one_spelling s a b p q =
     p.bytes_are ∙ ap runs_text (same_runs 0 0 p.runs q.runs p.are_runs.apart q.are_runs.apart (λ d. sym (p.are_runs.members d) ∙ q.are_runs.members d)) ∙ sym q.bytes_are
+
+length_some : (rs : List Run) → nat_eq (suc (length rs)) 0 ≡ false
+length_some rs = grind (arith, nat_tests)
+
+-- a set is empty where it has no runs
+pub empty_is : (rs : List Run) (s : DotSet) (b : Bool) → AreApart rs → set_of rs ≡ s → b ≡ nat_eq (length rs) 0 → (b ≡ true) ↔ (s ≡ set.empty)
+empty_is [] s b apart is e = (λ _. sym is, λ _. e)
+empty_is (r ∷ rs) s b apart is e = (
+  λ y. absurd (true≢false (sym y ∙ e ∙ length_some rs)),
+  λ none. absurd (true≢false (sym (in_first r rs apart.1) ∙ sym (contains-set_of (r ∷ rs) (at r.node r.first)) ∙ ap (λ t. set.contains t (at r.node r.first)) (is ∙ none) ∙ set.contains-empty dot_cmp _)),
+)

@@ -1,5 +1,5 @@
 -- Dots, and sets of dots.
-use Rattle.std.specs.Prelude.{◌≡◌, ℕ, refl, ◌<◌, ◌≤◌, ◌⊎◌, ◌==◌, ◌&&◌, Bool, true}
+use Rattle.std.specs.Prelude.{◌≡◌, ℕ, refl, ◌<◌, ◌≤◌, ◌⊎◌, ◌==◌, ◌&&◌, Bool, true, List, ◌++◌, codes, decimal}
 use Rattle.std.specs.declared.cmp.Ordering.{Ordering}
 use Rattle.std.specs.Ordering.{nat_cmp, ordering_then}
 use Rattle.std.specs.Coded.{Coded, code_by, coded×, coded_ℕ}
@@ -41,3 +41,7 @@ dot_code =
 
 abbrev pub dot_set_code : Coded DotSet
 dot_set_code = set.code dot_code
+
+-- a dot is printed as n, its node, a colon and its counter
+abbrev pub dot_text : DotNumbers → List ℕ
+dot_text d = codes "n" ++ decimal d.node ++ codes ":" ++ decimal d.counter

@@ -1,4 +1,4 @@
-ghost use Rattle.std.specs.Prelude.{◌≡◌, ◌⊎◌, ◌++◌, List, ℕ, OnOk, OnErr, IfOk, IfErr, IsOkUnless, string_bytes, Result, Ok, Err};
+ghost use Rattle.std.specs.Prelude.{◌≡◌, ◌⊎◌, ◌↔◌, true, ◌++◌, List, ℕ, OnOk, OnErr, IfOk, IfErr, IsOkUnless, string_bytes, Result, Ok, Err};
 ghost use Rattle.std.specs.FinSet as set;
 ghost use Rattle.dy_dots.specs.Dots.{DotSet, dot_set_code, AreDots};
 ghost use Rattle.dy_dots.specs.Runs.{AreKept, AreRunsOf, set_of};
@@ -37,6 +37,21 @@ impl Context {
         }
     }
 
+    /// Whether there is no dot in it. Takes no memory.
+    pub fn is_empty(&self) -> bool
+        ensures { (result ≡ true) ↔ (self.now ≡ set.empty) }
+    {
+        self.runs.is_empty()
+    }
+
+    /// How many dots it has, summed over its runs. Takes no memory.
+    pub fn len(&self) -> usize
+        ensures { result ≡ set.len self.now }
+    {
+        runs::count(self.runs.as_slice())
+    }
+
+    /// Whether the dot is in it. Takes no memory.
     pub fn contains(&self, dot: Dot) -> bool
         ensures { result ≡ set.contains self.now dot }
     {
@@ -74,12 +89,7 @@ impl Context {
     pub fn includes(&self, other: &Context) -> bool
         ensures { result ≡ set.is_subset other.now self.now }
     {
-        for run in other.runs.as_slice() {
-            if !runs::cover(self.runs.as_slice(), run) {
-                return false;
-            }
-        }
-        true
+        runs::include(self.runs.as_slice(), other.runs.as_slice())
     }
 
     pub fn try_clone(&self, alloc: Global) -> Result<Context, Fault>

@@ -1,5 +1,5 @@
-ghost use Rattle.std.specs.Prelude.{◌≡◌, ◌≤◌, ◌↔◌, IsSome, IfSome};
-ghost use Rattle.dy_dots.specs.Dots.{DotNumbers, dot_code, IsDot};
+ghost use Rattle.std.specs.Prelude.{◌≡◌, ◌≤◌, ◌↔◌, IsSome, IfSome, Some};
+ghost use Rattle.dy_dots.specs.Dots.{DotNumbers, dot_code, dot_text, IsDot};
 ghost use Rattle.dy_dots.specs.declared.dots.TheConstants.{MAX_COUNTER};
 
 use crate::nodes::NodeId;
@@ -60,6 +60,8 @@ impl Dot {
 }
 
 impl fmt::Display for Dot {
+    ghost output = { λ dot. Some (dot_text dot) };
+
     fn fmt<W: fmt::Write>(&self, f: &mut fmt::Formatter<W>) -> fmt::Result {
         write!(f, "n{}:{}", self.node, self.counter)
     }

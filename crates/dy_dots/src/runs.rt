@@ -1,15 +1,17 @@
-ghost use Rattle.std.specs.Prelude.{◌≡◌, ◌+◌, ◌<◌, ◌≤◌, ◌≢◌, ◌⊎◌, ◌||◌, ℕ, true, false, max, length, slice_index_or, IfOk, IfSome, IfNone, OnOk, OnErr, [], ◌∷◌};
+ghost use Rattle.std.specs.Prelude.{◌≡◌, ◌+◌, ◌<◌, ◌≤◌, ◌≢◌, ◌⊎◌, ◌||◌, ℕ, true, false, max, length, slice_index_or, IfOk, IfSome, IfNone, Some, OnOk, OnErr, [], ◌∷◌};
 ghost use Rattle.dy_dots.specs.Dots.{DotSet, IsDot};
 ghost use Rattle.dy_dots.specs.declared.dots.Dot.{Dot};
-ghost use Rattle.dy_dots.specs.Runs.{AreApart, StartsFrom, RiseFrom, in_run, in_runs};
-ghost use Rattle.dy_dots.specs.Kinds.{single, joined, covers_run, IsBelow, IsReached, IsNext, IsOutside, Added};
-ghost use Rattle.dy_dots.specs.Spelling.{run_to};
+ghost use Rattle.dy_dots.specs.Runs.{AreApart, AreKept, HasAll, count_of, StartsFrom, RiseFrom, in_run, in_runs};
+ghost use Rattle.dy_dots.specs.Kinds.{single, joined, covers_run, IsBelow, IsReached, IsNext, Added};
+ghost use Rattle.dy_dots.specs.Spelling.{run_text, run_to};
 
 use crate::dots::Dot;
 use crate::nodes::NodeId;
 use std::alloc::{AllocError, AllocFailed, Global};
+use std::fmt;
 
-/// Dots of one node whose counters follow one another, from the first to the last.
+/// Dots of one node whose counters follow one another, from the first to the last. It is printed
+/// as its counters alone.
 #[derive(Clone, Copy, Debug, PartialEq, Eq)]
 pub struct Run {
     pub node: NodeId,
@@ -111,16 +113,40 @@ pub(crate) fn holds(runs: &[Run], dot: &Dot) -> bool
     place < runs.len() && runs[place].holds(dot)
 }
 
-/// Whether each dot of the run is one of the runs'.
-pub(crate) fn cover(runs: &[Run], run: &Run) -> bool
+/// Whether each dot of the others is one of the runs'.
+pub(crate) fn include(runs: &[Run], others: &[Run]) -> bool
     requires apart { AreApart runs.now }
-    requires some { run.now.first ≤ run.now.last }
-    ensures yes { result ≡ true → (d : Dot) → in_run run.now d ≡ true → in_runs runs.now d ≡ true }
-    ensures no { result ≡ false → IsOutside runs.now run.now }
+    requires others_apart { AreApart others.now }
+    ensures yes { result ≡ true → HasAll runs.now others.now }
+    ensures no { result ≡ false → HasAll runs.now others.now → ⊥ }
 {
-    let first = Run::to(run.node, None, run.first);
-    let place = place_of(runs, &first);
-    place < runs.len() && runs[place].covers(run)
+    let mut left = runs;
+    let mut right = others;
+    while let Some((other, others_rest)) = right.split_first() {
+        let Some((run, runs_rest)) = left.split_first() else {
+            return false;
+        };
+        if run.covers(other) {
+            right = others_rest;
+        } else if run.is_below(other) {
+            left = runs_rest;
+        } else {
+            return false;
+        }
+    }
+    true
+}
+
+/// How many dots the runs have.
+pub(crate) fn count(runs: &[Run]) -> usize
+    requires { AreKept runs.now }
+    ensures { result ≡ count_of runs.now }
+{
+    let mut total = 0;
+    for run in runs {
+        total += (run.last - run.first) as usize + 1;
+    }
+    total
 }
 
 /// Adds the dot.
@@ -207,4 +233,16 @@ pub(crate) fn union_of(alloc: Global, a: &[Run], b: &[Run]) -> Result<Vec<Run>, 
     }
     runs.push(run)?;
     Ok(runs)
+}
+
+impl fmt::Display for Run {
+    ghost output = { λ run. Some (run_text run) };
+
+    fn fmt<W: fmt::Write>(&self, f: &mut fmt::Formatter<W>) -> fmt::Result {
+        if self.first == self.last {
+            write!(f, "{}", self.first)
+        } else {
+            write!(f, "{}-{}", self.first, self.last)
+        }
+    }
 }
