@@ -1,9 +1,8 @@
--- The texts of what is printed.
+-- The texts of bytes, positions and nodes.
 use Rattle.std.specs.Prelude.{ℕ, ◌/◌, ◌%◌, List, [], ◌∷◌, ◌++◌, codes, decimal, false}
 use Rattle.std.specs.Fmt.{digits}
 use Rattle.std.specs.List.{flat_map}
 use Rattle.std.specs.Int.{w128, to_be_bytes}
-use Rattle.dy_script.specs.declared.printed.Place.{Place}
 
 -- a byte is two hexadecimal digits, with lower-case letters
 abbrev pub byte_text : ℕ → List ℕ
@@ -13,14 +12,10 @@ byte_text b = digits 16 false (b / 16) ++ digits 16 false (b % 16)
 abbrev pub hex_text : List ℕ → List ℕ
 hex_text bytes = flat_map byte_text bytes
 
--- a position is 32 digits
+-- a position is the digits of its 16 bytes, the greatest first
 abbrev pub position_text : ℕ → List ℕ
 position_text position = hex_text (to_be_bytes w128 position)
 
--- a place is its holder, a stroke, and the home
-abbrev pub place_text : Place → List ℕ
-place_text p = decimal p.holder ++ codes "/" ++ decimal p.home
-
--- places stand each behind a blank
-abbrev pub places_text : List Place → List ℕ
-places_text places = flat_map (λ p. codes " " ++ place_text p) places
+-- nodes stand each behind a blank
+abbrev pub nodes_text : List ℕ → List ℕ
+nodes_text nodes = flat_map (λ node. codes " " ++ decimal node) nodes

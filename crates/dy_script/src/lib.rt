@@ -1,16 +1,24 @@
 //! Scripts of commands: read from JSON, run over one world, and printed line by line.
 #![tactic(auto)]
 
+mod audits;
 mod commands;
 mod members;
 mod orders;
+mod outcomes;
+mod places;
 mod printed;
 mod reading;
+mod rings;
 mod scripts;
 mod tokens;
 
+pub use audits::{AckedLine, EndLine, HeldLine, SettledLine};
 pub use commands::{Command, Mode, Write};
-pub use printed::{Hex, Place, Places};
+pub use outcomes::{CommandLine, Outcome, Values, Word};
+pub use places::{Place, Places, StoredAt};
+pub use printed::{Hex, Nodes, Position};
 pub use reading::read;
+pub use rings::{KeyLine, TokenLine};
 pub use scripts::{Layout, Limits, MAX_COMMANDS, MAX_SCRIPT_SESSIONS, Script};
 pub use tokens::token;

@@ -1,18 +1,23 @@
 ghost use Rattle.std.specs.Prelude.{Some};
-ghost use Rattle.dy_script.specs.Texts.{byte_text, hex_text};
+ghost use Rattle.dy_script.specs.Texts.{byte_text, hex_text, position_text, nodes_text};
 
 use dy_dots::NodeId;
 use std::fmt;
 
-#[derive(Clone, Copy, Debug, PartialEq, Eq)]
-pub struct Place {
-    pub home: NodeId,
-    pub holder: NodeId,
-}
-
-/// Bytes that print as hexadecimal digits, two for each.
-#[derive(Clone, Copy)]
+/// Bytes that print as lower-case hexadecimal digits, two for each.
+#[derive(Clone, Copy, Debug)]
 pub struct Hex<'a>(pub &'a [u8]);
+
+impl fmt::Display for Hex<'_> {
+    ghost output = { λ hex. Some (hex_text hex.0.now) };
+
+    fn fmt<W: fmt::Write>(&self, f: &mut fmt::Formatter<W>) -> fmt::Result {
+        for byte in self.0 {
+            write!(f, "{}", HexByte(*byte))?;
+        }
+        Ok(())
+    }
+}
 
 /// A byte that prints as two hexadecimal digits.
 #[derive(Clone, Copy)]
@@ -28,41 +33,29 @@ impl fmt::Display for HexByte {
     }
 }
 
-impl fmt::Display for Hex<'_> {
-    ghost output = { λ hex. Some (hex_text hex.0.now) };
+/// A position on the ring, that prints as 32 hexadecimal digits.
+#[derive(Clone, Copy, Debug)]
+pub struct Position(pub u128);
+
+impl fmt::Display for Position {
+    ghost output = { λ position. Some (position_text position.0) };
 
     fn fmt<W: fmt::Write>(&self, f: &mut fmt::Formatter<W>) -> fmt::Result {
-        for byte in self.0 {
-            write!(f, "{}", HexByte(*byte))?;
-        }
-        Ok(())
+        let bytes = self.0.to_be_bytes();
+        write!(f, "{}", Hex(&bytes))
     }
 }
 
-/// Places that print each behind a blank.
-#[derive(Clone, Copy)]
-pub struct Places<'a>(pub &'a [Place]);
+/// Nodes that print each behind a blank.
+#[derive(Clone, Copy, Debug)]
+pub struct Nodes<'a>(pub &'a [NodeId]);
 
-impl fmt::Display for Place {
-    ghost use Rattle.std.specs.Prelude.{Some};
-    ghost use Rattle.dy_script.specs.Texts.{place_text};
-
-    ghost output = { λ place. Some (place_text place) };
+impl fmt::Display for Nodes<'_> {
+    ghost output = { λ nodes. Some (nodes_text nodes.0.now) };
 
     fn fmt<W: fmt::Write>(&self, f: &mut fmt::Formatter<W>) -> fmt::Result {
-        write!(f, "{}/{}", self.holder.number(), self.home.number())
-    }
-}
-
-impl fmt::Display for Places<'_> {
-    ghost use Rattle.std.specs.Prelude.{Some};
-    ghost use Rattle.dy_script.specs.Texts.{places_text};
-
-    ghost output = { λ places. Some (places_text places.0.now) };
-
-    fn fmt<W: fmt::Write>(&self, f: &mut fmt::Formatter<W>) -> fmt::Result {
-        for place in self.0 {
-            write!(f, " {place}")?;
+        for node in self.0 {
+            write!(f, " {}", node.number())?;
         }
         Ok(())
     }

@@ -1,0 +1,43 @@
+-- The lines that tell what came of commands.
+use Rattle.std.specs.Prelude.{ℕ, List, [], ◌∷◌, ◌++◌, codes, decimal, string_bytes, Option, Some, None, option_map}
+use Rattle.std.specs.List.{flat_map}
+use Rattle.dy_dots.specs.Dots.{dot_text}
+use Rattle.dy_dots.specs.declared.dots.Dot.{Dot}
+use Rattle.dy_script.specs.Texts.{hex_text}
+use Rattle.dy_script.specs.Places.{places_text, stored_text}
+use Rattle.dy_script.specs.declared.outcomes.Word.{Word}
+use Rattle.dy_script.specs.declared.outcomes.Word.TheVariants.{Put, Delete, Get, Down, Up, Fault, Deliver, Handoff, Show}
+use Rattle.dy_script.specs.declared.outcomes.Outcome.{Outcome}
+use Rattle.dy_script.specs.declared.outcomes.Outcome.TheVariants.{Stored, Read, Refused}
+
+abbrev pub word_text : Word → List ℕ
+word_text Put = codes "put"
+word_text Delete = codes "delete"
+word_text Get = codes "get"
+word_text Down = codes "down"
+word_text Up = codes "up"
+word_text Fault = codes "fault"
+word_text Deliver = codes "deliver"
+word_text Handoff = codes "handoff"
+word_text Show = codes "show"
+
+-- a value stands behind its dot, in hexadecimal digits
+abbrev pub value_text : Dot × List ℕ → List ℕ
+value_text v = codes " " ++ dot_text v.0 ++ codes "=" ++ hex_text v.1
+
+-- the values in their order, or none
+abbrev pub values_text : List (Dot × List ℕ) → List ℕ
+values_text [] = codes " none"
+values_text (v ∷ vs) = flat_map value_text (v ∷ vs)
+
+-- what came of a command; nothing is said of a refusal's text
+abbrev pub outcome_text : Outcome → Option (List ℕ)
+outcome_text (Stored word dot places) =
+    Some (word_text word ++ codes " ok " ++ dot_text dot ++ codes " answers" ++ stored_text places.items)
+outcome_text (Read context «from» values) =
+    Some (codes "get ok context " ++ string_bytes context ++ codes " from" ++ places_text «from».items ++ codes " values" ++ values_text values.items)
+outcome_text (Refused word fault) = None
+
+-- the command's number, a blank, and what came of it
+abbrev pub command_text : ℕ → Outcome → Option (List ℕ)
+command_text number outcome = option_map (λ text. decimal number ++ codes " " ++ text) (outcome_text outcome)

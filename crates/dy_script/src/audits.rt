@@ -1,0 +1,90 @@
+use crate::places::{Place, Places};
+use crate::printed::Hex;
+use dy_dots::Dot;
+use dy_siblings::Key;
+use std::fmt;
+
+/// The line of what a place holds of a key: the dots of the versions, as a context text.
+#[derive(Debug, Drop)]
+pub struct HeldLine<'a> {
+    pub place: Place,
+    pub key: &'a Key,
+    pub dots: String,
+}
+
+impl fmt::Display for HeldLine<'_> {
+    ghost use Rattle.std.specs.Prelude.{Some, string_bytes};
+    ghost use Rattle.dy_script.specs.Audits.{held_text};
+
+    ghost output = { λ line. Some (held_text line.place line.key.now (string_bytes line.dots)) };
+
+    fn fmt<W: fmt::Write>(&self, f: &mut fmt::Formatter<W>) -> fmt::Result {
+        let key = Hex(self.key.as_bytes());
+        write!(f, "held {} {key} {}", self.place, self.dots)
+    }
+}
+
+/// The line of an acknowledged put: where its version is covered, and the number of homes that the
+/// put named, where it is not the script's.
+#[derive(Debug, Drop)]
+pub struct AckedLine<'a> {
+    pub key: &'a Key,
+    pub dot: Dot,
+    pub own_w: Option<u8>,
+    pub places: Vec<Place>,
+}
+
+impl fmt::Display for AckedLine<'_> {
+    ghost use Rattle.std.specs.Prelude.{Some};
+    ghost use Rattle.dy_script.specs.Audits.{acked_text};
+
+    ghost output = { λ line. Some (acked_text line.key.now line.dot line.own_w line.places.items) };
+
+    fn fmt<W: fmt::Write>(&self, f: &mut fmt::Formatter<W>) -> fmt::Result {
+        let key = Hex(self.key.as_bytes());
+        let places = Places(self.places.as_slice());
+        match self.own_w {
+            Some(w) => write!(f, "acked {key} {} w {w} covered{places}", self.dot),
+            None => write!(f, "acked {key} {} covered{places}", self.dot),
+        }
+    }
+}
+
+/// The line of a settled key.
+#[derive(Clone, Copy, Debug)]
+pub struct SettledLine<'a> {
+    pub key: &'a Key,
+}
+
+impl fmt::Display for SettledLine<'_> {
+    ghost use Rattle.std.specs.Prelude.{Some};
+    ghost use Rattle.dy_script.specs.Audits.{settled_text};
+
+    ghost output = { λ line. Some (settled_text line.key.now) };
+
+    fn fmt<W: fmt::Write>(&self, f: &mut fmt::Formatter<W>) -> fmt::Result {
+        write!(f, "settled {}", Hex(self.key.as_bytes()))
+    }
+}
+
+/// The last line: how many versions are held, over all places, and how many acks, answered gets and
+/// steps there were.
+#[derive(Clone, Copy, Debug, PartialEq, Eq)]
+pub struct EndLine {
+    pub held: usize,
+    pub acked: usize,
+    pub gets: usize,
+    pub steps: usize,
+}
+
+impl fmt::Display for EndLine {
+    ghost use Rattle.std.specs.Prelude.{Some};
+    ghost use Rattle.dy_script.specs.Audits.{end_text};
+
+    ghost output = { λ line. Some (end_text line.held line.acked line.gets line.steps) };
+
+    fn fmt<W: fmt::Write>(&self, f: &mut fmt::Formatter<W>) -> fmt::Result {
+        write!(f, "end held {} acked {}", self.held, self.acked)?;
+        write!(f, " gets {} steps {}", self.gets, self.steps)
+    }
+}

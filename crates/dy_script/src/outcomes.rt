@@ -1,0 +1,124 @@
+use crate::places::{Place, Places, StoredAt};
+use crate::printed::Hex;
+use dy_dots::{Dot, Fault};
+use dy_siblings::Value;
+use std::fmt;
+
+/// The word that a command's line begins with.
+#[derive(Clone, Copy, Debug, PartialEq, Eq)]
+pub enum Word {
+    Put,
+    Delete,
+    Get,
+    Down,
+    Up,
+    Fault,
+    Deliver,
+    Handoff,
+    Show,
+}
+
+impl fmt::Display for Word {
+    ghost use Rattle.std.specs.Prelude.{Some};
+    ghost use Rattle.dy_script.specs.Outcomes.{word_text};
+
+    ghost output = { λ word. Some (word_text word) };
+
+    fn fmt<W: fmt::Write>(&self, f: &mut fmt::Formatter<W>) -> fmt::Result {
+        match self {
+            Word::Put => f.write_str("put"),
+            Word::Delete => f.write_str("delete"),
+            Word::Get => f.write_str("get"),
+            Word::Down => f.write_str("down"),
+            Word::Up => f.write_str("up"),
+            Word::Fault => f.write_str("fault"),
+            Word::Deliver => f.write_str("deliver"),
+            Word::Handoff => f.write_str("handoff"),
+            Word::Show => f.write_str("show"),
+        }
+    }
+}
+
+/// Present values with their dots, that print each behind a blank, or as `none`.
+#[derive(Clone, Copy, Debug)]
+pub struct Values<'a>(pub &'a [(Dot, Value)]);
+
+impl fmt::Display for Values<'_> {
+    ghost use Rattle.std.specs.Prelude.{Some};
+    ghost use Rattle.dy_script.specs.Outcomes.{values_text};
+
+    ghost output = { λ values. Some (values_text values.0.now) };
+
+    fn fmt<W: fmt::Write>(&self, f: &mut fmt::Formatter<W>) -> fmt::Result {
+        if self.0.is_empty() {
+            return f.write_str(" none");
+        }
+        for (dot, value) in self.0 {
+            write!(f, " {dot}={}", Hex(value.as_bytes()))?;
+        }
+        Ok(())
+    }
+}
+
+/// What came of a command, as its line tells it.
+#[derive(Debug, Drop)]
+pub enum Outcome {
+    /// A put or a delete was acknowledged; these places stored it.
+    Stored {
+        word: Word,
+        dot: Dot,
+        places: Vec<Place>,
+    },
+    /// A get was answered: the context's text, whose rows were used, and the present values.
+    Read {
+        context: String,
+        from: Vec<Place>,
+        values: Vec<(Dot, Value)>,
+    },
+    /// The command was refused.
+    Refused {
+        word: Word,
+        fault: Fault,
+    },
+}
+
+impl fmt::Display for Outcome {
+    ghost use Rattle.dy_script.specs.Outcomes.{outcome_text};
+
+    ghost output = { outcome_text };
+
+    fn fmt<W: fmt::Write>(&self, f: &mut fmt::Formatter<W>) -> fmt::Result {
+        match self {
+            Outcome::Stored { word, dot, places } => {
+                write!(f, "{word} ok {dot} answers{}", StoredAt(places.as_slice()))
+            }
+            Outcome::Read {
+                context,
+                from,
+                values,
+            } => {
+                let from = Places(from.as_slice());
+                let values = Values(values.as_slice());
+                write!(f, "get ok context {context} from{from} values{values}")
+            }
+            Outcome::Refused { word, fault } => write!(f, "{word} {fault}"),
+        }
+    }
+}
+
+/// The line of a command: its number, from 1, and what came of it.
+#[derive(Clone, Copy, Debug)]
+pub struct CommandLine<'a> {
+    pub number: u32,
+    pub outcome: &'a Outcome,
+}
+
+impl fmt::Display for CommandLine<'_> {
+    ghost use Rattle.dy_script.specs.Outcomes.{command_text};
+
+    ghost output = { λ line. command_text line.number line.outcome.now };
+
+    fn fmt<W: fmt::Write>(&self, f: &mut fmt::Formatter<W>) -> fmt::Result {
+        write!(f, "{} {}", self.number, self.outcome)
+    }
+}
