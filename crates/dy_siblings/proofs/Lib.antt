@@ -1,0 +1,4 @@
+pub mod Dots
+pub mod Members
+pub mod Rising
+pub mod Walking

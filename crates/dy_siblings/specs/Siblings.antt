@@ -1,11 +1,11 @@
 -- Rows: the versions of one key of which none follows another.
-use Rattle.std.specs.Prelude.{◌≡◌, ℕ, ◌++◌, ◌<◌, ◌↔◌, ◌&&◌, not, nat_eq, Bool, true, false, List, [], ◌∷◌, Contains, refl}
+use Rattle.std.specs.Prelude.{◌≡◌, ℕ, ◌++◌, ◌↔◌, not, nat_eq, Bool, true, false, List, [], ◌∷◌, Contains, refl}
 use Rattle.std.specs.Cmp.Lexicographic.{pointwise}
-use Rattle.std.specs.List.{list_any, filter, All}
+use Rattle.std.specs.List.{list_any, filter, filter_map, All}
 use Rattle.std.specs.Coded.{Coded, code_by, coded×, coded_ℕ, coded_list}
 use Rattle.std.specs.FinSet as set
 use Rattle.dy_dots.specs.Dots.{DotNumbers, DotSet, same_dot, IsDotBefore}
-use Rattle.dy_siblings.specs.Versions.{VersionParts, IsVersion, history_of, in_history, version_code}
+use Rattle.dy_siblings.specs.Versions.{VersionParts, IsVersion, history_of, in_history, present, version_code}
 
 -- what a row is seen as: its key, and its versions in the order of their dots
 pub record Siblings : Type 0 where
@@ -46,6 +46,25 @@ merge s t = newest (s ++ t)
 abbrev pub context_of : List VersionParts → DotSet
 context_of [] = set.empty
 context_of (v ∷ vs) = set.union (history_of v) (context_of vs)
+
+-- the versions' own dots
+abbrev pub dots_of : List VersionParts → DotSet
+dots_of [] = set.empty
+dots_of (v ∷ vs) = set.insert (dots_of vs) v.dot
+
+-- the versions but that of the dot
+abbrev pub without : List VersionParts → DotNumbers → List VersionParts
+without vs d = filter (λ v. not (same_dot v.dot d)) vs
+
+-- the values that are present, each with its dot, in the order of the versions
+abbrev pub present_values : List VersionParts → List (DotNumbers × List ℕ)
+present_values vs = filter_map present vs
+
+-- where one of the versions precedes another, the past of the first lies in that of the other
+abbrev pub AreClosed : List VersionParts → Type 0
+AreClosed vs =
+    (u v : VersionParts) → Contains vs u → Contains vs v → set.contains v.past u.dot ≡ true →
+    (d : DotNumbers) → set.contains u.past d ≡ true → set.contains v.past d ≡ true
 
 -- the same versions, in whatever order
 abbrev pub IsSameRow : List VersionParts → List VersionParts → Type 0

@@ -1,5 +1,5 @@
 -- A version of a key, and its history.
-use Rattle.std.specs.Prelude.{◌≡◌, ℕ, ◌||◌, Bool, false, List, Option, refl}
+use Rattle.std.specs.Prelude.{◌≡◌, ℕ, ◌&&◌, ◌||◌, not, Bool, false, List, Option, option_map, refl}
 use Rattle.std.specs.Coded.{Coded, code_by, coded×, coded_ℕ, coded_list, coded_option}
 use Rattle.std.specs.FinSet as set
 use Rattle.dy_dots.specs.Dots.{DotNumbers, DotSet, dot_code, dot_set_code, same_dot}
@@ -27,6 +27,14 @@ in_history v d = same_dot v.dot d || set.contains v.past d
 -- one version causally precedes another: the other's past has its dot
 abbrev pub precedes : VersionParts → VersionParts → Bool
 precedes u v = set.contains v.past u.dot
+
+-- two versions are concurrent: neither's history has the dot of the other
+abbrev pub are_concurrent : VersionParts → VersionParts → Bool
+are_concurrent u v = not (in_history u v.dot) && not (in_history v u.dot)
+
+-- the value, where it is present, with the version's dot
+abbrev pub present : VersionParts → Option (DotNumbers × List ℕ)
+present v = option_map (λ value. (v.dot, value)) v.value
 
 abbrev pub version_code : Coded VersionParts
 version_code =

@@ -1,6 +1,8 @@
-ghost use Rattle.std.specs.Prelude.{◌≡◌, ◌++◌, [], ◌∷◌, IfOk, OnErr, IsOkUnless};
+ghost use Rattle.std.specs.Prelude.{◌≡◌, ◌++◌, ◌↔◌, map, [], ◌∷◌, IfOk, OnOk, OnErr, IsOkUnless, IsTrue};
 
 use crate::keys::Key;
+use crate::merging;
+use crate::values::Value;
 use crate::versions::Version;
 use dy_dots::{Context, Dot, Fault};
 use std::alloc::Global;
@@ -15,17 +17,19 @@ pub struct Row {
 }
 
 impl Model for Row {
-    ghost use Rattle.dy_siblings.specs.Siblings.{Siblings, siblings_code};
+    ghost use Rattle.dy_siblings.specs.Siblings.{Siblings, siblings_code, IsSiblingSet};
 
     ghost Value = { Siblings };
 
     ghost coded = { siblings_code };
 
     ghost view = { λ row. record { key = row.key; versions = row.versions.items } };
+
+    ghost invariant = { λ row. IsSiblingSet row.key row.versions.items };
 }
 
 impl Row {
-    ghost use Rattle.dy_siblings.specs.Siblings.{covers};
+    ghost use Rattle.dy_siblings.specs.Siblings.{AreOneByDot, IsSameRow, IsSiblingSet, covers, merge, context_of, dots_of, without, present_values};
 
     /// The row of the key that has no version. Takes no memory.
     pub fn new(alloc: Global, key: Key) -> Row
@@ -37,6 +41,17 @@ impl Row {
         }
     }
 
+    /// The row of the version's key that has this version alone.
+    pub fn of(alloc: Global, version: Version) -> Result<Row, Fault>
+        ensures ok { IfOk result (λ row. row ≡ record { key = version.key; versions = version ∷ [] }) }
+        ensures memory { IsOkUnless result Fault.OutOfMemory }
+    {
+        let key = version.key().try_clone(alloc)?;
+        let mut versions = Vec::new(alloc);
+        versions.push(version)?;
+        Ok(Row { key, versions })
+    }
+
     /// The key. Takes no memory.
     pub fn key(&self) -> &Key
         ensures { result.now ≡ self.now.key }
@@ -46,9 +61,17 @@ impl Row {
 
     /// The versions, in the order of their dots. Takes no memory.
     pub fn versions(&self) -> &[Version]
-        ensures { result.now ≡ self.now.versions }
+        ensures value { result.now ≡ self.now.versions }
+        ensures valid { IsSiblingSet self.now.key self.now.versions }
     {
         self.versions.as_slice()
+    }
+
+    /// Whether there is no version. Takes no memory.
+    pub fn is_empty(&self) -> bool
+        ensures { IsTrue result ↔ (self.now.versions ≡ []) }
+    {
+        self.versions.is_empty()
     }
 
     /// Whether a version's history has the dot. Takes no memory.
@@ -56,5 +79,65 @@ impl Row {
         ensures { result ≡ covers self.now.versions dot }
     {
         self.versions.iter().any(|version| version.covers(dot))
+    }
+
+    /// Keeps of the versions of both rows those whose dot lies in the past of none of them.
+    pub fn merge(&mut self, alloc: Global, other: &Row) -> Result<(), Fault>
+        requires one_key { self.old.key ≡ other.now.key }
+        requires agree { AreOneByDot (self.old.versions ++ other.now.versions) }
+        ensures ok { OnOk result (IsSameRow self.new.versions (merge self.old.versions other.now.versions)) }
+        ensures key { self.new.key ≡ self.old.key }
+        ensures err { OnErr result (self.new ≡ self.old) }
+        ensures memory { IsOkUnless result Fault.OutOfMemory }
+    {
+        self.versions = merging::merged(
+            alloc,
+            self.versions.as_slice(),
+            other.versions.as_slice(),
+        )?;
+        Ok(())
+    }
+
+    /// The union of the versions' histories.
+    pub fn context(&self, alloc: Global) -> Result<Context, Fault>
+        ensures ok { IfOk result (λ context. context ≡ context_of self.now.versions) }
+        ensures memory { IsOkUnless result Fault.OutOfMemory }
+    {
+        merging::context_of(alloc, self.versions.as_slice())
+    }
+
+    /// The versions' own dots.
+    pub fn dots(&self, alloc: Global) -> Result<Context, Fault>
+        ensures ok { IfOk result (λ dots. dots ≡ dots_of self.now.versions) }
+        ensures memory { IsOkUnless result Fault.OutOfMemory }
+    {
+        merging::dots_of(alloc, self.versions.as_slice())
+    }
+
+    /// Drops the version of the dot, where there is one. Takes no memory.
+    pub fn remove(&mut self, dot: Dot)
+        ensures key { self.new.key ≡ self.old.key }
+        ensures versions { self.new.versions ≡ without self.old.versions dot }
+    {
+        self.versions.retain(|version| !version.has_dot(dot));
+    }
+
+    /// The values that are present, each with its dot, in the order of the dots.
+    pub fn values(&self, alloc: Global) -> Result<Vec<(Dot, &Value)>, Fault>
+        ensures ok { IfOk result (λ values. map (λ p. (p.0, p.1.now)) values.items ≡ present_values self.now.versions) }
+        ensures memory { IsOkUnless result Fault.OutOfMemory }
+    {
+        merging::present_values(alloc, self.versions.as_slice())
+    }
+
+    /// A copy.
+    pub fn try_clone(&self, alloc: Global) -> Result<Row, Fault>
+        ensures ok { IfOk result (λ row. row ≡ self.now) }
+        ensures memory { IsOkUnless result Fault.OutOfMemory }
+    {
+        Ok(Row {
+            key: self.key.try_clone(alloc)?,
+            versions: merging::copied(alloc, self.versions.as_slice())?,
+        })
     }
 }

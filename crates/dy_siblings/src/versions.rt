@@ -1,4 +1,5 @@
-ghost use Rattle.std.specs.Prelude.{◌≡◌, IfOk, IsOkUnless, false};
+ghost use Rattle.std.specs.Prelude.{◌≡◌, ◌⊎◌, IfOk, IsOkUnless, option_copied, option_map, true, false};
+ghost use Rattle.dy_dots.specs.Dots.{IsDotBefore, same_dot};
 ghost use Rattle.std.specs.FinSet as set;
 
 use crate::keys::Key;
@@ -31,7 +32,7 @@ impl Model for Version {
 }
 
 impl Version {
-    ghost use Rattle.dy_siblings.specs.Versions.{in_history};
+    ghost use Rattle.dy_siblings.specs.Versions.{IsVersion, in_history, precedes, are_concurrent, present};
 
     /// The version of these parts. Takes no memory.
     pub fn new(key: Key, dot: Dot, past: Context, value: Option<Value>) -> Version
@@ -48,27 +49,32 @@ impl Version {
 
     /// The key that it is a version of. Takes no memory.
     pub fn key(&self) -> &Key
-        ensures { result.now ≡ self.now.key }
+        ensures value { result.now ≡ self.now.key }
+        ensures valid { IsVersion self.now }
     {
         &self.key
     }
 
     /// The dot that names it. Takes no memory.
     pub fn dot(&self) -> Dot
-        ensures { result ≡ self.now.dot }
+        ensures value { result ≡ self.now.dot }
+        ensures valid { IsVersion self.now }
     {
         self.dot
     }
 
     /// The dots that it causally follows; its own is not among them. Takes no memory.
     pub fn past(&self) -> &Context
-        ensures { result.now ≡ self.now.past }
+        ensures value { result.now ≡ self.now.past }
+        ensures valid { IsVersion self.now }
     {
         &self.past
     }
 
     /// What it stores; a deletion stores nothing. Takes no memory.
-    pub fn value(&self) -> Option<&Value> {
+    pub fn value(&self) -> Option<&Value>
+        ensures { option_copied result ≡ self.now.value }
+    {
         self.value.as_ref()
     }
 
@@ -77,6 +83,43 @@ impl Version {
         ensures { result ≡ in_history self.now dot }
     {
         self.dot == dot || self.past.contains(dot)
+    }
+
+    /// Whether the other causally follows this one. Takes no memory.
+    pub fn precedes(&self, other: &Version) -> bool
+        ensures { result ≡ precedes self.now other.now }
+    {
+        other.past.contains(self.dot)
+    }
+
+    /// Whether neither follows the other, and they are two. Takes no memory.
+    pub fn is_concurrent(&self, other: &Version) -> bool
+        ensures { result ≡ are_concurrent self.now other.now }
+    {
+        !self.covers(other.dot) && !other.covers(self.dot)
+    }
+
+    // What it stores, where it stores a value, with its dot.
+    pub(crate) fn present(&self) -> Option<(Dot, &Value)>
+        ensures { option_map (λ p. (p.0, p.1.now)) result ≡ present self.now }
+    {
+        self.value.as_ref().map(|value| (self.dot, value))
+    }
+
+    // Whether this is its dot.
+    pub(crate) fn has_dot(&self, dot: Dot) -> bool
+        ensures { result ≡ same_dot self.now.dot dot }
+    {
+        self.dot == dot
+    }
+
+    // Whether its dot comes before that of the other.
+    pub(crate) fn comes_before(&self, other: &Version) -> bool
+        ensures yes { result ≡ true → IsDotBefore self.now.dot other.now.dot }
+        ensures no { result ≡ false → IsDotBefore other.now.dot self.now.dot ⊎ (other.now.dot ≡ self.now.dot) }
+    {
+        let (dot, later) = (self.dot, other.dot);
+        dot.node() < later.node() || dot.node() == later.node() && dot.counter() < later.counter()
     }
 
     /// A copy.

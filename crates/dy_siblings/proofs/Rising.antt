@@ -1,0 +1,95 @@
+-- Versions in the order of their dots.
+use Rattle.std.proofs.Common.{◌≡◌, ℕ, Bool, true, false, ◌||◌, cond, List, [], ◌∷◌, ◌++◌, refl, ap, ◌∙◌, inl, inr, arith}
+use Rattle.std.specs.List.{list_any, filter}
+use Rattle.std.specs.FinSet as set
+use Rattle.std.proofs.lemmas.Bool.{true≢false}
+use Rattle.std.proofs.lemmas.List.Elements.{All-filter, All-weaker}
+use Rattle.dy_dots.specs.Dots.{DotNumbers, IsDotBefore}
+use Rattle.dy_siblings.specs.Versions.{VersionParts, IsVersion}
+use Rattle.dy_siblings.specs.Merging.{IsFirst}
+use Rattle.dy_siblings.specs.Siblings.{Rise, RiseAfter, IsSiblingSet, is_past}
+
+pub before_trans : (a b c : DotNumbers) → IsDotBefore a b → IsDotBefore b c → IsDotBefore a c
+before_trans a b c (inl p) (inl q) = inl (omega arith)
+before_trans a b c (inl p) (inr q) = inl (omega (arith, q.0))
+before_trans a b c (inr p) (inl q) = inl (omega (arith, p.0))
+before_trans a b c (inr p) (inr q) = inr (p.0 ∙ q.0, omega (arith, p.1, q.1))
+
+pub before_not_self : (a : DotNumbers) → IsDotBefore a a → ⊥
+before_not_self a (inl p) = absurd (omega arith)
+before_not_self a (inr p) = absurd (omega (arith, p.1))
+
+-- a list that rises after a dot rises after each earlier one
+pub rise_earlier : (d e : DotNumbers) (vs : List VersionParts) → IsDotBefore d e → RiseAfter e vs → RiseAfter d vs
+rise_earlier d e [] before rise = tt
+rise_earlier d e (v ∷ vs) before rise = (before_trans d e v.dot before rise.0, rise.1)
+
+-- what rises after a dot rises
+pub tail_rises : (v : VersionParts) (vs : List VersionParts) → RiseAfter v.dot vs → Rise vs
+tail_rises v [] rise = tt
+tail_rises v (x ∷ xs) rise = rise.1
+
+-- a list that rises rises without one of its versions
+skip_after : (d : DotNumbers) (out : List VersionParts) (v : VersionParts) (l : List VersionParts) → RiseAfter d (out ++ v ∷ l) → RiseAfter d (out ++ l)
+skip_after d [] v l rise = rise_earlier d v.dot l rise.0 rise.1
+skip_after d (x ∷ xs) v l rise = (rise.0, skip_after x.dot xs v l rise.1)
+
+pub rise_skip : (out : List VersionParts) (v : VersionParts) (l : List VersionParts) → Rise (out ++ v ∷ l) → Rise (out ++ l)
+rise_skip [] v l rise = tail_rises v l rise
+rise_skip (x ∷ xs) v l rise = skip_after x.dot xs v l rise
+
+-- where v is the next after the others, and comes before the rest r, all of them rise
+first_after : (d : DotNumbers) (v : VersionParts) (r : List VersionParts) → RiseAfter d r → IsFirst v.dot r → RiseAfter v.dot r
+first_after d v [] rise first = tt
+first_after d v (x ∷ xs) rise first = (first, rise.1)
+
+first_rises : (v : VersionParts) (r : List VersionParts) → Rise r → IsFirst v.dot r → RiseAfter v.dot r
+first_rises v [] rise first = tt
+first_rises v (x ∷ xs) rise first = (first, rise)
+
+put_after : (d : DotNumbers) (out : List VersionParts) (v : VersionParts) (l r : List VersionParts) → RiseAfter d (out ++ v ∷ l) → RiseAfter d (out ++ r) → IsFirst v.dot r → RiseAfter d (out ++ v ∷ r)
+put_after d [] v l r left right first = (left.0, first_after d v r right first)
+put_after d (x ∷ xs) v l r left right first = (left.0, put_after x.dot xs v l r left.1 right.1 first)
+
+pub rise_put : (out : List VersionParts) (v : VersionParts) (l r : List VersionParts) → Rise (out ++ v ∷ l) → Rise (out ++ r) → IsFirst v.dot r → Rise (out ++ v ∷ r)
+rise_put [] v l r left right first = first_rises v r right first
+rise_put (x ∷ xs) v l r left right first = put_after x.dot xs v l r left right first
+
+module _ (p : VersionParts → Bool) where
+  filter_rises_after : (d : DotNumbers) (vs : List VersionParts) → RiseAfter d vs → RiseAfter d (filter p vs)
+  filter_rises_after d [] rise = tt
+  filter_rises_after d (v ∷ vs) rise =
+      go (p v) (filter_rises_after v.dot vs rise.1) (filter_rises_after d vs (rise_earlier d v.dot vs rise.0 rise.1))
+    where
+      go : (b : Bool) → RiseAfter v.dot (filter p vs) → RiseAfter d (filter p vs) → RiseAfter d (cond b (v ∷ filter p vs) (filter p vs))
+      go true kept left = (rise.0, kept)
+      go false kept left = left
+
+  pub filter_rises : (vs : List VersionParts) → Rise vs → Rise (filter p vs)
+  filter_rises [] rise = tt
+  filter_rises (v ∷ vs) rise = go (p v) (filter_rises_after v.dot vs rise) (filter_rises vs (tail_rises v vs rise))
+    where
+      go : (b : Bool) → RiseAfter v.dot (filter p vs) → Rise (filter p vs) → Rise (cond b (v ∷ filter p vs) (filter p vs))
+      go true kept left = kept
+      go false kept left = left
+
+  pub any_of_filter : (t : VersionParts → Bool) (vs : List VersionParts) → list_any t vs ≡ false → list_any t (filter p vs) ≡ false
+  any_of_filter t [] none = refl
+  any_of_filter t (v ∷ vs) none = go (p v) (t v) refl none (any_of_filter t vs)
+    where
+      go : (b c : Bool) → t v ≡ c → (c || list_any t vs) ≡ false → (list_any t vs ≡ false → list_any t (filter p vs) ≡ false) → list_any t (cond b (v ∷ filter p vs) (filter p vs)) ≡ false
+      go b true is e later = absurd (true≢false e)
+      go true false is e later = ap (λ x. x || list_any t (filter p vs)) is ∙ later e
+      go false false is e later = later e
+
+-- the versions that are left once some are taken out are still a sibling set
+pub filter_siblings : (p : VersionParts → Bool) (key : List ℕ) (vs : List VersionParts) → IsSiblingSet key vs → IsSiblingSet key (filter p vs)
+filter_siblings p key vs s = record {
+  of_key = All-filter p (λ v. v.key ≡ key) vs s.of_key;
+  each_lacks = All-filter p IsVersion vs s.each_lacks;
+  rise = filter_rises p vs s.rise;
+  none_past =
+      All-weaker (λ v. is_past vs v.dot ≡ false) (λ v. is_past (filter p vs) v.dot ≡ false)
+      (λ v none. any_of_filter p (λ u. set.contains u.past v.dot) vs none)
+      (filter p vs) (All-filter p (λ v. is_past vs v.dot ≡ false) vs s.none_past);
+}

@@ -1,0 +1,141 @@
+ghost use Rattle.std.specs.Prelude.{◌≡◌, ◌||◌, ◌++◌, map, IfOk, IfSome, IfNone, OnOk, IsOkUnless, []};
+ghost use Rattle.std.specs.FinSet as set;
+ghost use Rattle.dy_siblings.specs.Merging.{IsMerge, IsNext, IsUnionOutside, with_pasts, with_histories, with_dots};
+ghost use Rattle.dy_siblings.specs.Siblings.{AreOneByDot, Rise, present_values};
+
+use crate::values::Value;
+use crate::versions::Version;
+use dy_dots::{Context, Dot, Fault};
+use std::alloc::Global;
+
+/// Adds the versions' pasts.
+fn add_pasts(alloc: Global, past: &mut Context, versions: &[Version]) -> Result<(), Fault>
+    ensures ok { OnOk result (past.new ≡ with_pasts past.old versions.now) }
+    ensures memory { IsOkUnless result Fault.OutOfMemory }
+{
+    for version in versions {
+        past.union(alloc, version.past())?;
+    }
+    Ok(())
+}
+
+/// The version whose dot comes first of the first ones of two lists, and what is left of both.
+fn split_next<'a>(
+    a: &'a [Version],
+    b: &'a [Version],
+) -> Option<(&'a Version, &'a [Version], &'a [Version])>
+    ensures some { IfSome result (λ p. IsNext a.now b.now p.0.now p.1.now p.2.now) }
+    ensures none { IfNone result ((a.now ≡ []) × (b.now ≡ [])) }
+{
+    match (a.split_first(), b.split_first()) {
+        (None, None) => None,
+        (Some((version, rest)), None) => Some((version, rest, b)),
+        (None, Some((version, rest))) => Some((version, a, rest)),
+        (Some((version, rest)), Some((other, others))) => {
+            if version.comes_before(other) {
+                Some((version, rest, b))
+            } else if other.comes_before(version) {
+                Some((other, a, others))
+            } else {
+                Some((version, rest, others))
+            }
+        }
+    }
+}
+
+/// Copies of the versions of both lists whose dot the set lacks, in the order of their dots.
+fn union_outside(
+    alloc: Global,
+    past: &Context,
+    a: &[Version],
+    b: &[Version],
+) -> Result<Vec<Version>, Fault>
+    requires a_rises { Rise a.now }
+    requires b_rises { Rise b.now }
+    requires agree { AreOneByDot (a.now ++ b.now) }
+    ensures ok { IfOk result (λ kept. IsUnionOutside past.now a.now b.now kept.items) }
+    ensures memory { IsOkUnless result Fault.OutOfMemory }
+{
+    let mut kept = Vec::new(alloc);
+    let mut left = a;
+    let mut right = b;
+    while let Some((next, left_rest, right_rest)) = split_next(left, right) {
+        left = left_rest;
+        right = right_rest;
+        if !past.contains(next.dot()) {
+            kept.push(next.try_clone(alloc)?)?;
+        }
+    }
+    Ok(kept)
+}
+
+/// Copies of the versions of both lists whose dot lies in the past of none, in the order of their
+/// dots.
+pub(crate) fn merged(alloc: Global, a: &[Version], b: &[Version]) -> Result<Vec<Version>, Fault>
+    requires a_rises { Rise a.now }
+    requires b_rises { Rise b.now }
+    requires agree { AreOneByDot (a.now ++ b.now) }
+    ensures ok { IfOk result (λ kept. IsMerge a.now b.now kept.items) }
+    ensures memory { IsOkUnless result Fault.OutOfMemory }
+{
+    let mut past = Context::new(alloc);
+    add_pasts(alloc, &mut past, a)?;
+    add_pasts(alloc, &mut past, b)?;
+    union_outside(alloc, &past, a, b)
+}
+
+/// Copies of the versions.
+pub(crate) fn copied(alloc: Global, versions: &[Version]) -> Result<Vec<Version>, Fault>
+    ensures ok { IfOk result (λ copies. copies.items ≡ versions.now) }
+    ensures memory { IsOkUnless result Fault.OutOfMemory }
+{
+    let mut copies = Vec::with_capacity(alloc, versions.len())?;
+    for version in versions {
+        copies.push(version.try_clone(alloc)?)?;
+    }
+    Ok(copies)
+}
+
+/// The union of the versions' histories.
+pub(crate) fn context_of(alloc: Global, versions: &[Version]) -> Result<Context, Fault>
+    ensures ok { IfOk result (λ context. context ≡ with_histories set.empty versions.now) }
+    ensures memory { IsOkUnless result Fault.OutOfMemory }
+{
+    let mut context = Context::new(alloc);
+    for version in versions {
+        context.union(alloc, version.past())?;
+        context.insert(version.dot())?;
+    }
+    Ok(context)
+}
+
+/// The versions' own dots.
+pub(crate) fn dots_of(alloc: Global, versions: &[Version]) -> Result<Context, Fault>
+    ensures ok { IfOk result (λ dots. dots ≡ with_dots set.empty versions.now) }
+    ensures memory { IsOkUnless result Fault.OutOfMemory }
+{
+    let mut dots = Context::new(alloc);
+    for version in versions {
+        dots.insert(version.dot())?;
+    }
+    Ok(dots)
+}
+
+/// The values that are present, each with its dot, in the order of the versions.
+pub(crate) fn present_values(
+    alloc: Global,
+    versions: &[Version],
+) -> Result<Vec<(Dot, &Value)>, Fault>
+    ensures ok { IfOk result (λ values. map (λ p. (p.0, p.1.now)) values.items ≡ present_values versions.now) }
+    ensures memory { IsOkUnless result Fault.OutOfMemory }
+{
+    let mut values = Vec::new(alloc);
+    for version in versions {
+        if let Some(value) = version.value() {
+            if values.push((version.dot(), value)).is_err() {
+                return Err(Fault::OutOfMemory);
+            }
+        }
+    }
+    Ok(values)
+}
