@@ -1,0 +1,4 @@
+pub mod Deriving
+pub mod ListLemmas
+pub mod Making
+pub mod Searching

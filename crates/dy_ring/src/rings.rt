@@ -1,8 +1,13 @@
-ghost use Rattle.std.specs.Prelude.{◌≡◌, ◌≤◌, ◌<◌, length};
-ghost use Rattle.dy_ring.specs.Rings.{position_of};
-ghost use Rattle.dy_dots.specs.declared.nodes.TheConstants.{MAX_NODES};
+ghost use Rattle.std.specs.Prelude.{◌≡◌, ◌≤◌, ◌<◌, ◌↔◌, ◌⊎◌, ◌^◌, ℕ, false, length, map, take, drop, IsTrue, IfOk, IfErr, IsErrOf, IsOkUnless};
+ghost use Rattle.std.specs.List.{All};
+ghost use Rattle.dy_ring.specs.Lists.{IsLeast, IsFilled, IsRingOf, has_too_many, lacks_token, has_clash, derived_lists};
+ghost use Rattle.dy_ring.specs.Rings.{IsRing, position_of};
 
-use dy_dots::{Fault, MAX_NODES, NodeId};
+use crate::givens::{
+    are_too_many, derives_none, derives_too_many, first_clash, first_without, lists_of, pairs_of,
+    sort,
+};
+use dy_dots::{Fault, NodeId};
 use dy_siblings::Key;
 use md5::{Digest, Md5};
 use std::alloc::Global;
@@ -19,32 +24,48 @@ pub struct Ring {
 }
 
 impl Model for Ring {
-    ghost use Rattle.dy_ring.specs.Rings.{Tokens, tokens_code};
+    ghost use Rattle.dy_ring.specs.Rings.{IsRing, Tokens, tokens_code};
 
     ghost Value = { Tokens };
 
     ghost coded = { tokens_code };
 
     ghost view = { λ ring. record { nodes = ring.nodes; tokens = ring.tokens.items } };
+
+    ghost invariant = { λ ring. IsRing (record { nodes = ring.nodes; tokens = ring.tokens.items }) };
 }
 
 impl Ring {
     /// The ring in which each node has the tokens of its list, node 0 first.
-    pub fn from_tokens(alloc: Global, lists: &[Vec<u128>]) -> Result<Ring, Fault> {
-        let too_long = lists.iter().any(|list| list.len() > MAX_TOKENS_PER_NODE);
-        if lists.len() > MAX_NODES as usize || too_long {
+    pub fn from_tokens(alloc: Global, lists: &[Vec<u128>]) -> Result<Ring, Fault>
+        ensures ok { IfOk result (λ ring. IsRingOf (map (λ list. list.items) lists.now) ring) }
+        ensures too_many { IsErrOf result Fault.TooMany ↔ IsTrue (has_too_many (map (λ list. list.items) lists.now)) }
+        ensures without { let given = map (λ list. list.items) lists.now in
+            (node : ℕ)
+            → IsErrOf result (Fault.NodeWithoutToken node)
+            ↔ ((has_too_many given ≡ false) × IsLeast (lacks_token given) node) }
+        ensures clash { let given = map (λ list. list.items) lists.now in
+            (position : ℕ)
+            → IsErrOf result (Fault.TokenClash position)
+            → IsFilled given × IsLeast (has_clash given) position }
+        ensures told { let given = map (λ list. list.items) lists.now in
+            (position : ℕ)
+            → IsFilled given
+            → IsLeast (has_clash given) position
+            → IsErrOf result (Fault.TokenClash position) ⊎ IsErrOf result Fault.OutOfMemory }
+        ensures memory { let given = map (λ list. list.items) lists.now in
+            IsFilled given
+            → ((position : ℕ) → has_clash given position ≡ false)
+            → IsOkUnless result Fault.OutOfMemory }
+    {
+        if are_too_many(lists) {
             return Err(Fault::TooMany);
         }
         if let Some(node) = first_without(lists) {
             return Err(Fault::NodeWithoutToken { node });
         }
-        let mut tokens = Vec::new(alloc);
-        for (number, list) in lists.iter().enumerate() {
-            for position in list {
-                tokens.push((*position, NodeId::nth(number)))?;
-            }
-        }
-        tokens.sort()?;
+        let mut tokens = pairs_of(alloc, lists)?;
+        sort(&mut tokens);
         if let Some(position) = first_clash(tokens.as_slice()) {
             return Err(Fault::TokenClash { position });
         }
@@ -54,49 +75,71 @@ impl Ring {
         })
     }
 
+    /// The ring in which each node has so many tokens, each the position of the node's number in
+    /// decimal, `#`, and the token's, both from 0.
+    pub fn derived(alloc: Global, nodes: u8, per_node: u8) -> Result<Ring, Fault>
+        ensures ok { IfOk result (λ ring. IsRingOf (derived_lists nodes per_node) ring) }
+        ensures too_many { IsErrOf result Fault.TooMany ↔ IsTrue (has_too_many (derived_lists nodes per_node)) }
+        ensures without { let given = derived_lists nodes per_node in
+            (node : ℕ)
+            → IsErrOf result (Fault.NodeWithoutToken node)
+            ↔ ((has_too_many given ≡ false) × IsLeast (lacks_token given) node) }
+        ensures clash { let given = derived_lists nodes per_node in
+            (position : ℕ)
+            → IsErrOf result (Fault.TokenClash position)
+            → IsFilled given × IsLeast (has_clash given) position }
+        ensures told { let given = derived_lists nodes per_node in
+            (position : ℕ)
+            → IsFilled given
+            → IsLeast (has_clash given) position
+            → IsErrOf result (Fault.TokenClash position) ⊎ IsErrOf result Fault.OutOfMemory }
+        ensures memory { let given = derived_lists nodes per_node in
+            IsFilled given
+            → ((position : ℕ) → has_clash given position ≡ false)
+            → IsOkUnless result Fault.OutOfMemory }
+    {
+        if derives_too_many(nodes, per_node) {
+            return Err(Fault::TooMany);
+        }
+        if derives_none(nodes, per_node) {
+            return Err(Fault::NodeWithoutToken {
+                node: NodeId::nth(0),
+            });
+        }
+        let lists = lists_of(alloc, nodes, per_node)?;
+        Ring::from_tokens(alloc, lists.as_slice())
+    }
+
     /// How many nodes it has. Takes no memory.
     pub fn nodes(&self) -> u8
-        ensures { result ≡ self.now.nodes }
+        ensures value { result ≡ self.now.nodes }
+        ensures valid { IsRing self.now }
     {
         self.nodes
     }
 
     /// Each token's position and its node, in rising position. Takes no memory.
     pub fn tokens(&self) -> &[(u128, NodeId)]
-        ensures { result.now ≡ self.now.tokens }
+        ensures value { result.now ≡ self.now.tokens }
+        ensures valid { IsRing self.now }
     {
         self.tokens.as_slice()
     }
 
+    /// How many tokens lie at the position or before. Takes no memory.
+    pub fn first_after(&self, position: u128) -> usize
+        ensures within { result ≤ length self.now.tokens }
+        ensures passed { All (λ t. t.0 ≤ position) (take result self.now.tokens) }
+        ensures ahead { All (λ t. position < t.0) (drop result self.now.tokens) }
+    {
+        self.tokens.partition_point(|token| token.0 <= position)
+    }
+
     /// Where the key lies: its MD5 digest as a number, the first byte the greatest. Takes no memory.
     pub fn position(key: &Key) -> u128
-        ensures { result ≡ position_of key.now }
+        ensures value { result ≡ position_of key.now }
+        ensures small { position_of key.now < 2 ^ 128 }
     {
         u128::from_be_bytes(Md5::digest(key.as_bytes()))
     }
-}
-
-/// The least node that has no token; no node at all counts as node 0 without one.
-fn first_without(lists: &[Vec<u128>]) -> Option<NodeId>
-    requires { length lists.now ≤ MAX_NODES }
-{
-    if lists.is_empty() {
-        return NodeId::new(0);
-    }
-    for (number, list) in lists.iter().enumerate() {
-        if list.is_empty() {
-            return Some(NodeId::nth(number));
-        }
-    }
-    None
-}
-
-/// The least position that two tokens share.
-fn first_clash(tokens: &[(u128, NodeId)]) -> Option<u128> {
-    for pair in tokens.windows(2) {
-        if pair[0].0 == pair[1].0 {
-            return Some(pair[0].0);
-        }
-    }
-    None
 }
