@@ -2,3 +2,4 @@ pub mod Dots
 pub mod Members
 pub mod Rising
 pub mod Walking
+pub mod Merges

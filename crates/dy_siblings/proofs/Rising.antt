@@ -1,13 +1,14 @@
 -- Versions in the order of their dots.
-use Rattle.std.proofs.Common.{◌≡◌, ℕ, Bool, true, false, ◌||◌, cond, List, [], ◌∷◌, ◌++◌, refl, ap, ◌∙◌, inl, inr, arith}
-use Rattle.std.specs.List.{list_any, filter}
+use Rattle.std.proofs.Common.{◌≡◌, ℕ, Bool, true, false, ◌||◌, cond, List, [], ◌∷◌, ◌++◌, refl, sym, ap, ◌∙◌, subst, inl, inr, ⊎_elim, arith}
+use Rattle.std.specs.List.{list_any, filter, Contains}
 use Rattle.std.specs.FinSet as set
 use Rattle.std.proofs.lemmas.Bool.{true≢false}
 use Rattle.std.proofs.lemmas.List.Elements.{All-filter, All-weaker}
 use Rattle.dy_dots.specs.Dots.{DotNumbers, IsDotBefore}
 use Rattle.dy_siblings.specs.Versions.{VersionParts, IsVersion}
 use Rattle.dy_siblings.specs.Merging.{IsFirst}
-use Rattle.dy_siblings.specs.Siblings.{Rise, RiseAfter, IsSiblingSet, is_past}
+use Rattle.dy_siblings.specs.Siblings.{Rise, RiseAfter, IsSameRow, IsSiblingSet, is_past}
+use Rattle.dy_siblings.proofs.Members.{not_in_nil, in_head, in_tail, in_cases}
 
 pub before_trans : (a b c : DotNumbers) → IsDotBefore a b → IsDotBefore b c → IsDotBefore a c
 before_trans a b c (inl p) (inl q) = inl (omega arith)
@@ -93,3 +94,48 @@ filter_siblings p key vs s = record {
       (λ v none. any_of_filter p (λ u. set.contains u.past v.dot) vs none)
       (filter p vs) (All-filter p (λ v. is_past vs v.dot ≡ false) vs s.none_past);
 }
+
+-- each version of a list that rises after a dot comes after it
+after_all : (d : DotNumbers) (vs : List VersionParts) → RiseAfter d vs → (v : VersionParts) → Contains vs v → IsDotBefore d v.dot
+after_all d [] rise v h = absurd (not_in_nil v h)
+after_all d (x ∷ xs) rise v h =
+    ⊎_elim
+    (λ same. subst (λ y. IsDotBefore d y.dot) (sym same) rise.0)
+    (λ later. before_trans d x.dot v.dot rise.0 (after_all x.dot xs rise.1 v later))
+    (in_cases x v xs h)
+
+not_both : (a b : DotNumbers) → IsDotBefore a b → IsDotBefore b a → ⊥
+not_both a b p q = before_not_self a (before_trans a b a p q)
+
+-- lists that rise and have the same versions are equal
+pub same_rising : (s t : List VersionParts) → Rise s → Rise t → IsSameRow s t → s ≡ t
+same_rising [] [] rise_s rise_t same = refl
+same_rising [] (y ∷ ys) rise_s rise_t same = absurd (not_in_nil y ((same y).1 (in_head y ys)))
+same_rising (x ∷ xs) [] rise_s rise_t same = absurd (not_in_nil x ((same x).0 (in_head x xs)))
+same_rising (x ∷ xs) (y ∷ ys) rise_s rise_t same =
+    (λ i. heads i ∷ same_rising xs ys (tail_rises x xs rise_s) (tail_rises y ys rise_t) (λ v. (forth v, back v)) i)
+  where
+    heads : x ≡ y
+    heads =
+        ⊎_elim
+        (λ e. e)
+        (λ x_later.
+        ⊎_elim
+        (λ e. sym e)
+        (λ y_later. absurd (not_both x.dot y.dot (after_all x.dot xs rise_s y y_later) (after_all y.dot ys rise_t x x_later)))
+        (in_cases x y xs ((same y).1 (in_head y ys))))
+        (in_cases y x ys ((same x).0 (in_head x xs)))
+
+    forth : (v : VersionParts) → Contains xs v → Contains ys v
+    forth v h =
+        ⊎_elim
+        (λ e. absurd (before_not_self x.dot (subst (λ z. IsDotBefore x.dot z.dot) (e ∙ sym heads) (after_all x.dot xs rise_s v h))))
+        (λ later. later)
+        (in_cases y v ys ((same v).0 (in_tail x v xs h)))
+
+    back : (v : VersionParts) → Contains ys v → Contains xs v
+    back v h =
+        ⊎_elim
+        (λ e. absurd (before_not_self y.dot (subst (λ z. IsDotBefore y.dot z.dot) (e ∙ heads) (after_all y.dot ys rise_t v h))))
+        (λ later. later)
+        (in_cases x v xs ((same v).1 (in_tail y v ys h)))

@@ -36,6 +36,10 @@ are_concurrent u v = not (in_history u v.dot) && not (in_history v u.dot)
 abbrev pub present : VersionParts → Option (DotNumbers × List ℕ)
 present v = option_map (λ value. (v.dot, value)) v.value
 
+-- the version, with what a function gives for its value
+abbrev pub with_value : (VersionParts → Option (List ℕ)) → VersionParts → VersionParts
+with_value value_of v = record { key = v.key; dot = v.dot; past = v.past; value = value_of v }
+
 abbrev pub version_code : Coded VersionParts
 version_code =
     code_by (List ℕ × (DotNumbers × (DotSet × Option (List ℕ))))
