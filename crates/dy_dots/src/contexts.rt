@@ -151,84 +151,8 @@ pub fn written_is_read_back()
 {}
 
 #[cfg(test)]
-mod tests {
-    use super::*;
-    use crate::nodes::NodeId;
-    use std::test::Fail;
-
-    #[test]
-    fn reads_texts(rt: HostRuntime) -> Result<(), Fail> {
-        let alloc = rt.alloc();
-        for text in ["-", "n0:1", "n0:1-3,5 n3:2", "n0:1-100000", "n31:1000000"] {
-            let context = Context::read_text(alloc, text)?;
-            let mut again = String::new(alloc);
-            context.write_text(alloc, &mut again)?;
-            assert_eq!(rt; again.as_str(), text);
-        }
-        for text in [
-            "",
-            "n0:1,2",
-            "n0:1-1",
-            "n0:2,1",
-            "n3:2 n0:1",
-            "n0:01",
-            "n0:0",
-            "n32:1",
-            "n0:1000001",
-            "n0:99999999999999999999",
-            "n0:1-100001",
-            "n0:1-50000 n1:1-50001",
-            "n0:1  n1:1",
-            "n0:1 ",
-            "n0:1-",
-            "n0:",
-            "n0",
-            "0:1",
-        ] {
-            let refused = match Context::read_text(alloc, text) {
-                Err(fault) => fault == Fault::ContextSyntax,
-                Ok(_) => false,
-            };
-            assert!(rt; refused, "{text:?}");
-        }
-        Ok(())
-    }
-
-    #[test]
-    fn joins_runs(rt: HostRuntime) -> Result<(), Fail> {
-        let alloc = rt.alloc();
-        let mut context = Context::read_text(alloc, "n0:1,3")?;
-        let node = NodeId::new(0).ok_or("a node")?;
-        context.insert(Dot::new(node, 2).ok_or("a dot")?)?;
-        let mut text = String::new(alloc);
-        context.write_text(alloc, &mut text)?;
-        assert_eq!(rt; text.as_str(), "n0:1-3");
-
-        let mut context = Context::read_text(alloc, "n0:1,5")?;
-        let other = Context::read_text(alloc, "n0:2-4 n3:2")?;
-        context.union(alloc, &other)?;
-        let mut text = String::new(alloc);
-        context.write_text(alloc, &mut text)?;
-        assert_eq!(rt; text.as_str(), "n0:1-5 n3:2");
-        assert!(rt; context.includes(&other));
-        assert!(rt; !other.includes(&context));
-        assert_eq!(rt; context.runs().len(), 2);
-        Ok(())
-    }
-
-    #[test]
-    fn spells_sets(rt: HostRuntime) -> Result<(), Fail> {
-        let alloc = rt.alloc();
-        let mut context = Context::new(alloc);
-        for (number, counter) in [(3, 2), (0, 5), (0, 1), (0, 3), (0, 2)] {
-            let node = NodeId::new(number).ok_or("a node")?;
-            let dot = Dot::new(node, counter).ok_or("a dot")?;
-            context.insert(dot)?;
-            assert!(rt; context.contains(dot));
-        }
-        let mut text = String::new(alloc);
-        context.write_text(alloc, &mut text)?;
-        assert_eq!(rt; text.as_str(), "n0:1-3,5 n3:2");
-        Ok(())
-    }
-}
+mod growths;
+#[cfg(test)]
+mod oracle;
+#[cfg(test)]
+mod tests;

@@ -66,3 +66,6 @@ impl fmt::Display for Dot {
         write!(f, "n{}:{}", self.node, self.counter)
     }
 }
+
+#[cfg(test)]
+mod tests;
