@@ -1,10 +1,10 @@
 -- Lists of runs.
-use Rattle.std.proofs.Common.{◌≡◌, ℕ, zero, suc, ◌+◌, ◌<◌, ◌≤◌, ◌==◌, Bool, true, false, ◌&&◌, ◌||◌, List, [], ◌∷◌, ◌++◌, take, drop, length, get_or, refl, sym, ap, ◌∙◌, inl, inr, ◌⊎◌, arith, max, take-append-drop, take_all, subst, drop-cons, set, insert, remove}
+use Rattle.std.proofs.Common.{◌≡◌, ℕ, zero, suc, ◌+◌, ◌<◌, ◌≤◌, Bool, true, false, ◌||◌, List, [], ◌∷◌, ◌++◌, take, drop, length, get_or, refl, sym, ap, ◌∙◌, inl, inr, ◌⊎◌, arith, max, take-append-drop, take_all, subst, drop-cons, set, insert, remove}
 use Rattle.std.proofs.lemmas.List.{get_or_read, drop_all}
 use Rattle.std.proofs.lemmas.Bool.Decides.{nat_tests}
 use Rattle.std.specs.List.{list_any}
 use Rattle.std.proofs.lemmas.List.Folds.{list_any-append, list_any_at}
-use Rattle.dy_dots.specs.Kinds.{single, joined, covers_run, IsBelow, IsReached, StartsBy, IsNext, Added}
+use Rattle.dy_dots.specs.Kinds.{single, joined, covers_run, IsBelow, IsReached, Added}
 use Rattle.dy_dots.specs.Runs.{in_run, in_runs, StartsFrom, RiseFrom, AreApart}
 use Rattle.dy_dots.specs.declared.dots.Dot.{Dot}
 use Rattle.dy_dots.specs.declared.runs.Run.{Run}

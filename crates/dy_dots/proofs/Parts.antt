@@ -1,12 +1,12 @@
 -- Whether the dots of one list of runs are another's.
-use Rattle.std.proofs.Common.{◌≡◌, ℕ, zero, suc, ◌+◌, ◌<◌, ◌≤◌, Bool, true, false, ◌&&◌, ◌||◌, List, [], ◌∷◌, refl, sym, ap, ◌∙◌, inl, inr, ◌⊎◌, arith, subst}
+use Rattle.std.proofs.Common.{◌≡◌, ◌+◌, ◌<◌, ◌≤◌, Bool, true, false, ◌||◌, List, [], ◌∷◌, refl, sym, ap, ◌∙◌, inr, arith, subst}
 use Rattle.std.proofs.lemmas.Bool.{true≢false}
 use Rattle.std.proofs.lemmas.Bool.Decides.{nat_tests}
 use Rattle.dy_dots.specs.Kinds.{single, covers_run, IsBelow, IsReached}
-use Rattle.dy_dots.specs.Runs.{in_run, in_runs, StartsFrom, RiseFrom, AreApart, HasAll}
+use Rattle.dy_dots.specs.Runs.{in_run, in_runs, RiseFrom, AreApart, HasAll}
 use Rattle.dy_dots.specs.declared.dots.Dot.{Dot}
 use Rattle.dy_dots.specs.declared.runs.Run.{Run}
-use Rattle.dy_dots.proofs.Lists.{IsBefore, IsOutside, none_before, rise_earlier, starts_zero, uncovered, covers_each, itself}
+use Rattle.dy_dots.proofs.Lists.{IsOutside, none_before, starts_zero, uncovered, covers_each, itself}
 use Rattle.dy_dots.proofs.Sets.{or_either}
 
 -- how far a comparison has come: what is left decides what was asked

@@ -1,6 +1,6 @@
 -- Every text of runs is read.
-use Rattle.std.proofs.Common.{◌≡◌, ℕ, zero, suc, ◌+◌, ◌-◌, ◌*◌, ◌/◌, ◌%◌, ◌^◌, ◌<◌, ◌≤◌, ◌==◌, Bool, true, false, not, cond, ◌&&◌, ◌||◌, List, [], ◌∷◌, ◌++◌, refl, sym, ap, ◌∙◌, arith, nat_lt, nat_le, nat_eq, subst, Option, Some, None, codes, decimal, append_assoc, if◌then◌else◌, Result, Ok, Err, IfOk, IfErr, inl, inr, ◌⊎◌}
-use Rattle.std.proofs.lemmas.Bool.{not-true, not-false, eqb-true, lt-ltb, le-leb, le-ltb, lt-leb, eq-eqb}
+use Rattle.std.proofs.Common.{◌≡◌, ℕ, ◌+◌, ◌-◌, ◌*◌, ◌/◌, ◌%◌, ◌≤◌, ◌==◌, Bool, true, false, not, List, [], ◌∷◌, ◌++◌, refl, sym, ap, ◌∙◌, arith, nat_eq, subst, Option, Some, None, codes, decimal, append_assoc, if◌then◌else◌, Result, Ok, Err, IfOk, IfErr, inl, inr, ◌⊎◌}
+use Rattle.std.proofs.lemmas.Bool.{not-true, not-false, eqb-true, lt-ltb, le-leb}
 use Rattle.std.proofs.lemmas.Fmt.{decimal_by_steps}
 use Rattle.std.specs.FinSet as set
 use Rattle.std.specs.Cmp.Lexicographic.{pointwise, bytes_decides}
@@ -8,7 +8,7 @@ use Rattle.dy_dots.specs.Dots.{DotSet}
 use Rattle.dy_dots.specs.Runs.{AreKept, AreRunsOf, set_of}
 use Rattle.dy_dots.specs.Spelling.{run_to, read_from, read_runs, run_text, later_text, runs_text, Spells, IsReadable, IsFound, IsRefused, all_allowed}
 use Rattle.dy_dots.specs.declared.faults.Fault.{Fault}
-use Rattle.dy_dots.specs.declared.faults.Fault.TheVariants.{OutOfMemory, ContextSyntax}
+use Rattle.dy_dots.specs.declared.faults.Fault.TheVariants.{OutOfMemory}
 use Rattle.dy_dots.specs.declared.runs.Run.{Run}
 use Rattle.dy_dots.proofs.Sets.{set_of_is, runs_are}
 use Rattle.dy_dots.proofs.Sizes.{IsSmall, AreSmall, smalls_of, readable_runs, own_runs, allowed_kept, allowed_readable, kept_dots}

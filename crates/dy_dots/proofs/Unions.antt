@@ -1,12 +1,11 @@
 -- Two lists of runs made one.
-use Rattle.std.proofs.Common.{◌≡◌, ℕ, zero, suc, ◌+◌, ◌<◌, ◌≤◌, Bool, true, false, ◌&&◌, ◌||◌, List, [], ◌∷◌, ◌++◌, refl, sym, ap, ◌∙◌, inl, inr, ◌⊎◌, arith, max, subst}
-use Rattle.std.specs.List.{list_any}
+use Rattle.std.proofs.Common.{◌≡◌, ℕ, ◌+◌, ◌≤◌, Bool, true, false, ◌||◌, List, [], ◌∷◌, ◌++◌, refl, sym, ap, ◌∙◌, inl, inr, arith, subst}
 use Rattle.std.proofs.lemmas.List.Folds.{list_any-append}
 use Rattle.dy_dots.specs.Kinds.{joined, IsBelow, IsReached, StartsBy, IsNext}
 use Rattle.dy_dots.specs.Runs.{in_run, in_runs, StartsFrom, RiseFrom, AreApart}
 use Rattle.dy_dots.specs.declared.dots.Dot.{Dot}
 use Rattle.dy_dots.specs.declared.runs.Run.{Run}
-use Rattle.dy_dots.proofs.Lists.{rise_earlier, in_joined, starts_zero, or_assoc, or_false, or_swapped}
+use Rattle.dy_dots.proofs.Lists.{rise_earlier, in_joined, or_assoc, or_false}
 
 rise_by : (n c : ℕ) (r : Run) (rs : List Run) → RiseFrom n c rs → StartsBy r rs → RiseFrom r.node r.first rs
 rise_by n c r [] rise by = tt

@@ -42,13 +42,22 @@ fn survive_a_refused_growth(rt: HostRuntime) -> Result<(), Fail> {
         assert_eq!(rt; written(alloc, &context)?.as_str(), before);
         context.insert(dot)?;
     }
-    assert_eq!(rt; written(alloc, &context)?.as_str(), "n0:1,3,5,7,9 n1:1,3,5,7");
+    assert_eq!(rt;
+        written(alloc, &context)?.as_str(),
+        "n0:1,3,5,7,9 n1:1,3,5,7"
+    );
 
     let other = read(alloc, "n0:2,11 n2:1")?;
     if context.union(alloc, &other).is_err() {
-        assert_eq!(rt; written(alloc, &context)?.as_str(), "n0:1,3,5,7,9 n1:1,3,5,7");
+        assert_eq!(rt;
+            written(alloc, &context)?.as_str(),
+            "n0:1,3,5,7,9 n1:1,3,5,7"
+        );
         context.union(alloc, &other)?;
     }
-    assert_eq!(rt; written(alloc, &context)?.as_str(), "n0:1-3,5,7,9,11 n1:1,3,5,7 n2:1");
+    assert_eq!(rt;
+        written(alloc, &context)?.as_str(),
+        "n0:1-3,5,7,9,11 n1:1,3,5,7 n2:1"
+    );
     Ok(())
 }

@@ -7,13 +7,16 @@ use crate::nodes::NodeId;
 use std::test::Fail;
 
 const NODES: u8 = 3;
+
 const COUNTERS: u32 = 8;
 
 /// The next number below the bound, by a linear congruential generator.
 fn draw(state: &mut u64, bound: u64) -> u64
     requires { 0 < bound }
 {
-    *state = state.wrapping_mul(6_364_136_223_846_793_005).wrapping_add(1_442_695_040_888_963_407);
+    *state = state
+        .wrapping_mul(6_364_136_223_846_793_005)
+        .wrapping_add(1_442_695_040_888_963_407);
     (*state >> 33) % bound
 }
 
@@ -142,8 +145,15 @@ fn agrees_with_lists_of_dots(rt: HostRuntime) -> Result<(), Fail> {
         let other = Context::read_text(alloc, text.as_str())?;
 
         assert_eq!(rt; written(alloc, &other)?.as_str(), text.as_str());
-        assert_eq!(rt; written(alloc, &context)?.as_str(), plain_text(alloc, dots.as_slice())?.as_str());
-        assert_eq!(rt; dots_of(alloc, &context)?.as_slice(), dots.as_slice(), "{text}");
+        assert_eq!(rt;
+            written(alloc, &context)?.as_str(),
+            plain_text(alloc, dots.as_slice())?.as_str()
+        );
+        assert_eq!(rt;
+            dots_of(alloc, &context)?.as_slice(),
+            dots.as_slice(),
+            "{text}"
+        );
         assert_eq!(rt; context.len(), dots.len(), "{text}");
         assert_eq!(rt; context.is_empty(), dots.is_empty(), "{text}");
         for dot in all.as_slice() {
@@ -156,8 +166,16 @@ fn agrees_with_lists_of_dots(rt: HostRuntime) -> Result<(), Fail> {
         let copy = context.try_clone(alloc)?;
         context.union(alloc, &other)?;
         let together = both(alloc, dots.as_slice(), others.as_slice())?;
-        assert_eq!(rt; dots_of(alloc, &context)?.as_slice(), together.as_slice(), "{text}");
-        assert_eq!(rt; dots_of(alloc, &copy)?.as_slice(), dots.as_slice(), "{text}");
+        assert_eq!(rt;
+            dots_of(alloc, &context)?.as_slice(),
+            together.as_slice(),
+            "{text}"
+        );
+        assert_eq!(rt;
+            dots_of(alloc, &copy)?.as_slice(),
+            dots.as_slice(),
+            "{text}"
+        );
     }
     Ok(())
 }

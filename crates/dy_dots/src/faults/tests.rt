@@ -12,7 +12,10 @@ fn prints_each_refusal(rt: HostRuntime) -> Result<(), Fail> {
         (Fault::ContextSyntax, "E1 ContextSyntax"),
         (Fault::KeySize, "E2 KeySize"),
         (Fault::ValueSize, "E3 ValueSize"),
-        (Fault::TokenClash { position }, "E4 TokenClash 20000000000000000000000000000000"),
+        (
+            Fault::TokenClash { position },
+            "E4 TokenClash 20000000000000000000000000000000",
+        ),
         (Fault::NodeWithoutToken { node }, "E5 NodeWithoutToken 2"),
         (Fault::TooMany, "E6 TooMany"),
         (Fault::CounterFull, "E7 CounterFull"),
@@ -31,6 +34,9 @@ fn prints_each_refusal(rt: HostRuntime) -> Result<(), Fail> {
         assert_eq!(rt; fault.to_string(alloc)?.as_str(), text);
     }
     let least = Fault::TokenClash { position: 10 };
-    assert_eq!(rt; least.to_string(alloc)?.as_str(), "E4 TokenClash 0000000000000000000000000000000a");
+    assert_eq!(rt;
+        least.to_string(alloc)?.as_str(),
+        "E4 TokenClash 0000000000000000000000000000000a"
+    );
     Ok(())
 }

@@ -1,6 +1,6 @@
-use Rattle.std.proofs.Common.{ℕ, sym, ap, ◌∙◌, ◌≡◌, ◌<◌, ◌≤◌, ◌+◌, arith, rules, refl, inl, inr, subst, get_or, length, slice_set, remove, vec_len}
+use Rattle.std.proofs.Common.{ℕ, sym, ap, ◌∙◌, ◌≡◌, ◌<◌, ◌≤◌, ◌+◌, arith, refl, inl, inr, subst, get_or, length, slice_set, vec_len}
 use Rattle.std.proofs.lemmas.List.{get_or_read}
-use Rattle.dy_dots.specs.Kinds.{IsReached, IsBelow, Added, joined}
+use Rattle.dy_dots.specs.Kinds.{IsReached, IsBelow, Added}
 use Rattle.dy_dots.proofs.Lists.{add_alone, add_last, add_before, add_present, add_after, add_closing}
 use Rattle.dy_dots.proofs.runs.add.Goals as goal
 

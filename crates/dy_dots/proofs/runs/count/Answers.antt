@@ -1,4 +1,4 @@
-use Rattle.std.proofs.Common.{arith, rules, ◌≡◌, ◌+◌, ◌-◌, ◌≤◌, ◌<◌, drop, length, sym}
+use Rattle.std.proofs.Common.{arith, rules, ◌≡◌, ◌+◌, ◌-◌, ◌≤◌, drop}
 use Rattle.dy_dots.specs.Runs.{count_of}
 use Rattle.dy_dots.proofs.Lists.{valid_at}
 use Rattle.dy_dots.proofs.Sizes.{count_at, count_small}

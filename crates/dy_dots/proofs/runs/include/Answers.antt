@@ -1,6 +1,5 @@
-use Rattle.std.proofs.Common.{sym, ◌∙◌, ◌≡◌, ◌∷◌, List, [], length, refl}
+use Rattle.std.proofs.Common.{sym, ◌∙◌}
 use Rattle.std.proofs.lemmas.List.{nil_from_length}
-use Rattle.dy_dots.specs.declared.runs.Run.{Run}
 use Rattle.dy_dots.proofs.Parts.{compares_covered, compares_below, compares_empty, compares_missing}
 use Rattle.dy_dots.proofs.runs.include.Goals as goal
 

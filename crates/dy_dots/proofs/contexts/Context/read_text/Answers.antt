@@ -1,4 +1,4 @@
-use Rattle.std.proofs.Common.{◌≡◌, ap, ◌∙◌, sym, rules, inl, inr, refl, true, false, ◌⊎◌}
+use Rattle.std.proofs.Common.{ap, ◌∙◌, sym, inl, inr, refl, ◌⊎◌}
 use Rattle.dy_dots.specs.Spelling.{all_allowed, runs_text, read_runs}
 use Rattle.dy_dots.proofs.Sizes.{allowed_kept}
 use Rattle.dy_dots.proofs.Readings.{not_dash, found_empty, refused_unread, refused_unfit, refused_other, found_runs, same_text, other_text}
