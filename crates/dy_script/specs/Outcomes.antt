@@ -1,8 +1,9 @@
 -- The lines that tell what came of commands.
-use Rattle.std.specs.Prelude.{ℕ, List, [], ◌∷◌, ◌++◌, codes, decimal, string_bytes, Option, Some, None, option_map}
-use Rattle.std.specs.List.{flat_map}
+use Rattle.std.specs.Prelude.{ℕ, List, [], ◌∷◌, ◌++◌, codes, decimal, string_bytes, Option, Some, None, option_map, is_some, Bool, if◌then◌else◌}
+use Rattle.std.specs.List.{flat_map, list_any}
 use Rattle.dy_dots.specs.Dots.{dot_text}
 use Rattle.dy_dots.specs.declared.dots.Dot.{Dot}
+use Rattle.dy_siblings.specs.declared.versions.Version.{Version}
 use Rattle.dy_script.specs.Texts.{hex_text}
 use Rattle.dy_script.specs.Places.{places_text, stored_text}
 use Rattle.dy_script.specs.declared.outcomes.Word.{Word}
@@ -21,21 +22,25 @@ word_text Deliver = codes "deliver"
 word_text Handoff = codes "handoff"
 word_text Show = codes "show"
 
--- a value stands behind its dot, in hexadecimal digits
-abbrev pub value_text : Dot × List ℕ → List ℕ
-value_text v = codes " " ++ dot_text v.0 ++ codes "=" ++ hex_text v.1
+-- whether the version stores a value
+abbrev pub is_present : Version → Bool
+is_present v = is_some v.value
 
--- the values in their order, or none
-abbrev pub values_text : List (Dot × List ℕ) → List ℕ
-values_text [] = codes " none"
-values_text (v ∷ vs) = flat_map value_text (v ∷ vs)
+-- a value stands behind its dot, in hexadecimal digits; a deletion has none
+abbrev pub value_text : Dot → Option (List ℕ) → List ℕ
+value_text dot None = []
+value_text dot (Some value) = codes " " ++ dot_text dot ++ codes "=" ++ hex_text value
+
+-- the values that are present, in the order of the versions, or none
+abbrev pub values_text : List Version → List ℕ
+values_text vs = if list_any is_present vs then flat_map (λ v. value_text v.dot v.value) vs else codes " none"
 
 -- what came of a command; nothing is said of a refusal's text
 abbrev pub outcome_text : Outcome → Option (List ℕ)
 outcome_text (Stored word dot places) =
     Some (word_text word ++ codes " ok " ++ dot_text dot ++ codes " answers" ++ stored_text places.items)
-outcome_text (Read context «from» values) =
-    Some (codes "get ok context " ++ string_bytes context ++ codes " from" ++ places_text «from».items ++ codes " values" ++ values_text values.items)
+outcome_text (Read context «from» row) =
+    Some (codes "get ok context " ++ string_bytes context ++ codes " from" ++ places_text «from».items ++ codes " values" ++ values_text row.versions)
 outcome_text (Refused word fault) = None
 
 -- the command's number, a blank, and what came of it

@@ -1,7 +1,11 @@
+ghost use Rattle.std.specs.Prelude.{◌≡◌};
+ghost use Rattle.std.specs.List.{list_any};
+ghost use Rattle.dy_script.specs.Outcomes.{is_present};
+
 use crate::places::{Place, Places, StoredAt};
 use crate::printed::Hex;
 use dy_dots::{Dot, Fault};
-use dy_siblings::Value;
+use dy_siblings::{Row, Version};
 use std::fmt;
 
 /// The word that a command's line begins with.
@@ -39,9 +43,10 @@ impl fmt::Display for Word {
     }
 }
 
-/// Present values with their dots, that print each behind a blank, or as `none`.
+/// Versions that print as their present values, each behind a blank with its dot, or as `none` where
+/// none is present.
 #[derive(Clone, Copy, Debug)]
-pub struct Values<'a>(pub &'a [(Dot, Value)]);
+pub struct Values<'a>(pub &'a [Version]);
 
 impl fmt::Display for Values<'_> {
     ghost use Rattle.std.specs.Prelude.{Some};
@@ -50,14 +55,23 @@ impl fmt::Display for Values<'_> {
     ghost output = { λ values. Some (values_text values.0.now) };
 
     fn fmt<W: fmt::Write>(&self, f: &mut fmt::Formatter<W>) -> fmt::Result {
-        if self.0.is_empty() {
+        if !has_values(self.0) {
             return f.write_str(" none");
         }
-        for (dot, value) in self.0 {
-            write!(f, " {dot}={}", Hex(value.as_bytes()))?;
+        for version in self.0 {
+            if let Some(value) = version.value() {
+                write!(f, " {}={}", version.dot(), Hex(value.as_bytes()))?;
+            }
         }
         Ok(())
     }
+}
+
+/// Whether one of the versions stores a value, and is no deletion.
+fn has_values(versions: &[Version]) -> bool
+    ensures { result ≡ list_any is_present versions.now }
+{
+    versions.iter().any(|version| version.value().is_some())
 }
 
 /// What came of a command, as its line tells it.
@@ -69,11 +83,11 @@ pub enum Outcome {
         dot: Dot,
         places: Vec<Place>,
     },
-    /// A get was answered: the context's text, whose rows were used, and the present values.
+    /// A get was answered: the text of the context, whose rows were used, and the merged row.
     Read {
         context: String,
         from: Vec<Place>,
-        values: Vec<(Dot, Value)>,
+        row: Row,
     },
     /// The command was refused.
     Refused {
@@ -92,13 +106,9 @@ impl fmt::Display for Outcome {
             Outcome::Stored { word, dot, places } => {
                 write!(f, "{word} ok {dot} answers{}", StoredAt(places.as_slice()))
             }
-            Outcome::Read {
-                context,
-                from,
-                values,
-            } => {
+            Outcome::Read { context, from, row } => {
                 let from = Places(from.as_slice());
-                let values = Values(values.as_slice());
+                let values = Values(row.versions());
                 write!(f, "get ok context {context} from{from} values{values}")
             }
             Outcome::Refused { word, fault } => write!(f, "{word} {fault}"),
