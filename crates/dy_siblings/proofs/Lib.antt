@@ -3,3 +3,4 @@ pub mod Members
 pub mod Rising
 pub mod Walking
 pub mod Merges
+pub mod Agreeing

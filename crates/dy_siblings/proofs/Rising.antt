@@ -139,3 +139,20 @@ same_rising (x ∷ xs) (y ∷ ys) rise_s rise_t same =
         (λ e. absurd (before_not_self y.dot (subst (λ z. IsDotBefore y.dot z.dot) (e ∙ heads) (after_all y.dot ys rise_t v h))))
         (λ later. later)
         (in_cases x v xs ((same v).1 (in_tail y v ys h)))
+
+-- in a list that rises, versions with one dot are one
+pub one_in_rising : (vs : List VersionParts) → Rise vs → (u v : VersionParts) → Contains vs u → Contains vs v → u.dot ≡ v.dot → u ≡ v
+one_in_rising [] rise u v in_u in_v same = absurd (not_in_nil u in_u)
+one_in_rising (x ∷ xs) rise u v in_u in_v same =
+    ⊎_elim
+    (λ u_is.
+    ⊎_elim
+    (λ v_is. u_is ∙ sym v_is)
+    (λ v_later. absurd (before_not_self x.dot (subst (IsDotBefore x.dot) (sym same ∙ ap (λ y. y.dot) u_is) (after_all x.dot xs rise v v_later))))
+    (in_cases x v xs in_v))
+    (λ u_later.
+    ⊎_elim
+    (λ v_is. absurd (before_not_self x.dot (subst (IsDotBefore x.dot) (same ∙ ap (λ y. y.dot) v_is) (after_all x.dot xs rise u u_later))))
+    (λ v_later. one_in_rising xs (tail_rises x xs rise) u v u_later v_later same)
+    (in_cases x v xs in_v))
+    (in_cases x u xs in_u)

@@ -1,9 +1,9 @@
 -- How two lists of versions in the order of their dots become one.
-use Rattle.std.specs.Prelude.{◌≡◌, ◌++◌, ◌⊎◌, not, List, [], ◌∷◌}
-use Rattle.std.specs.List.{filter}
+use Rattle.std.specs.Prelude.{◌≡◌, ◌++◌, ◌⊎◌, not, Bool, List, [], ◌∷◌}
+use Rattle.std.specs.List.{filter, list_any}
 use Rattle.std.specs.FinSet as set
 use Rattle.dy_dots.specs.Dots.{DotSet, DotNumbers, IsDotBefore}
-use Rattle.dy_siblings.specs.Versions.{VersionParts}
+use Rattle.dy_siblings.specs.Versions.{VersionParts, do_conflict}
 use Rattle.dy_siblings.specs.Siblings.{IsSameRow, Rise, merge}
 
 -- the set with the versions' pasts
@@ -32,6 +32,10 @@ IsUnionOutside past a b vs = Rise vs × IsSameRow vs (outside past a b)
 -- the list rises, and is the merge of both
 abbrev pub IsMerge : List VersionParts → List VersionParts → List VersionParts → Type 0
 IsMerge a b vs = Rise vs × IsSameRow vs (merge a b)
+
+-- whether a version of the one list conflicts with one of the other
+abbrev pub do_lists_conflict : List VersionParts → List VersionParts → Bool
+do_lists_conflict a b = list_any (λ u. list_any (λ v. do_conflict u v) b) a
 
 -- the dot comes before that of the first version
 abbrev pub IsFirst : DotNumbers → List VersionParts → Type 0

@@ -1,6 +1,8 @@
 ghost use Rattle.std.specs.Prelude.{◌≡◌, ◌||◌, ◌++◌, map, IfOk, IfSome, IfNone, OnOk, IsOkUnless, []};
 ghost use Rattle.std.specs.FinSet as set;
-ghost use Rattle.dy_siblings.specs.Merging.{IsMerge, IsNext, IsUnionOutside, with_pasts, with_histories, with_dots};
+ghost use Rattle.std.specs.List.{list_any};
+ghost use Rattle.dy_siblings.specs.Versions.{do_conflict};
+ghost use Rattle.dy_siblings.specs.Merging.{do_lists_conflict, IsMerge, IsNext, IsUnionOutside, with_pasts, with_histories, with_dots};
 ghost use Rattle.dy_siblings.specs.Siblings.{AreOneByDot, Rise, present_values};
 
 use crate::values::Value;
@@ -67,6 +69,20 @@ fn union_outside(
         }
     }
     Ok(kept)
+}
+
+/// Whether the version conflicts with one of these.
+fn conflicts_with(version: &Version, others: &[Version]) -> bool
+    ensures { result ≡ list_any (λ v. do_conflict version.now v) others.now }
+{
+    others.iter().any(|other| version.conflicts(other))
+}
+
+/// Whether a version of the one list conflicts with one of the other.
+pub(crate) fn lists_conflict(a: &[Version], b: &[Version]) -> bool
+    ensures { result ≡ do_lists_conflict a.now b.now }
+{
+    a.iter().any(|version| conflicts_with(version, b))
 }
 
 /// Copies of the versions of both lists whose dot lies in the past of none, in the order of their

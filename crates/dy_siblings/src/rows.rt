@@ -81,6 +81,15 @@ impl Row {
         self.versions.iter().any(|version| version.covers(dot))
     }
 
+    /// Whether the rows are of one key, and versions of both with one dot are one version. Compares
+    /// each pair. Takes no memory.
+    pub fn agrees(&self, other: &Row) -> bool
+        ensures { IsTrue result ↔ ((self.now.key ≡ other.now.key) × AreOneByDot (self.now.versions ++ other.now.versions)) }
+    {
+        self.key == other.key
+            && !merging::lists_conflict(self.versions.as_slice(), other.versions.as_slice())
+    }
+
     /// Keeps of the versions of both rows those whose dot lies in the past of none of them.
     pub fn merge(&mut self, alloc: Global, other: &Row) -> Result<(), Fault>
         requires one_key { self.old.key ≡ other.now.key }

@@ -1,4 +1,4 @@
-ghost use Rattle.std.specs.Prelude.{◌≡◌, ◌⊎◌, IfOk, IsOkUnless, option_copied, option_map, true, false};
+ghost use Rattle.std.specs.Prelude.{◌≡◌, ◌⊎◌, ◌↔◌, IsTrue, IfOk, IsOkUnless, option_copied, option_map, true, false};
 ghost use Rattle.dy_dots.specs.Dots.{IsDotBefore, same_dot};
 ghost use Rattle.std.specs.FinSet as set;
 
@@ -32,7 +32,7 @@ impl Model for Version {
 }
 
 impl Version {
-    ghost use Rattle.dy_siblings.specs.Versions.{IsVersion, in_history, precedes, are_concurrent, present};
+    ghost use Rattle.dy_siblings.specs.Versions.{IsVersion, in_history, precedes, are_concurrent, present, same_version, do_conflict};
 
     /// The version of these parts. Takes no memory.
     pub fn new(key: Key, dot: Dot, past: Context, value: Option<Value>) -> Version
@@ -97,6 +97,29 @@ impl Version {
         ensures { result ≡ are_concurrent self.now other.now }
     {
         !self.covers(other.dot) && !other.covers(self.dot)
+    }
+
+    /// Whether the other is the same in all that it says. Takes no memory.
+    pub fn is_same(&self, other: &Version) -> bool
+        ensures { IsTrue result ↔ (self.now ≡ other.now) }
+    {
+        self.says_same(other)
+    }
+
+    // Whether the other has its key, dot, past and value.
+    fn says_same(&self, other: &Version) -> bool
+        ensures { result ≡ same_version self.now other.now }
+    {
+        let same_name = self.key == other.key && self.dot == other.dot;
+        let same_past = other.past.includes(&self.past) && self.past.includes(&other.past);
+        same_name && (same_past && self.value == other.value)
+    }
+
+    // Whether the other has its dot, and is not the same.
+    pub(crate) fn conflicts(&self, other: &Version) -> bool
+        ensures { result ≡ do_conflict self.now other.now }
+    {
+        self.dot == other.dot && !self.says_same(other)
     }
 
     // What it stores, where it stores a value, with its dot.
