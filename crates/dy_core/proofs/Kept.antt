@@ -17,7 +17,7 @@ use Rattle.dy_core.specs.declared.steps.Step.TheVariants.{Issue, Hold, Release, 
 use Rattle.dy_core.proofs.Members.{not_in_nil, in_head, in_tail, in_cases, any_gives, any_from, filter_from}
 use Rattle.dy_core.proofs.Tests.{same_dot_is, same_key_is, same_key_self, in_union, in_history_set}
 use Rattle.dy_core.proofs.Ordered.{IsOrdered, past_is_known}
-use Rattle.dy_core.proofs.Places.{AreOf-held, place_is}
+use Rattle.dy_core.proofs.Standing.{AreOf-held, place_is}
 
 -- a version that a context names, with a dot of its history
 pub record Named (vs : List Version) (key : List ℕ) (context : DotSet) (d : Dot) : Type 0 where

@@ -1,7 +1,7 @@
 pub mod Members
 pub mod Tests
 pub mod Ordered
-pub mod Places
+pub mod Standing
 pub mod Kept
 pub mod Receipts
 pub mod OverLogs
@@ -11,3 +11,10 @@ pub mod SettledGets
 pub mod RingValues
 pub mod LogValues
 pub mod Merging
+pub mod Putting
+pub mod Named
+pub mod Meeting
+pub mod NextVersion
+pub mod Held
+pub mod Keeping
+pub mod Listed

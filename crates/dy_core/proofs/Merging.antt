@@ -17,11 +17,11 @@ use Rattle.dy_core.proofs.Tests.{same_dot_is, same_dot_self}
 use Rattle.dy_core.proofs.Ordered.{IsOrdered, AreOf, past_is_known, same_version, newest_covers}
 use Rattle.dy_core.proofs.OverLogs.{log_sound}
 
-newest_from : (vs : List Version) (v : Version) → Contains (newest vs) v → Contains vs v × (is_past vs v.dot ≡ false)
+pub newest_from : (vs : List Version) (v : Version) → Contains (newest vs) v → Contains vs v × (is_past vs v.dot ≡ false)
 newest_from vs v h =
     let f = filter_from (λ x. not (is_past vs x.dot)) vs v h in (f.0, not-true (is_past vs v.dot) f.1)
 
-newest_in : (vs : List Version) (v : Version) → Contains vs v → is_past vs v.dot ≡ false → Contains (newest vs) v
+pub newest_in : (vs : List Version) (v : Version) → Contains vs v → is_past vs v.dot ≡ false → Contains (newest vs) v
 newest_in vs v h e = filter_in (λ x. not (is_past vs x.dot)) vs v h (not_from_false (is_past vs v.dot) e)
 
 -- what is in the past of a part is in the past of the whole

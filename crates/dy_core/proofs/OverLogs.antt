@@ -51,8 +51,8 @@ step_keeps_cover layout w sound s a key d n has =
     let c = has.is_cover in
     subst (HasCover (world_after_step w s) key d) c.count_is
     (cover_from_receipts layout (world_after_step w s) (step_sound layout w sound s a) key d has.places
-    (All-weaker (λ p. covers_at w key d p.0 p.1 ≡ true) (λ p. receipt_holds (world_after_step w s) key d p.0 p.1 ≡ true)
-    (λ p covers. step_keeps_receipt layout w sound key d p.0 p.1 s a (or_left (covers_at w key d p.0 p.1) (covers_at w key d p.0 p.0) covers))
+    (All-weaker (λ p. covers_at w key d p.home p.holder ≡ true) (λ p. receipt_holds (world_after_step w s) key d p.home p.holder ≡ true)
+    (λ p covers. step_keeps_receipt layout w sound key d p.home p.holder s a (or_left (covers_at w key d p.home p.holder) (covers_at w key d p.home p.home) covers))
     has.places c.each_covers)
     c.homes_distinct c.holders_distinct)
 

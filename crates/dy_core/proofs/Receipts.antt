@@ -9,9 +9,10 @@ use Rattle.dy_core.specs.Worlds.{Layout, World}
 use Rattle.dy_core.specs.Covers.{covers_at, HasCover, receipt_holds}
 use Rattle.dy_core.specs.Steps.{same_place, version_made, IsAllowed, world_after_step, IsReleaseAt}
 use Rattle.dy_dots.specs.declared.dots.Dot.{Dot}
+use Rattle.dy_core.specs.declared.places.Place.{Place}
 use Rattle.dy_core.specs.declared.steps.Step.{Step}
 use Rattle.dy_core.specs.declared.steps.Step.TheVariants.{Issue, Hold, Release, Fetch, Ack}
-use Rattle.dy_core.proofs.Places.{place_is, covering_from, issue_keeps, hold_keeps, release_keeps, release_keeps_own, release_keeps_either}
+use Rattle.dy_core.proofs.Standing.{place_is, covering_from, issue_keeps, hold_keeps, release_keeps, release_keeps_own, release_keeps_either}
 use Rattle.dy_core.proofs.Kept.{IsSound}
 
 module _ (layout : Layout) (w : World) (sound : IsSound layout w) (key : List ℕ) (d : Dot) where
@@ -71,81 +72,84 @@ module _ (layout : Layout) (w : World) (sound : IsSound layout w) (key : List �
       (λ no_home. absurd (true≢false (sym (ap (is_home (layout.homes key)) same ∙ other_home) ∙ not-true (is_home (layout.homes key) holder) no_home)))
       (or_cases (eqb holder home) (not (is_home (layout.homes key) holder)) may.1)
 
-  -- the pair itself where it covers, and else the home with itself
-  covering_place : ℕ × ℕ → ℕ × ℕ
-  covering_place p = cond (covers_at w key d p.0 p.1) p (p.0, p.0)
+  abbrev at_home : Place → Place
+  at_home p = record { home = p.home; holder = p.home }
 
-  -- the home covers for itself, where the pair does not
+  -- the place itself where it covers, and else the home with itself
+  covering_place : Place → Place
+  covering_place p = cond (covers_at w key d p.home p.holder) p (at_home p)
+
+  -- the home covers for itself, where the place does not
   own_covers : (home holder : ℕ) → receipt_holds w key d home holder ≡ true → covers_at w key d home holder ≡ false → covers_at w key d home home ≡ true
   own_covers home holder r not_pair =
       ⊎_elim (λ c. absurd (true≢false (sym c ∙ not_pair))) (λ own. own)
       (or_cases (covers_at w key d home holder) (covers_at w key d home home) r)
 
-  home_kept : (p : ℕ × ℕ) → (covering_place p).0 ≡ p.0
+  home_kept : (p : Place) → (covering_place p).home ≡ p.home
   unfolding covering_place
-  home_kept p = elim (covers_at w key d p.0 p.1) as (λ b. (cond b p (p.0, p.0)).0 ≡ p.0) [ true ↦ refl | false ↦ refl ]
+  home_kept p = elim (covers_at w key d p.home p.holder) as (λ b. (cond b p (at_home p)).home ≡ p.home) [ true ↦ refl | false ↦ refl ]
 
-  homes_kept : (ps : List (ℕ × ℕ)) → map (λ p. p.0) (map covering_place ps) ≡ map (λ p. p.0) ps
+  homes_kept : (ps : List Place) → map (λ p. p.home) (map covering_place ps) ≡ map (λ p. p.home) ps
   homes_kept [] = refl
   homes_kept (p ∷ ps) = λ i. home_kept p i ∷ homes_kept ps i
 
-  count_kept : (ps : List (ℕ × ℕ)) → length (map covering_place ps) ≡ length ps
+  count_kept : (ps : List Place) → length (map covering_place ps) ≡ length ps
   count_kept [] = refl
   count_kept (p ∷ ps) = ap suc (count_kept ps)
 
-  place_is_covering : (p : ℕ × ℕ) → receipt_holds w key d p.0 p.1 ≡ true →
-      covers_at w key d (covering_place p).0 (covering_place p).1 ≡ true
+  place_is_covering : (p : Place) → receipt_holds w key d p.home p.holder ≡ true →
+      covers_at w key d (covering_place p).home (covering_place p).holder ≡ true
   unfolding covering_place
-  place_is_covering p r = go (covers_at w key d p.0 p.1) refl
+  place_is_covering p r = go (covers_at w key d p.home p.holder) refl
     where
-      go : (b : Bool) → covers_at w key d p.0 p.1 ≡ b → covers_at w key d (cond b p (p.0, p.0)).0 (cond b p (p.0, p.0)).1 ≡ true
+      go : (b : Bool) → covers_at w key d p.home p.holder ≡ b → covers_at w key d (cond b p (at_home p)).home (cond b p (at_home p)).holder ≡ true
       go true is = is
-      go false is = own_covers p.0 p.1 r is
+      go false is = own_covers p.home p.holder r is
 
-  all_covering : (ps : List (ℕ × ℕ)) → AllByRecursion (λ p. receipt_holds w key d p.0 p.1 ≡ true) ps →
-      AllByRecursion (λ p. covers_at w key d p.0 p.1 ≡ true) (map covering_place ps)
+  all_covering : (ps : List Place) → AllByRecursion (λ p. receipt_holds w key d p.home p.holder ≡ true) ps →
+      AllByRecursion (λ p. covers_at w key d p.home p.holder ≡ true) (map covering_place ps)
   all_covering [] r = tt
   all_covering (p ∷ ps) r = (place_is_covering p r.0, all_covering ps r.1)
 
-  holders_apart : (p q : ℕ × ℕ) → receipt_holds w key d p.0 p.1 ≡ true → receipt_holds w key d q.0 q.1 ≡ true →
-      nat_eq p.0 q.0 ≡ false → nat_eq p.1 q.1 ≡ false → nat_eq (covering_place p).1 (covering_place q).1 ≡ false
+  holders_apart : (p q : Place) → receipt_holds w key d p.home p.holder ≡ true → receipt_holds w key d q.home q.holder ≡ true →
+      nat_eq p.home q.home ≡ false → nat_eq p.holder q.holder ≡ false → nat_eq (covering_place p).holder (covering_place q).holder ≡ false
   unfolding covering_place
-  holders_apart p q rp rq homes holders = go (covers_at w key d p.0 p.1) (covers_at w key d q.0 q.1) refl refl
+  holders_apart p q rp rq homes holders = go (covers_at w key d p.home p.holder) (covers_at w key d q.home q.holder) refl refl
     where
-      go : (b c : Bool) → covers_at w key d p.0 p.1 ≡ b → covers_at w key d q.0 q.1 ≡ c →
-          nat_eq (cond b p (p.0, p.0)).1 (cond c q (q.0, q.0)).1 ≡ false
+      go : (b c : Bool) → covers_at w key d p.home p.holder ≡ b → covers_at w key d q.home q.holder ≡ c →
+          nat_eq (cond b p (at_home p)).holder (cond c q (at_home q)).holder ≡ false
       go true true is_p is_q = holders
       go true false is_p is_q =
-          ne_eqb p.1 q.0 (λ same. eqb-false p.0 q.0 homes (no_clash p.0 p.1 q.0 is_p (own_covers q.0 q.1 rq is_q) same))
+          ne_eqb p.holder q.home (λ same. eqb-false p.home q.home homes (no_clash p.home p.holder q.home is_p (own_covers q.home q.holder rq is_q) same))
       go false true is_p is_q =
-          ne_eqb p.0 q.1 (λ same. eqb-false p.0 q.0 homes (sym (no_clash q.0 q.1 p.0 is_q (own_covers p.0 p.1 rp is_p) (sym same))))
+          ne_eqb p.home q.holder (λ same. eqb-false p.home q.home homes (sym (no_clash q.home q.holder p.home is_q (own_covers p.home p.holder rp is_p) (sym same))))
       go false false is_p is_q = homes
 
-  each_apart : (p : ℕ × ℕ) (ps : List (ℕ × ℕ)) → receipt_holds w key d p.0 p.1 ≡ true → AllByRecursion (λ q. receipt_holds w key d q.0 q.1 ≡ true) ps →
-      AllByRecursion (λ y. nat_eq p.0 y ≡ false) (map (λ q. q.0) ps) → AllByRecursion (λ y. nat_eq p.1 y ≡ false) (map (λ q. q.1) ps) →
-      AllByRecursion (λ y. nat_eq (covering_place p).1 y ≡ false) (map (λ q. q.1) (map covering_place ps))
+  each_apart : (p : Place) (ps : List Place) → receipt_holds w key d p.home p.holder ≡ true → AllByRecursion (λ q. receipt_holds w key d q.home q.holder ≡ true) ps →
+      AllByRecursion (λ y. nat_eq p.home y ≡ false) (map (λ q. q.home) ps) → AllByRecursion (λ y. nat_eq p.holder y ≡ false) (map (λ q. q.holder) ps) →
+      AllByRecursion (λ y. nat_eq (covering_place p).holder y ≡ false) (map (λ q. q.holder) (map covering_place ps))
   each_apart p [] rp rs homes holders = tt
   each_apart p (q ∷ ps) rp rs homes holders =
       (holders_apart p q rp rs.0 homes.0 holders.0, each_apart p ps rp rs.1 homes.1 holders.1)
 
-  all_apart : (ps : List (ℕ × ℕ)) → AllByRecursion (λ q. receipt_holds w key d q.0 q.1 ≡ true) ps →
-      IsDistinct nat_eq (map (λ q. q.0) ps) → IsDistinct nat_eq (map (λ q. q.1) ps) → IsDistinct nat_eq (map (λ q. q.1) (map covering_place ps))
+  all_apart : (ps : List Place) → AllByRecursion (λ q. receipt_holds w key d q.home q.holder ≡ true) ps →
+      IsDistinct nat_eq (map (λ q. q.home) ps) → IsDistinct nat_eq (map (λ q. q.holder) ps) → IsDistinct nat_eq (map (λ q. q.holder) (map covering_place ps))
   unfolding IsDistinct
   all_apart [] rs homes holders = tt
   all_apart (p ∷ ps) rs homes holders =
       (each_apart p ps rs.0 rs.1 homes.0 holders.0, all_apart ps rs.1 homes.1 holders.1)
 
   -- true receipts of distinct homes and distinct holders give a cover
-  pub cover_from_receipts : (ps : List (ℕ × ℕ)) → All (λ p. receipt_holds w key d p.0 p.1 ≡ true) ps →
-      IsDistinct nat_eq (map (λ p. p.0) ps) → IsDistinct nat_eq (map (λ p. p.1) ps) → HasCover w key d (length ps)
+  pub cover_from_receipts : (ps : List Place) → All (λ p. receipt_holds w key d p.home p.holder ≡ true) ps →
+      IsDistinct nat_eq (map (λ p. p.home) ps) → IsDistinct nat_eq (map (λ p. p.holder) ps) → HasCover w key d (length ps)
   cover_from_receipts ps rs homes holders =
-      let by_list = recursion_from_All (λ p. receipt_holds w key d p.0 p.1 ≡ true) ps rs in
+      let by_list = recursion_from_All (λ p. receipt_holds w key d p.home p.holder ≡ true) ps rs in
       record {
         places = map covering_place ps;
         is_cover = record {
           count_is = count_kept ps;
           homes_distinct = subst (IsDistinct nat_eq) (sym (homes_kept ps)) homes;
           holders_distinct = all_apart ps by_list homes holders;
-          each_covers = All-from_recursion (λ p. covers_at w key d p.0 p.1 ≡ true) (map covering_place ps) (all_covering ps by_list);
+          each_covers = All-from_recursion (λ p. covers_at w key d p.home p.holder ≡ true) (map covering_place ps) (all_covering ps by_list);
         };
       }

@@ -16,7 +16,7 @@ use Rattle.dy_siblings.specs.declared.versions.Version.{Version}
 use Rattle.dy_core.specs.declared.steps.Step.{Step}
 use Rattle.dy_core.proofs.Members.{Mapped, map_from, not_in_nil, in_head, in_tail, in_cases, any_gives, any_from}
 use Rattle.dy_core.proofs.Ordered.{AreOf, newest_covers}
-use Rattle.dy_core.proofs.Places.{covering_from, stands_in, stands_from}
+use Rattle.dy_core.proofs.Standing.{covering_from, stands_in, stands_from}
 use Rattle.dy_core.proofs.Receipts.{cover_may}
 use Rattle.dy_core.proofs.OverLogs.{log_sound, acks_covered, legal_front, own_stays, issued_stays}
 use Rattle.dy_core.proofs.Pigeons.{Shared, shared}
@@ -104,23 +104,23 @@ module _ (layout : Layout) (steps : List Step) (legal : IsLegal layout steps) wh
         then = world_after (take since steps)
 
         hs : List ℕ
-        hs = map (λ p. p.0) has.places
+        hs = map (λ p. p.home) has.places
 
         rs : List ℕ
         rs = map (λ a. a.home) answers
 
         own : (h : ℕ) → Contains hs h → covers_at then key d h h ≡ true
         own h in_hs =
-            let p = map_from (λ p. p.0) has.places h in_hs in
-            let c : covers_at then key d p.item.0 p.item.1 ≡ true =
-            All-contains (λ p. covers_at then key d p.0 p.1 ≡ true) has.places p.item has.is_cover.each_covers p.in_list in
-            let v = covering_from then key d p.item.0 p.item.1 c in
-            let itself = settled p.item.1 p.item.0 v.version.dot v.stands.is_held in
+            let p = map_from (λ p. p.home) has.places h in_hs in
+            let c : covers_at then key d p.item.home p.item.holder ≡ true =
+            All-contains (λ p. covers_at then key d p.home p.holder ≡ true) has.places p.item has.is_cover.each_covers p.in_list in
+            let v = covering_from then key d p.item.home p.item.holder c in
+            let itself = settled p.item.holder p.item.home v.version.dot v.stands.is_held in
             (λ i. covers_at then key d (sym p.gives i) ((sym p.gives ∙ sym itself) i)) ∙ c
 
         both : Shared hs rs
         both =
-            let many : length hs ≡ w = length-map has.places (λ p. p.0) ∙ has.is_cover.count_is in
+            let many : length hs ≡ w = length-map has.places (λ p. p.home) ∙ has.is_cover.count_is in
             let read_from : length rs ≡ r = length-map answers (λ a. a.home) ∙ get.count_is in
             shared hs rs (layout.homes key) has.is_cover.homes_distinct get.homes_distinct
             (λ h in_hs.

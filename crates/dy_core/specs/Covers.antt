@@ -4,6 +4,7 @@ use Rattle.std.specs.List.{All, IsDistinct}
 use Rattle.dy_siblings.specs.Siblings.{covers}
 use Rattle.dy_core.specs.Worlds.{World, row_at}
 use Rattle.dy_dots.specs.declared.dots.Dot.{Dot}
+use Rattle.dy_core.specs.declared.places.Place.{Place}
 
 -- whether the home's row at the holder covers the dot: it has the dot's version, or one that
 -- causally follows it (Preguiça et al., dotted version vectors, section 4)
@@ -16,15 +17,15 @@ CoversAt w key d home holder = IsTrue (covers_at w key d home holder)
 
 -- places, each a home with its holder, that cover the dot: so many, with distinct homes and distinct
 -- holders (Dynamo, sections 4.5 and 4.6, with each node and each home counted once)
-pub record IsCover (w : World) (key : List ℕ) (d : Dot) (count : ℕ) (places : List (ℕ × ℕ)) : Type 0 where
+pub record IsCover (w : World) (key : List ℕ) (d : Dot) (count : ℕ) (places : List Place) : Type 0 where
   pub count_is : length places ≡ count
-  pub homes_distinct : IsDistinct nat_eq (map (λ p. p.0) places)
-  pub holders_distinct : IsDistinct nat_eq (map (λ p. p.1) places)
-  pub each_covers : All (λ p. CoversAt w key d p.0 p.1) places
+  pub homes_distinct : IsDistinct nat_eq (map (λ p. p.home) places)
+  pub holders_distinct : IsDistinct nat_eq (map (λ p. p.holder) places)
+  pub each_covers : All (λ p. CoversAt w key d p.home p.holder) places
 
 -- there is a cover of so many places
 pub record HasCover (w : World) (key : List ℕ) (d : Dot) (count : ℕ) : Type 0 where
-  pub places : List (ℕ × ℕ)
+  pub places : List Place
   pub is_cover : IsCover w key d count places
 
 -- each ack that w homes were told of has a cover of w places (Dynamo, sections 4.5 and 4.6)

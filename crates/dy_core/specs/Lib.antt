@@ -2,3 +2,6 @@ pub mod Worlds
 pub mod Covers
 pub mod Steps
 pub mod Logs
+pub mod Orders
+pub mod Inside
+pub mod Listings

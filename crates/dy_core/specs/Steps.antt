@@ -6,7 +6,7 @@ use Rattle.dy_dots.specs.declared.dots.TheConstants.{MAX_COUNTER}
 use Rattle.dy_siblings.specs.Versions.{history_of}
 use Rattle.dy_siblings.specs.Siblings.{Siblings, same_key, has_dot, merge}
 use Rattle.dy_preference.specs.Preferences.{may_hold}
-use Rattle.dy_core.specs.Worlds.{Layout, Acked, World, AreMadeOf, is_issued, row_at}
+use Rattle.dy_core.specs.Worlds.{Layout, World, AreMadeOf, is_issued, row_at}
 use Rattle.dy_core.specs.Covers.{CoversAt, HasCover}
 use Rattle.dy_dots.specs.declared.dots.Dot.{Dot}
 use Rattle.dy_siblings.specs.declared.versions.Version.{Version}

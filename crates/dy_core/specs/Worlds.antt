@@ -7,6 +7,7 @@ use Rattle.dy_ring.specs.Rings.{Tokens}
 use Rattle.dy_preference.specs.Preferences.{homes_of}
 use Rattle.dy_dots.specs.declared.dots.Dot.{Dot}
 use Rattle.dy_siblings.specs.declared.versions.Version.{Version}
+use Rattle.dy_core.specs.declared.acks.Acked.{Acked}
 
 -- which nodes are the homes of each key, and how many homes a key has (Dynamo, section 4.3)
 pub record Layout : Type 0 where
@@ -16,12 +17,6 @@ pub record Layout : Type 0 where
 -- the homes of a key are the first n nodes of its preference list (Dynamo, section 4.3)
 abbrev pub layout_of : Tokens → ℕ → Layout
 layout_of ring n = record { homes = homes_of ring n; count = n }
-
--- a put that was told that w homes have its version (Dynamo, section 4.5)
-pub record Acked : Type 0 where
-  pub key : List ℕ
-  pub dot : Dot
-  pub w : ℕ
 
 -- a world: the versions made, newest first; whether a holder holds a dot of a key for a home; the
 -- last counter that a node used for a key; and the acks, newest first (Dynamo, sections 4.4 to 4.6)

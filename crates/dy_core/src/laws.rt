@@ -12,6 +12,7 @@ ghost use Rattle.dy_core.specs.Worlds.{Layout, layout_of, IsSettled, AreMadeOf, 
 ghost use Rattle.dy_core.specs.Covers.{CoversAt, HasCover, AcksAreCovered, ReceiptHolds};
 ghost use Rattle.dy_core.specs.Steps.{IsAllowed, world_after_step, IsReleaseAt};
 ghost use Rattle.dy_core.specs.Logs.{Known, world_after, IsLegal, Answer, MatchesLog, AreOfHomes, rows_of};
+ghost use Rattle.dy_core.specs.declared.places.Place.{Place};
 ghost use Rattle.dy_core.specs.declared.steps.Step.{Step};
 
 /// Each dot in a version's past is of a version of the same key, whose history lies in that past.
@@ -68,9 +69,9 @@ pub fn receipts_last()
 /// as many places.
 pub fn receipts_make_a_cover()
     ensures { (layout : Layout) (steps : List Step) → IsLegal layout steps →
-        (key : List ℕ) (d : Dot) (receipts : List (ℕ × ℕ)) →
-        All (λ p. ReceiptHolds (world_after steps) key d p.0 p.1) receipts →
-        IsDistinct nat_eq (map (λ p. p.0) receipts) → IsDistinct nat_eq (map (λ p. p.1) receipts) →
+        (key : List ℕ) (d : Dot) (receipts : List Place) →
+        All (λ p. ReceiptHolds (world_after steps) key d p.home p.holder) receipts →
+        IsDistinct nat_eq (map (λ p. p.home) receipts) → IsDistinct nat_eq (map (λ p. p.holder) receipts) →
         HasCover (world_after steps) key d (length receipts) }
 {}
 

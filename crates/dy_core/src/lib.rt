@@ -1,7 +1,17 @@
 //! What a store does, as a list of steps, and the laws that hold after every legal list of them.
 #![tactic(auto)]
 
+mod acks;
+mod holdings;
+mod issuing;
 pub mod laws;
+mod lists;
+mod places;
 mod steps;
+mod worlds;
 
+pub use acks::Acked;
+pub use holdings::Holding;
+pub use places::Place;
 pub use steps::Step;
+pub use worlds::World;

@@ -1,0 +1,9 @@
+use Rattle.dy_core.specs.Worlds.{layout_of}
+use Rattle.dy_core.specs.Inside.{IsAfter}
+use Rattle.dy_core.proofs.Meeting.{empty_is_after}
+use Rattle.dy_core.proofs.worlds.World.new.Goals as goal
+
+pub invariant_of-result : goal.invariant_of-result
+invariant_of-result c =
+    rw (c.new.ensures.items, c.new-2.ensures.items, c.new-3.ensures.items, c.new-4.ensures.items)
+    (empty_is_after (layout_of c.args.ring c.args.n))

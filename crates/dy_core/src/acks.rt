@@ -1,0 +1,26 @@
+use crate::lists::Ranked;
+use dy_dots::Dot;
+use dy_siblings::Key;
+use std::cmp::Ordering;
+
+/// A put that was told that w homes have its version (Dynamo, section 4.5). Acks are ordered by the
+/// bytes of their keys, then by dot, then by w.
+#[derive(Debug, Drop, PartialEq, Eq)]
+pub struct Acked {
+    pub key: Key,
+    pub dot: Dot,
+    pub w: u8,
+}
+
+impl Ranked for Acked {
+    ghost use Rattle.dy_core.specs.Orders.{ack_cmp};
+
+    ghost ranked = { ack_cmp };
+
+    fn rank(&self, other: &Acked) -> Ordering {
+        self.key
+            .cmp(&other.key)
+            .then(self.dot.cmp(&other.dot))
+            .then(self.w.cmp(&other.w))
+    }
+}

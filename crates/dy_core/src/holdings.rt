@@ -1,0 +1,95 @@
+ghost use Rattle.std.specs.Prelude.{◌≡◌, [], IfOk, OnOk, OnErr, MatchOption, IsOkUnless};
+ghost use Rattle.dy_core.specs.Inside.{kept, others, row_in};
+
+use crate::lists::{self, Ranked};
+use dy_dots::{Fault, NodeId};
+use dy_siblings::{Key, Row};
+use std::alloc::Global;
+use std::cmp::Ordering;
+
+/// What a holder holds for a home of one key.
+#[derive(Debug, Drop)]
+pub struct Holding {
+    pub holder: NodeId,
+    pub home: NodeId,
+    pub row: Row,
+}
+
+impl Ranked for Holding {
+    ghost use Rattle.dy_core.specs.Orders.{holding_cmp};
+
+    ghost ranked = { holding_cmp };
+
+    fn rank(&self, other: &Holding) -> Ordering {
+        self.holder
+            .cmp(&other.holder)
+            .then(self.home.cmp(&other.home))
+            .then(self.row.key().cmp(other.row.key()))
+    }
+}
+
+impl Holding {
+    ghost use Rattle.dy_core.specs.Inside.{is_at};
+
+    // Whether it is at the place.
+    fn is_at(&self, holder: NodeId, home: NodeId, key: &Key) -> bool
+        ensures { result ≡ is_at holder home key.now self.now }
+    {
+        self.holder == holder && (self.home == home && self.row.key() == key)
+    }
+}
+
+/// The row at the place, where there is one. Takes no memory.
+pub(crate) fn find<'a>(
+    held: &'a [Holding],
+    holder: NodeId,
+    home: NodeId,
+    key: &Key,
+) -> Option<&'a Row>
+    ensures none { MatchOption result (row_in held.now holder home key.now ≡ []) (λ row. row.now.key ≡ key.now) }
+    ensures some { MatchOption result (row_in held.now holder home key.now ≡ []) (λ row. row.now.versions ≡ row_in held.now holder home key.now) }
+{
+    for holding in held {
+        if holding.is_at(holder, home, key) {
+            return Some(&holding.row);
+        }
+    }
+    None
+}
+
+/// A copy of the row at the place.
+pub(crate) fn copy_at(
+    alloc: Global,
+    held: &[Holding],
+    holder: NodeId,
+    home: NodeId,
+    key: &Key,
+) -> Result<Row, Fault>
+    ensures ok { IfOk result (λ row. row ≡ record { key = key.now; versions = row_in held.now holder home key.now }) }
+    ensures memory { IsOkUnless result Fault.OutOfMemory }
+{
+    match find(held, holder, home, key) {
+        Some(row) => row.try_clone(alloc),
+        None => Ok(Row::new(alloc, key.try_clone(alloc)?)),
+    }
+}
+
+/// Keeps the holding in its place, or none there where its row has no version.
+pub(crate) fn keep(held: &mut Vec<Holding>, holding: Holding) -> Result<(), Fault>
+    ensures ok { OnOk result (held.new.items ≡ kept held.old.items holding) }
+    ensures err { OnErr result (held.new.items ≡ held.old.items) }
+    ensures memory { IsOkUnless result Fault.OutOfMemory }
+{
+    if holding.row.is_empty() {
+        drop_at(held, &holding);
+        return Ok(());
+    }
+    lists::put(held, holding)
+}
+
+// Drops the holding at the place of this one.
+fn drop_at(held: &mut Vec<Holding>, holding: &Holding)
+    ensures { held.new.items ≡ others holding.now.holder holding.now.home holding.now.row.key held.old.items }
+{
+    held.retain(|other| !other.is_at(holding.holder, holding.home, holding.row.key()));
+}
