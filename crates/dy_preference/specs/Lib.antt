@@ -1,1 +1,2 @@
 pub mod Preferences
+pub mod Walks

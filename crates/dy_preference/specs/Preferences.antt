@@ -1,8 +1,8 @@
 -- Which nodes a key prefers, and who may hold it for whom.
-use Rattle.std.specs.Prelude.{ℕ, zero, suc, ◌≡◌, ◌==◌, ◌&&◌, ◌||◌, not, nat_le, take, Bool, List, [], ◌∷◌, if◌then◌else◌, refl}
-use Rattle.std.specs.List.{list_any}
+use Rattle.std.specs.Prelude.{ℕ, zero, suc, ◌≡◌, ◌≤◌, ◌==◌, ◌&&◌, ◌||◌, not, nat_eq, nat_le, nat_lt, length, take, drop, Bool, List, [], ◌∷◌, if◌then◌else◌, refl}
+use Rattle.std.specs.List.{IsDistinct, filter, list_any}
 use Rattle.std.specs.Coded.{Coded, code_by, coded×, coded_ℕ, coded_list}
-use Rattle.dy_ring.specs.Rings.{Tokens, position_of, node_distance}
+use Rattle.dy_ring.specs.Rings.{Tokens, Rises, position_of, node_distance}
 
 -- the list with x put before the first that is no nearer
 abbrev pub put_by : (ℕ → ℕ) → ℕ → List ℕ → List ℕ
@@ -19,6 +19,14 @@ nodes_by far (suc n) = put_by far n (nodes_by far n)
 abbrev pub preference_of : Tokens → List ℕ → List ℕ
 preference_of ring key = nodes_by (node_distance ring (position_of key)) ring.nodes
 
+-- what is true of a preference list, and of no other: each node of the ring comes once, by strictly
+-- rising distance from the position (Dynamo, section 4.3)
+pub record IsByDistance (ring : Tokens) (position : ℕ) (nodes : List ℕ) : Type 0 where
+  pub each_node : (node : ℕ) → list_any (λ n. n == node) nodes ≡ nat_lt node ring.nodes
+  pub once : IsDistinct nat_eq nodes
+  pub count : length nodes ≡ ring.nodes
+  pub rising : Rises (node_distance ring position) nodes
+
 -- the homes of a key are the first n of its preference list
 abbrev pub homes_of : Tokens → ℕ → List ℕ → List ℕ
 homes_of ring n key = take n (preference_of ring key)
@@ -32,6 +40,11 @@ is_home homes node = list_any (λ home. home == node) homes
 abbrev pub may_hold : List ℕ → ℕ → ℕ → Bool
 may_hold homes holder home = is_home homes home && ((holder == home) || not (is_home homes holder))
 
+-- the nodes that may stand in for a home, in the order in which they are asked: those past the
+-- first n, without the coordinator (Dynamo, section 4.6)
+abbrev pub stand_ins_of : List ℕ → ℕ → ℕ → List ℕ
+stand_ins_of nodes n coordinator = filter (λ node. not (node == coordinator)) (drop n nodes)
+
 -- what a preference list is seen as: its nodes, and how many of them are homes
 pub record Preferred : Type 0 where
   pub nodes : List ℕ
@@ -41,3 +54,9 @@ abbrev pub preferred_code : Coded Preferred
 preferred_code =
     code_by (List ℕ × ℕ) (coded× (coded_list coded_ℕ) coded_ℕ)
     (λ p. (p.nodes, p.n)) (λ p. record { nodes = p.0; n = p.1 }) (λ _. refl)
+
+-- what is true of every preference list: its nodes are distinct, and some of them are homes
+pub record IsPreferred (list : Preferred) : Type 0 where
+  pub some : 1 ≤ list.n
+  pub enough : list.n ≤ length list.nodes
+  pub distinct : IsDistinct nat_eq list.nodes

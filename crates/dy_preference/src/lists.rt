@@ -1,5 +1,6 @@
-ghost use Rattle.std.specs.Prelude.{◌≡◌, ◌≤◌, take, length};
-ghost use Rattle.dy_preference.specs.Preferences.{may_hold};
+ghost use Rattle.std.specs.Prelude.{◌≡◌, take, drop, length, nat_eq};
+ghost use Rattle.std.specs.List.{IsDistinct};
+ghost use Rattle.dy_preference.specs.Preferences.{IsPreferred, may_hold};
 
 use dy_dots::NodeId;
 use std::marker::Model;
@@ -13,8 +14,7 @@ pub struct Preference {
 }
 
 impl Model for Preference {
-    ghost use Rattle.std.specs.Prelude.{◌≤◌, length};
-    ghost use Rattle.dy_preference.specs.Preferences.{Preferred, preferred_code};
+    ghost use Rattle.dy_preference.specs.Preferences.{IsPreferred, Preferred, preferred_code};
 
     ghost Value = { Preferred };
 
@@ -22,13 +22,13 @@ impl Model for Preference {
 
     ghost view = { λ list. record { nodes = list.nodes.items; n = list.n } };
 
-    ghost invariant = { λ list. list.n ≤ length list.nodes.items };
+    ghost invariant = { λ list. IsPreferred (record { nodes = list.nodes.items; n = list.n }) };
 }
 
 impl Preference {
     /// The list of these nodes, of which the first n are homes. Takes no memory.
     pub(crate) fn of(nodes: Vec<NodeId>, n: usize) -> Preference
-        requires { n ≤ length nodes.items }
+        requires { IsPreferred (record { nodes = nodes.items; n = n }) }
         ensures { result ≡ record { nodes = nodes.items; n = n } }
     {
         Preference { nodes, n }
@@ -36,16 +36,26 @@ impl Preference {
 
     /// All nodes, the nearest first. Takes no memory.
     pub fn nodes(&self) -> &[NodeId]
-        ensures { result.now ≡ self.now.nodes }
+        ensures value { result.now ≡ self.now.nodes }
+        ensures valid { IsPreferred self.now }
     {
         self.nodes.as_slice()
     }
 
     /// The homes of the key, the nearest first. Takes no memory.
     pub fn homes(&self) -> &[NodeId]
-        ensures { result.now ≡ take self.now.n self.now.nodes }
+        ensures value { result.now ≡ take self.now.n self.now.nodes }
+        ensures count { length result.now ≡ self.now.n }
+        ensures valid { IsPreferred self.now }
     {
         &self.nodes.as_slice()[..self.n]
+    }
+
+    /// The nodes past the homes. Takes no memory.
+    pub(crate) fn past_homes(&self) -> &[NodeId]
+        ensures { result.now ≡ drop self.now.n self.now.nodes }
+    {
+        &self.nodes.as_slice()[self.n..]
     }
 
     /// Whether the holder may hold the key for the home. Takes no memory.

@@ -1,5 +1,7 @@
-ghost use Rattle.std.specs.Prelude.{◌≡◌, ◌≤◌, length, IfOk, IsOkUnless};
-ghost use Rattle.dy_preference.specs.Preferences.{preference_of};
+ghost use Rattle.std.specs.Prelude.{◌≡◌, ◌≤◌, IfOk, OnOk, IsOkUnless};
+ghost use Rattle.dy_ring.specs.Rings.{position_of};
+ghost use Rattle.dy_preference.specs.Preferences.{IsByDistance, preference_of};
+ghost use Rattle.dy_preference.specs.Walks.{met};
 
 use crate::lists::Preference;
 use dy_dots::{Fault, NodeId};
@@ -8,20 +10,58 @@ use dy_siblings::Key;
 use std::alloc::Global;
 
 /// The preference list of the key, of which the first n nodes are its homes.
-pub fn preference(alloc: Global, ring: &Ring, key: &Key, n: u8) -> Result<Preference, Fault> {
-    let from = Ring::position(key);
-    let tokens = ring.tokens();
-    let first = tokens
-        .iter()
-        .position(|token| token.0 > from)
-        .unwrap_or(tokens.len());
-    let (before, after) = tokens.split_at(first);
+pub fn preference(alloc: Global, ring: &Ring, key: &Key, n: u8) -> Result<Preference, Fault>
+    requires some { 1 ≤ n }
+    requires enough { n ≤ ring.now.nodes }
+    ensures nodes { IfOk result (λ list. list.nodes ≡ preference_of ring.now key.now) }
+    ensures homes { IfOk result (λ list. list.n ≡ n) }
+    ensures order { IfOk result (λ list. IsByDistance ring.now (position_of key.now) list.nodes) }
+    ensures memory { IsOkUnless result Fault.OutOfMemory }
+{
+    let nodes = in_order(alloc, ring, key)?;
+    Ok(Preference::of(nodes, n as usize))
+}
+
+/// The nodes in the order in which a walk round the ring meets them, from the key's position on.
+fn in_order(alloc: Global, ring: &Ring, key: &Key) -> Result<Vec<NodeId>, Fault>
+    ensures nodes { IfOk result (λ nodes. nodes.items ≡ preference_of ring.now key.now) }
+    ensures order { IfOk result (λ nodes. IsByDistance ring.now (position_of key.now) nodes.items) }
+    ensures memory { IsOkUnless result Fault.OutOfMemory }
+{
+    let first = ring.first_after(Ring::position(key));
+    let (before, after) = ring.tokens().split_at(first);
     let mut nodes = Vec::new(alloc);
-    for token in after.iter().chain(before) {
+    meet(&mut nodes, after)?;
+    meet(&mut nodes, before)?;
+    Ok(nodes)
+}
+
+/// Each node of the tokens that isn't there yet is put at the end.
+fn meet(nodes: &mut Vec<NodeId>, tokens: &[(u128, NodeId)]) -> Result<(), Fault>
+    ensures ok { OnOk result (nodes.new.items ≡ met nodes.old.items tokens.now) }
+    ensures memory { IsOkUnless result Fault.OutOfMemory }
+{
+    for token in tokens {
         if !nodes.contains(&token.1) {
             nodes.push(token.1)?;
         }
     }
-    let n = (n as usize).min(nodes.len());
-    Ok(Preference::of(nodes, n))
+    Ok(())
+}
+
+/// In the preference list of a key each node comes once, by rising distance. Takes no memory.
+pub fn order_is_by_distance(ring: &Ring, key: &Key)
+    ensures { IsByDistance ring.now (position_of key.now) (preference_of ring.now key.now) }
+{
+    let _nodes = ring.nodes();
+    let _position = Ring::position(key);
+}
+
+/// A list with each node once, by rising distance, is the preference list. Takes no memory.
+pub fn order_is_unique(ring: &Ring, key: &Key, nodes: &[NodeId])
+    requires { IsByDistance ring.now (position_of key.now) nodes.now }
+    ensures { nodes.now ≡ preference_of ring.now key.now }
+{
+    let _nodes = ring.nodes();
+    let _position = Ring::position(key);
 }
