@@ -18,3 +18,4 @@ pub mod NextVersion
 pub mod Held
 pub mod Keeping
 pub mod Listed
+pub mod Performing

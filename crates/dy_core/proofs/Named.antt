@@ -59,7 +59,7 @@ other_step vs i v lt is key context past before other d =
     or_false true = refl
     or_false false = refl
 
-named_gives : (vs : List Version) (key : List ℕ) (context : DotSet) (d : Dot) → named_in vs key context d ≡ true → Named vs key context d
+pub named_gives : (vs : List Version) (key : List ℕ) (context : DotSet) (d : Dot) → named_in vs key context d ≡ true → Named vs key context d
 named_gives vs key context d e =
     let f = any_gives (λ v. is_named v key context && in_history v d) vs e in
     let outer = and_parts (is_named f.item key context) (in_history f.item d) f.passes in

@@ -1,8 +1,9 @@
-ghost use Rattle.std.specs.Prelude.{◌≡◌, [], IfOk, OnOk, OnErr, MatchOption, IsOkUnless};
+ghost use Rattle.std.specs.Prelude.{◌≡◌, ◌++◌, [], IfOk, OnOk, OnErr, MatchOption, IsOkUnless};
+ghost use Rattle.dy_siblings.specs.Siblings.{Siblings, AreOneByDot, IsSameRow, merge, without};
 ghost use Rattle.dy_core.specs.Inside.{kept, others, row_in};
 
 use crate::lists::{self, Ranked};
-use dy_dots::{Fault, NodeId};
+use dy_dots::{Dot, Fault, NodeId};
 use dy_siblings::{Key, Row};
 use std::alloc::Global;
 use std::cmp::Ordering;
@@ -92,4 +93,55 @@ fn drop_at(held: &mut Vec<Holding>, holding: &Holding)
     ensures { held.new.items ≡ others holding.now.holder holding.now.home holding.now.row.key held.old.items }
 {
     held.retain(|other| !other.is_at(holding.holder, holding.home, holding.row.key()));
+}
+
+/// Merges the row into what the holder holds for the home.
+pub(crate) fn hold(
+    alloc: Global,
+    held: &mut Vec<Holding>,
+    holder: NodeId,
+    home: NodeId,
+    row: &Row,
+) -> Result<(), Fault>
+    requires { AreOneByDot (row_in held.old.items holder home row.now.key ++ row.now.versions) }
+    ensures ok { OnOk result ((new : Siblings) × (new.key ≡ row.now.key)
+        × IsSameRow new.versions (merge (row_in held.old.items holder home row.now.key) row.now.versions)
+        × (held.new.items ≡ kept held.old.items (record { holder = holder; home = home; row = new }))) }
+    ensures err { OnErr result (held.new.items ≡ held.old.items) }
+    ensures memory { IsOkUnless result Fault.OutOfMemory }
+{
+    let mut merged = copy_at(alloc, held.as_slice(), holder, home, row.key())?;
+    merged.merge(alloc, row)?;
+    let holding = Holding {
+        holder,
+        home,
+        row: merged,
+    };
+    keep(held, holding)?;
+    Ok(())
+}
+
+/// Drops the version of the dot from what the holder holds for the home.
+pub(crate) fn release(
+    alloc: Global,
+    held: &mut Vec<Holding>,
+    holder: NodeId,
+    home: NodeId,
+    key: &Key,
+    dot: Dot,
+) -> Result<(), Fault>
+    ensures ok { OnOk result (held.new.items ≡ kept held.old.items
+        (record { holder = holder; home = home; row = record { key = key.now; versions = without (row_in held.old.items holder home key.now) dot } })) }
+    ensures err { OnErr result (held.new.items ≡ held.old.items) }
+    ensures memory { IsOkUnless result Fault.OutOfMemory }
+{
+    let mut left = copy_at(alloc, held.as_slice(), holder, home, key)?;
+    left.remove(dot);
+    let holding = Holding {
+        holder,
+        home,
+        row: left,
+    };
+    keep(held, holding)?;
+    Ok(())
 }

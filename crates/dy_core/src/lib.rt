@@ -2,6 +2,7 @@
 #![tactic(auto)]
 
 mod acks;
+mod applying;
 mod holdings;
 mod issuing;
 pub mod laws;
