@@ -1,0 +1,3 @@
+pub mod CounterLemmas
+pub mod Maps
+pub mod RowLemmas

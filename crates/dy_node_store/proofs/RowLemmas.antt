@@ -1,0 +1,61 @@
+-- Entries that are rows of their keys, and rows with other versions.
+use Rattle.std.proofs.Common.{◌≡◌, ℕ, ◌<◌, Bool, true, false, cond, List, [], ◌∷◌, length, Option, Some, None, IfSome, refl, sym, ap, ◌∙◌, subst, arith}
+use Rattle.std.specs.declared.cmp.Ordering.TheVariants.{Less, Equal, Greater}
+use Rattle.std.specs.Ordering.{nat_cmp, match_ordering}
+use Rattle.std.specs.Cmp.Lexicographic.{slice_cmp}
+use Rattle.std.specs.BTreeMap.{is_at, insert_entry}
+use Rattle.std.specs.Map.{lookup, remove_entry, set_value}
+use Rattle.std.specs.FinMap as maps
+use Rattle.std.proofs.lemmas.Map.Lookups.{exact_bytes}
+use Rattle.std.proofs.lemmas.Map.Views.{tells_apart}
+use Rattle.dy_siblings.specs.Siblings.{Siblings}
+use Rattle.dy_siblings.specs.Versions.{VersionParts}
+use Rattle.dy_node_store.specs.Rows.{Rows, with_versions, IsRowOf, AreRows}
+
+-- a query's key and the key that it ties with are one
+same_key : (q k : List ℕ) → is_at (slice_cmp nat_cmp q) k ≡ true → q ≡ k
+same_key q k tied = tells_apart exact_bytes q k tied
+
+pub AreRows-insert_entry : (es : List (List ℕ × Siblings)) (k : List ℕ) (row : Siblings) → AreRows es → IsRowOf k row → AreRows (insert_entry (slice_cmp nat_cmp) es k row)
+AreRows-insert_entry [] k row rows new = (new, tt)
+AreRows-insert_entry (e ∷ es) k row rows new =
+    elim (slice_cmp nat_cmp k e.0) as (λ r. slice_cmp nat_cmp k e.0 ≡ r → AreRows (match_ordering r ((k, row) ∷ e ∷ es) ((e.0, row) ∷ es) (e ∷ insert_entry (slice_cmp nat_cmp) es k row))) [
+      | Less ↦ λ _. (new, rows)
+      | Equal ↦ λ tied. (subst (λ j. IsRowOf j row) (exact_bytes k e.0 tied) new, rows.1)
+      | Greater ↦ λ _. (rows.0, AreRows-insert_entry es k row rows.1 new)
+    ] refl
+
+pub AreRows-set_value : (es : List (List ℕ × Siblings)) (k : List ℕ) (row : Siblings) → AreRows es → IsRowOf k row → AreRows (set_value (is_at (slice_cmp nat_cmp k)) es row)
+AreRows-set_value [] k row rows new = tt
+AreRows-set_value (e ∷ es) k row rows new =
+    elim (is_at (slice_cmp nat_cmp k) e.0) as (λ b. is_at (slice_cmp nat_cmp k) e.0 ≡ b → AreRows (cond b ((e.0, row) ∷ es) (e ∷ set_value (is_at (slice_cmp nat_cmp k)) es row))) [
+      | true ↦ λ tied. (subst (λ j. IsRowOf j row) (same_key k e.0 tied) new, rows.1)
+      | false ↦ λ _. (rows.0, AreRows-set_value es k row rows.1 new)
+    ] refl
+
+pub AreRows-remove_entry : (test : List ℕ → Bool) (es : List (List ℕ × Siblings)) → AreRows es → AreRows (remove_entry test es)
+AreRows-remove_entry test [] rows = tt
+AreRows-remove_entry test (e ∷ es) rows =
+    elim (test e.0) as (λ b. AreRows (cond b es (e ∷ remove_entry test es))) [
+      | true ↦ rows.1
+      | false ↦ (rows.0, AreRows-remove_entry test es rows.1)
+    ]
+
+-- what is found at a key is a row of it
+pub IsRowOf-lookup : (es : List (List ℕ × Siblings)) (k : List ℕ) → AreRows es → IfSome (lookup (is_at (slice_cmp nat_cmp k)) es) (IsRowOf k)
+IsRowOf-lookup [] k rows = tt
+IsRowOf-lookup (e ∷ es) k rows =
+    elim (is_at (slice_cmp nat_cmp k) e.0) as (λ b. is_at (slice_cmp nat_cmp k) e.0 ≡ b → IfSome (cond b (Some e.1) (lookup (is_at (slice_cmp nat_cmp k)) es)) (IsRowOf k)) [
+      | true ↦ λ tied. subst (λ j. IsRowOf j e.1) (sym (same_key k e.0 tied)) rows.0
+      | false ↦ λ _. IsRowOf-lookup es k rows.1
+    ] refl
+
+-- versions put a row in its key's place
+pub with_versions_filled : (rows : Rows) (key : List ℕ) (vs : List VersionParts) → 0 < length vs → with_versions rows key vs ≡ maps.insert rows key (record { key = key; versions = vs })
+with_versions_filled rows key [] filled = absurd (omega (arith, filled))
+with_versions_filled rows key (v ∷ vs) filled = refl
+
+-- and no versions take the key's row out
+pub with_versions_empty : (rows : Rows) (key : List ℕ) (vs : List VersionParts) → length vs ≡ 0 → with_versions rows key vs ≡ maps.remove rows key
+with_versions_empty rows key [] empty = refl
+with_versions_empty rows key (v ∷ vs) empty = absurd (omega (arith, empty))

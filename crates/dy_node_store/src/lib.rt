@@ -1,0 +1,8 @@
+//! What a node keeps by itself: a row for each key, and the counters that it has used.
+#![tactic(auto)]
+
+mod row_maps;
+mod stores;
+
+pub use row_maps::RowMap;
+pub use stores::NodeStore;

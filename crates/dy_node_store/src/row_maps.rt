@@ -1,0 +1,109 @@
+ghost use Rattle.std.specs.Prelude.{◌≡◌, ◌<◌, None, Some, length, map, IsSome, IfSome, IfOk, OnOk, OnErr, IsOkUnless};
+ghost use Rattle.std.specs.Option.{option_copied};
+ghost use Rattle.std.specs.FinMap as maps;
+ghost use Rattle.dy_node_store.specs.Rows.{with_versions, versions_of, IsRowOf};
+
+use dy_dots::{Dot, Fault};
+use dy_siblings::{Key, Row};
+use std::alloc::Global;
+use std::collections::BTreeMap;
+use std::marker::Model;
+use std::mem;
+
+/// Rows by key. A row that has no version is none: it is not kept.
+#[derive(Drop)]
+pub struct RowMap {
+    alloc: Global,
+    rows: BTreeMap<Key, Row>,
+}
+
+impl Model for RowMap {
+    ghost use Rattle.std.specs.FinMap as maps;
+    ghost use Rattle.dy_node_store.specs.Rows.{Rows, rows_code, AreRows};
+
+    ghost Value = { Rows };
+
+    ghost coded = { rows_code };
+
+    ghost view = { λ map. maps.from_entries map.rows.entries };
+
+    ghost invariant = { λ map. AreRows map.rows.entries };
+}
+
+impl RowMap {
+    /// No rows. Takes no memory.
+    pub fn new(alloc: Global) -> RowMap
+        ensures { result ≡ maps.empty }
+    {
+        RowMap {
+            alloc,
+            rows: BTreeMap::new(alloc),
+        }
+    }
+
+    /// The row of the key. Takes no memory.
+    pub fn row(&self, key: &Key) -> Option<&Row>
+        ensures value { option_copied result ≡ maps.get self.now key.now }
+        ensures valid { IfSome result (λ row. IsRowOf key.now row.now) }
+    {
+        self.rows.get(key)
+    }
+
+    /// Puts the row in the place of its key's. Takes memory only where the key had none.
+    pub fn put_row(&mut self, row: Row) -> Result<(), Fault>
+        ensures ok { OnOk result (self.new ≡ with_versions self.old row.key row.versions) }
+        ensures err { OnErr result (self.new ≡ self.old) }
+        ensures absent { OnErr result (maps.get self.old row.key ≡ None) }
+        ensures filled { OnErr result (0 < length row.versions) }
+        ensures memory { IsOkUnless result Fault.OutOfMemory }
+    {
+        if row.versions().is_empty() {
+            self.rows.remove(row.key());
+            return Ok(());
+        }
+        match self.rows.get_mut(row.key()) {
+            Some(kept) => {
+                *kept = row;
+                Ok(())
+            }
+            None => {
+                let key = row.key().try_clone(self.alloc)?;
+                self.rows.insert(key, row)?;
+                Ok(())
+            }
+        }
+    }
+
+    /// Puts the row in the place of its key's, and gives that back. Takes no memory.
+    pub fn replace_row(&mut self, row: Row) -> Row
+        requires present { IsSome (maps.get self.old row.key) }
+        requires filled { 0 < length row.versions }
+        ensures value { maps.get self.old row.key ≡ Some result }
+        ensures rows { self.new ≡ with_versions self.old row.key row.versions }
+    {
+        match self.rows.get_mut(row.key()) {
+            Some(kept) => mem::replace(kept, row),
+            None => unreachable!(),
+        }
+    }
+
+    /// Takes the key's row out. Takes no memory.
+    pub fn remove_row(&mut self, key: &Key) -> Option<Row>
+        ensures value { result ≡ maps.get self.old key.now }
+        ensures rows { self.new ≡ maps.remove self.old key.now }
+    {
+        self.rows.remove(key)
+    }
+
+    /// The rows, in the order of their keys' bytes.
+    pub fn list(&self, alloc: Global) -> Result<Vec<&Row>, Fault>
+        ensures value { IfOk result (λ rows. map (λ row. row.now) rows.items ≡ maps.values self.now) }
+        ensures memory { IsOkUnless result Fault.OutOfMemory }
+    {
+        let mut rows = Vec::with_capacity(alloc, self.rows.len())?;
+        for row in self.rows.values() {
+            rows.push(row)?;
+        }
+        Ok(rows)
+    }
+}
