@@ -4,7 +4,7 @@ use Rattle.dy_dots.specs.Dots.{dot_text}
 use Rattle.dy_dots.specs.declared.dots.Dot.{Dot}
 use Rattle.dy_script.specs.Texts.{hex_text, position_text, nodes_text}
 use Rattle.dy_script.specs.Places.{place_text, places_text}
-use Rattle.dy_script.specs.declared.places.Place.{Place}
+use Rattle.dy_core.specs.declared.places.Place.{Place}
 
 -- a place, a key and a context text
 abbrev pub held_text : Place → List ℕ → List ℕ → List ℕ

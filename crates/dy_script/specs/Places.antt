@@ -1,7 +1,7 @@
 -- The texts of places.
 use Rattle.std.specs.Prelude.{ℕ, List, ◌++◌, codes, decimal}
 use Rattle.std.specs.List.{flat_map}
-use Rattle.dy_script.specs.declared.places.Place.{Place}
+use Rattle.dy_core.specs.declared.places.Place.{Place}
 
 -- a place is its holder, a stroke, and its home
 abbrev pub place_text : Place → List ℕ

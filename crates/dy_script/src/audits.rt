@@ -1,5 +1,6 @@
-use crate::places::{Place, Places};
+use crate::places::{At, Places};
 use crate::printed::Hex;
+use dy_core::Place;
 use dy_dots::Dot;
 use dy_siblings::Key;
 use std::fmt;
@@ -20,7 +21,7 @@ impl fmt::Display for HeldLine<'_> {
 
     fn fmt<W: fmt::Write>(&self, f: &mut fmt::Formatter<W>) -> fmt::Result {
         let key = Hex(self.key.as_bytes());
-        write!(f, "held {} {key} {}", self.place, self.dots)
+        write!(f, "held {} {key} {}", At(self.place), self.dots)
     }
 }
 

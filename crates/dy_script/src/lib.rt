@@ -16,7 +16,7 @@ mod tokens;
 pub use audits::{AckedLine, EndLine, HeldLine, SettledLine};
 pub use commands::{Command, Mode, Write};
 pub use outcomes::{CommandLine, Outcome, Values, Word};
-pub use places::{Place, Places, StoredAt};
+pub use places::{At, Places, StoredAt};
 pub use printed::{Hex, Nodes, Position};
 pub use reading::read;
 pub use rings::{KeyLine, TokenLine};

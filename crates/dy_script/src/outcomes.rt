@@ -2,8 +2,9 @@ ghost use Rattle.std.specs.Prelude.{◌≡◌};
 ghost use Rattle.std.specs.List.{list_any};
 ghost use Rattle.dy_script.specs.Outcomes.{is_present};
 
-use crate::places::{Place, Places, StoredAt};
+use crate::places::{Places, StoredAt};
 use crate::printed::Hex;
+use dy_core::Place;
 use dy_dots::{Dot, Fault};
 use dy_siblings::{Row, Version};
 use std::fmt;

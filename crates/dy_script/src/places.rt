@@ -1,21 +1,19 @@
-use dy_dots::NodeId;
+use dy_core::Place;
 use std::fmt;
 
-/// A home, and the node that holds for it: the home itself, or a stand-in.
-#[derive(Clone, Copy, Debug, PartialEq, Eq)]
-pub struct Place {
-    pub home: NodeId,
-    pub holder: NodeId,
-}
+/// A place that prints as its holder, a stroke, and its home: the one type that prints the two.
+#[derive(Clone, Copy, Debug)]
+pub struct At(pub Place);
 
-impl fmt::Display for Place {
+impl fmt::Display for At {
     ghost use Rattle.std.specs.Prelude.{Some};
     ghost use Rattle.dy_script.specs.Places.{place_text};
 
-    ghost output = { λ place. Some (place_text place) };
+    ghost output = { λ at. Some (place_text at.0) };
 
     fn fmt<W: fmt::Write>(&self, f: &mut fmt::Formatter<W>) -> fmt::Result {
-        write!(f, "{}/{}", self.holder.number(), self.home.number())
+        let Place { home, holder } = self.0;
+        write!(f, "{holder}/{home}")
     }
 }
 
@@ -31,7 +29,7 @@ impl fmt::Display for Places<'_> {
 
     fn fmt<W: fmt::Write>(&self, f: &mut fmt::Formatter<W>) -> fmt::Result {
         for place in self.0 {
-            write!(f, " {place}")?;
+            write!(f, " {}", At(*place))?;
         }
         Ok(())
     }
@@ -49,7 +47,7 @@ impl fmt::Display for StoredAt<'_> {
 
     fn fmt<W: fmt::Write>(&self, f: &mut fmt::Formatter<W>) -> fmt::Result {
         for place in self.0 {
-            write!(f, " {place}=stored")?;
+            write!(f, " {}=stored", At(*place))?;
         }
         Ok(())
     }
