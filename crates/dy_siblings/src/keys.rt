@@ -4,25 +4,27 @@ ghost use Rattle.std.specs.Cmp.Lexicographic.{pointwise, slice_cmp};
 ghost use Rattle.std.specs.Cmp.Rules.{comparing};
 ghost use Rattle.std.specs.Ordering.{nat_cmp, as_partial_cmp};
 ghost use Rattle.std.proofs.Common.{rules};
+ghost use Rattle.std.specs.Arc.{arc_slice_items};
 ghost use Rattle.dy_siblings.specs.Sizes.{IsKey};
 
 use dy_dots::Fault;
 use std::alloc::Global;
 use std::cmp::Ordering;
 use std::marker::Model;
+use std::sync::ArcSlice;
 
 /// A key: 1 to 64 bytes.
 #[derive(Debug, Drop)]
 pub struct Key {
-    bytes: Vec<u8>,
+    bytes: ArcSlice<u8>,
 }
 
 impl Model for Key {
     ghost Value = { List ℕ };
 
-    ghost view = { λ key. key.bytes.items };
+    ghost view = { λ key. arc_slice_items key.bytes };
 
-    ghost invariant = { λ key. IsKey key.bytes.items };
+    ghost invariant = { λ key. IsKey (arc_slice_items key.bytes) };
 }
 
 impl Key {
@@ -37,7 +39,7 @@ impl Key {
             return Err(Fault::KeySize);
         }
         Ok(Key {
-            bytes: Vec::from_slice(alloc, bytes)?,
+            bytes: ArcSlice::from_slice(alloc, bytes)?,
         })
     }
 
@@ -53,7 +55,7 @@ impl Key {
         ensures memory { IsOkUnless result Fault.OutOfMemory }
     {
         Ok(Key {
-            bytes: Vec::from_slice(alloc, self.bytes.as_slice())?,
+            bytes: self.bytes.clone()?,
         })
     }
 }

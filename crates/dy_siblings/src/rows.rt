@@ -64,7 +64,7 @@ impl Row {
         ensures value { result.now ≡ self.now.versions }
         ensures valid { IsSiblingSet self.now.key self.now.versions }
     {
-        self.versions.as_slice()
+        &self.versions
     }
 
     /// Whether there is no version. Takes no memory.

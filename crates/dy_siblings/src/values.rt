@@ -2,24 +2,26 @@ ghost use Rattle.std.specs.Prelude.{◌≡◌, ◌<◌, ◌==◌, ◌⊎◌, ◌
 ghost use Rattle.std.specs.Cmp.Lexicographic.{pointwise};
 ghost use Rattle.std.specs.Cmp.Rules.{comparing};
 ghost use Rattle.std.proofs.Common.{rules};
+ghost use Rattle.std.specs.Arc.{arc_slice_items};
 ghost use Rattle.dy_siblings.specs.Sizes.{IsValue};
 
 use dy_dots::Fault;
 use std::alloc::Global;
 use std::marker::Model;
+use std::sync::ArcSlice;
 
 /// What a version stores: up to 4,096 bytes.
 #[derive(Debug, Drop)]
 pub struct Value {
-    bytes: Vec<u8>,
+    bytes: ArcSlice<u8>,
 }
 
 impl Model for Value {
     ghost Value = { List ℕ };
 
-    ghost view = { λ value. value.bytes.items };
+    ghost view = { λ value. arc_slice_items value.bytes };
 
-    ghost invariant = { λ value. IsValue value.bytes.items };
+    ghost invariant = { λ value. IsValue (arc_slice_items value.bytes) };
 }
 
 impl Value {
@@ -34,7 +36,7 @@ impl Value {
             return Err(Fault::ValueSize);
         }
         Ok(Value {
-            bytes: Vec::from_slice(alloc, bytes)?,
+            bytes: ArcSlice::from_slice(alloc, bytes)?,
         })
     }
 
@@ -50,7 +52,7 @@ impl Value {
         ensures memory { IsOkUnless result Fault.OutOfMemory }
     {
         Ok(Value {
-            bytes: Vec::from_slice(alloc, self.bytes.as_slice())?,
+            bytes: self.bytes.clone()?,
         })
     }
 }

@@ -1,4 +1,4 @@
-ghost use Rattle.std.specs.Prelude.{◌≡◌, ◌⊎◌, ◌↔◌, IsTrue, IfOk, IsOkUnless, option_copied, option_map, true, false};
+ghost use Rattle.std.specs.Prelude.{◌≡◌, ◌⊎◌, ◌↔◌, IsTrue, IfOk, IsOkUnless, option_copied, true, false};
 ghost use Rattle.dy_dots.specs.Dots.{IsDotBefore, same_dot};
 ghost use Rattle.std.specs.FinSet as set;
 
@@ -32,7 +32,7 @@ impl Model for Version {
 }
 
 impl Version {
-    ghost use Rattle.dy_siblings.specs.Versions.{IsVersion, in_history, precedes, are_concurrent, present, same_version, do_conflict};
+    ghost use Rattle.dy_siblings.specs.Versions.{IsVersion, in_history, precedes, are_concurrent, same_version, do_conflict};
 
     /// The version of these parts. Takes no memory.
     pub fn new(key: Key, dot: Dot, past: Context, value: Option<Value>) -> Version
@@ -122,13 +122,6 @@ impl Version {
         self.dot == other.dot && !self.says_same(other)
     }
 
-    // What it stores, where it stores a value, with its dot.
-    pub(crate) fn present(&self) -> Option<(Dot, &Value)>
-        ensures { option_map (λ p. (p.0, p.1.now)) result ≡ present self.now }
-    {
-        self.value.as_ref().map(|value| (self.dot, value))
-    }
-
     // Whether this is its dot.
     pub(crate) fn has_dot(&self, dot: Dot) -> bool
         ensures { result ≡ same_dot self.now.dot dot }
@@ -150,7 +143,7 @@ impl Version {
         ensures value { IfOk result (λ version. version ≡ self.now) }
         ensures memory { IsOkUnless result Fault.OutOfMemory }
     {
-        let value = match &self.value {
+        let copied = match &self.value {
             Some(value) => Some(value.try_clone(alloc)?),
             None => None,
         };
@@ -158,7 +151,7 @@ impl Version {
             key: self.key.try_clone(alloc)?,
             dot: self.dot,
             past: self.past.try_clone(alloc)?,
-            value,
+            value: copied,
         })
     }
 }
