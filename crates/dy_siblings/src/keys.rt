@@ -28,8 +28,10 @@ impl Model for Key {
 }
 
 impl Key {
+    /// How many bytes it has at most.
     pub const MAX_BYTES: usize = 64;
 
+    /// A key of these bytes; KeySize where they are none or more than 64.
     pub fn new(alloc: Global, bytes: &[u8]) -> Result<Key, Fault>
         ensures size { IsErrOf result Fault.KeySize ↔ ((length bytes.now ≡ 0) ⊎ (64 < length bytes.now)) }
         ensures value { IfOk result (λ key. key ≡ bytes.now) }
@@ -43,6 +45,7 @@ impl Key {
         })
     }
 
+    /// The bytes. Takes no memory.
     pub fn as_bytes(&self) -> &[u8]
         ensures value { result.now ≡ self.now }
         ensures size { IsKey self.now }
@@ -50,7 +53,8 @@ impl Key {
         self.bytes.as_slice()
     }
 
-    pub fn try_clone(&self, alloc: Global) -> Result<Key, Fault>
+    /// A copy, which shares the bytes.
+    pub fn try_clone(&self, _alloc: Global) -> Result<Key, Fault>
         ensures value { IfOk result (λ key. key ≡ self.now) }
         ensures memory { IsOkUnless result Fault.OutOfMemory }
     {

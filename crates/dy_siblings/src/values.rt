@@ -25,8 +25,10 @@ impl Model for Value {
 }
 
 impl Value {
+    /// How many bytes it has at most.
     pub const MAX_BYTES: usize = 4_096;
 
+    /// A value of these bytes; ValueSize where they are more than 4,096.
     pub fn new(alloc: Global, bytes: &[u8]) -> Result<Value, Fault>
         ensures size { IsErrOf result Fault.ValueSize ↔ (4096 < length bytes.now) }
         ensures value { IfOk result (λ value. value ≡ bytes.now) }
@@ -40,6 +42,7 @@ impl Value {
         })
     }
 
+    /// The bytes. Takes no memory.
     pub fn as_bytes(&self) -> &[u8]
         ensures value { result.now ≡ self.now }
         ensures size { IsValue self.now }
@@ -47,7 +50,8 @@ impl Value {
         self.bytes.as_slice()
     }
 
-    pub fn try_clone(&self, alloc: Global) -> Result<Value, Fault>
+    /// A copy, which shares the bytes.
+    pub fn try_clone(&self, _alloc: Global) -> Result<Value, Fault>
         ensures value { IfOk result (λ value. value ≡ self.now) }
         ensures memory { IsOkUnless result Fault.OutOfMemory }
     {

@@ -1,0 +1,22 @@
+#!/bin/sh
+# Proves, builds and runs the benchmark of rows with many siblings, in a folder of its own.
+# usage: benches/siblings/run.sh [FOLDER]
+set -eu
+here=$(cd "$(dirname "$0")" && pwd)
+top=$(cd "$here/../.." && pwd)
+folder=${1:-$(mktemp -d)}
+mkdir -p "$folder/crates"
+for crate in dy_dots dy_siblings; do
+    rm -rf "$folder/crates/$crate"
+    cp -r "$top/crates/$crate" "$folder/crates/"
+done
+mkdir -p "$folder/crates/bench_siblings/src"
+cp "$here/main.rt" "$folder/crates/bench_siblings/src/main.rt"
+cat > "$folder/crates.txt" <<'LINES'
+dy_dots: thiserror
+dy_siblings: dy_dots
+bench_siblings: dy_siblings dy_dots anyhow
+LINES
+cp "$top/HANDLES" "$folder/HANDLES"
+cd "$folder/crates/bench_siblings"
+rt run
