@@ -95,6 +95,7 @@ impl Row {
         requires one_key { self.old.key ≡ other.now.key }
         requires agree { AreOneByDot (self.old.versions ++ other.now.versions) }
         ensures ok { OnOk result (IsSameRow self.new.versions (merge self.old.versions other.now.versions)) }
+        ensures valid { IsSiblingSet self.new.key self.new.versions }
         ensures key { self.new.key ≡ self.old.key }
         ensures err { OnErr result (self.new ≡ self.old) }
         ensures memory { IsOkUnless result Fault.OutOfMemory }

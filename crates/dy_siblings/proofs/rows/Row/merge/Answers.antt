@@ -20,3 +20,6 @@ returns-clause-ok c =
     subst (IsSameRow c.in_ok-self-inside.field-0.items)
     (ap (λ s. merge s.versions c.other.inside.versions.items) c.self.view_is ∙ ap (λ s. merge c.args.self.now.versions s.versions) c.other.view_is)
     (is_merge c).1
+
+pub returns-clause-valid : goal.returns-clause-valid
+returns-clause-valid c = invariant_of-self c
