@@ -1,5 +1,5 @@
 -- Dots, and sets of dots.
-use Rattle.std.specs.Prelude.{◌≡◌, ℕ, refl, ◌<◌, ◌≤◌, ◌⊎◌, ◌==◌, ◌&&◌, Bool, true, List, ◌++◌, codes, decimal}
+use Rattle.std.specs.Prelude.{◌≡◌, ℕ, refl, ◌<◌, ◌≤◌, ◌⊎◌, ◌==◌, ◌&&◌, ◌||◌, nat_lt, Bool, true, List, [], ◌∷◌, ◌++◌, codes, decimal, if◌then◌else◌}
 use Rattle.std.specs.declared.cmp.Ordering.{Ordering}
 use Rattle.std.specs.Ordering.{nat_cmp, ordering_then}
 use Rattle.std.specs.Coded.{Coded, code_by, coded×, coded_ℕ}
@@ -21,6 +21,10 @@ same_dot a b = (a.node == b.node) && (a.counter == b.counter)
 -- the first dot comes before the second: by node, then by counter
 abbrev pub IsDotBefore : DotNumbers → DotNumbers → Type 0
 IsDotBefore a b = (a.node < b.node) ⊎ ((a.node ≡ b.node) × (a.counter < b.counter))
+
+-- the same as a test
+abbrev pub comes_before : DotNumbers → DotNumbers → Bool
+comes_before a b = nat_lt a.node b.node || ((a.node == b.node) && nat_lt a.counter b.counter)
 
 -- dots go by node, then by counter
 abbrev pub dot_cmp : DotNumbers → DotNumbers → Ordering
@@ -45,3 +49,17 @@ dot_set_code = set.code dot_code
 -- a dot is printed as n, its node, a colon and its counter
 abbrev pub dot_text : DotNumbers → List ℕ
 dot_text d = codes "n" ++ decimal d.node ++ codes ":" ++ decimal d.counter
+
+-- a dot put in its place among dots that rise
+abbrev pub placed : DotNumbers → List DotNumbers → List DotNumbers
+placed d [] = d ∷ []
+placed d (x ∷ xs) = if comes_before d x then d ∷ x ∷ xs else if same_dot d x then x ∷ xs else x ∷ placed d xs
+
+-- the dots in order, each once
+abbrev pub in_order : List DotNumbers → List DotNumbers
+in_order [] = []
+in_order (d ∷ ds) = placed d (in_order ds)
+
+-- the dots of a set, rising
+abbrev pub dots_of : DotSet → List DotNumbers
+dots_of s = in_order (set.items s)

@@ -1,14 +1,15 @@
-ghost use Rattle.std.specs.Prelude.{◌≡◌, ◌⊎◌, ◌↔◌, true, ◌++◌, List, ℕ, OnOk, OnErr, IfOk, IfErr, IsOkUnless, string_bytes, Result, Ok, Err};
+ghost use Rattle.std.specs.Prelude.{◌≡◌, ◌⊎◌, ◌↔◌, true, ◌++◌, List, ℕ, OnOk, OnErr, IfOk, IfErr, IsOkUnless, string_bytes, Result, Ok, Err, Some};
 ghost use Rattle.std.specs.FinSet as set;
 ghost use Rattle.dy_dots.specs.Dots.{DotSet, dot_set_code, AreDots};
 ghost use Rattle.dy_dots.specs.Runs.{AreKept, AreRunsOf, set_of};
-ghost use Rattle.dy_dots.specs.Spelling.{IsFound, IsReadable, IsRefused, Spells};
+ghost use Rattle.dy_dots.specs.Spelling.{IsFound, IsReadable, IsRefused, Spells, context_text};
 
 use crate::dots::Dot;
 use crate::faults::Fault;
 use crate::runs::{self, Run};
 use crate::texts;
 use std::alloc::Global;
+use std::fmt;
 use std::marker::Model;
 
 /// A set of dots of one key, kept as its maximal runs, sorted by node, then by counter.
@@ -135,6 +136,14 @@ impl Context {
     }
 }
 
+impl fmt::Display for Context {
+    ghost output = { λ context. Some (context_text context) };
+
+    fn fmt<W: fmt::Write>(&self, f: &mut fmt::Formatter<W>) -> fmt::Result {
+        texts::print_runs(self.runs.as_slice(), f)
+    }
+}
+
 /// No set has two spellings.
 pub fn spelling_is_unique()
     ensures { (s : DotSet) (a b : List ℕ) → Spells a s → Spells b s → a ≡ b }
@@ -148,6 +157,11 @@ pub fn spelled_set_is_unique()
 /// Where the text of a set of at most 100,000 dots is read, the answer is that set, memory aside.
 pub fn written_is_read_back()
     ensures { (bytes : List ℕ) (s : DotSet) (answer : Result DotSet Fault) → Spells bytes s → IsReadable s → IfOk answer (IsFound bytes) → IfErr answer (IsRefused bytes) → (answer ≡ Ok s) ⊎ (answer ≡ Err Fault.OutOfMemory) }
+{}
+
+/// The text of a set of dots spells it, and nothing else does.
+pub fn spelling_is_the_text()
+    ensures { (bytes : List ℕ) (s : DotSet) → Spells bytes s ↔ (AreDots s × (bytes ≡ context_text s)) }
 {}
 
 #[cfg(test)]

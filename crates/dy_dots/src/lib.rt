@@ -8,7 +8,9 @@ mod nodes;
 mod runs;
 mod texts;
 
-pub use contexts::{Context, spelled_set_is_unique, spelling_is_unique, written_is_read_back};
+pub use contexts::{
+    Context, spelled_set_is_unique, spelling_is_the_text, spelling_is_unique, written_is_read_back,
+};
 pub use dots::{Dot, MAX_COUNTER};
 pub use faults::Fault;
 pub use nodes::{MAX_NODES, NodeId};

@@ -1,4 +1,5 @@
 ghost use Rattle.std.specs.Prelude.{◌≡◌, ◌⊎◌, ◌++◌, Some, None, OnOk, IfOk, IfErr, string_bytes};
+ghost use Rattle.std.specs.Fmt.{DisplaysOnOk};
 ghost use Rattle.dy_dots.specs.Spelling.{all_allowed, allowed, read_runs, run_text, runs_text};
 
 use crate::dots::MAX_COUNTER;
@@ -6,17 +7,40 @@ use crate::faults::Fault;
 use crate::nodes::{MAX_NODES, NodeId};
 use crate::runs::Run;
 use std::alloc::{AllocError, Global};
+use std::fmt;
 
 /// How many dots a text names at most.
 pub const MAX_CONTEXT_DOTS: u32 = 100_000;
 
-fn push_run(text: &mut String, run: Run) -> Result<(), AllocError>
-    ensures { OnOk result (string_bytes text.new ≡ string_bytes text.old ++ run_text run) }
+/// Prints the text of runs that rise.
+pub(crate) fn print_runs<W: fmt::Write>(runs: &[Run], f: &mut fmt::Formatter<W>) -> fmt::Result
+    ensures { DisplaysOnOk W.write_str_gives f.old result (Some (runs_text runs.now)) f.new }
 {
-    if run.first == run.last {
-        write!(text, "{}", run.first)
-    } else {
-        write!(text, "{}-{}", run.first, run.last)
+    let Some((first, rest)) = runs.split_first() else {
+        return f.write_str("-");
+    };
+    let mut node = first.node;
+    write!(f, "n{node}:{first}")?;
+    for run in rest {
+        if run.node == node {
+            write!(f, ",{run}")?;
+            continue;
+        }
+        node = run.node;
+        write!(f, " n{node}:{run}")?;
+    }
+    Ok(())
+}
+
+/// Runs that are printed as the text of a context.
+#[derive(Clone, Copy)]
+struct Printed<'a>(&'a [Run]);
+
+impl fmt::Display for Printed<'_> {
+    ghost output = { λ printed. Some (runs_text printed.0.now) };
+
+    fn fmt<W: fmt::Write>(&self, f: &mut fmt::Formatter<W>) -> fmt::Result {
+        print_runs(self.0, f)
     }
 }
 
@@ -24,24 +48,7 @@ fn push_run(text: &mut String, run: Run) -> Result<(), AllocError>
 pub(crate) fn text_of(alloc: Global, runs: &[Run]) -> Result<String, AllocError>
     ensures { IfOk result (λ text. string_bytes text ≡ runs_text runs.now) }
 {
-    let mut text = String::new(alloc);
-    let Some((first, rest)) = runs.split_first() else {
-        text.push_str("-")?;
-        return Ok(text);
-    };
-    let mut node = first.node;
-    write!(text, "n{}:", node.number())?;
-    push_run(&mut text, *first)?;
-    for run in rest {
-        if run.node == node {
-            text.push_str(",")?;
-        } else {
-            node = run.node;
-            write!(text, " n{}:", node.number())?;
-        }
-        push_run(&mut text, *run)?;
-    }
-    Ok(text)
+    Printed(runs).to_string(alloc)
 }
 
 /// The runs that the bytes name, perhaps by other words than their own text.
