@@ -76,12 +76,15 @@ impl Context {
         Ok(())
     }
 
-    /// Adds every dot of the other set.
+    /// Adds every dot of the other set. Takes no memory where it has them all.
     pub fn union(&mut self, alloc: Global, other: &Context) -> Result<(), Fault>
         ensures ok { OnOk result (self.new ≡ set.union self.old other.now) }
         ensures err { OnErr result (self.new ≡ self.old) }
         ensures memory { IsOkUnless result Fault.OutOfMemory }
     {
+        if self.includes(other) {
+            return Ok(());
+        }
         self.runs = runs::union_of(alloc, self.runs.as_slice(), other.runs.as_slice())?;
         Ok(())
     }
@@ -126,7 +129,8 @@ impl Context {
 
     /// Appends the one spelling of the set.
     pub fn write_text(&self, alloc: Global, out: &mut String) -> Result<(), Fault>
-        ensures ok { OnOk result ((bytes : List ℕ) × Spells bytes self.now × (string_bytes out.new ≡ string_bytes out.old ++ bytes)) }
+        ensures ok { OnOk result (string_bytes out.new ≡ string_bytes out.old ++ context_text self.now) }
+        ensures spells { OnOk result (Spells (context_text self.now) self.now) }
         ensures err { OnErr result (string_bytes out.new ≡ string_bytes out.old) }
         ensures memory { IsOkUnless result Fault.OutOfMemory }
     {
