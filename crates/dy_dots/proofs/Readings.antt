@@ -1,14 +1,14 @@
 -- Every text of runs is read.
-use Rattle.std.proofs.Common.{◌≡◌, ℕ, ◌+◌, ◌-◌, ◌*◌, ◌/◌, ◌%◌, ◌≤◌, ◌==◌, Bool, true, false, not, List, [], ◌∷◌, ◌++◌, refl, sym, ap, ◌∙◌, arith, nat_eq, subst, Option, Some, None, codes, decimal, append_assoc, if◌then◌else◌, Result, Ok, Err, IfOk, IfErr, inl, inr, ◌⊎◌}
+use Rattle.std.proofs.Common.{◌≡◌, ℕ, ◌+◌, ◌-◌, ◌*◌, ◌/◌, ◌%◌, ◌≤◌, ◌==◌, Bool, true, false, not, List, [], ◌∷◌, ◌++◌, refl, sym, ap, ◌∙◌, arith, nat_eq, subst, Option, Some, None, codes, decimal, append_assoc, if◌then◌else◌, Result, Ok, Err, inl, inr}
 use Rattle.std.proofs.lemmas.Bool.{not-true, not-false, eqb-true, lt-ltb, le-leb}
 use Rattle.std.proofs.lemmas.Fmt.{decimal_by_steps}
 use Rattle.std.specs.FinSet as set
 use Rattle.std.specs.Cmp.Lexicographic.{pointwise, bytes_decides}
 use Rattle.dy_dots.specs.Dots.{DotSet}
 use Rattle.dy_dots.specs.Runs.{AreKept, AreRunsOf, set_of}
-use Rattle.dy_dots.specs.Spelling.{run_to, read_from, read_runs, run_text, later_text, runs_text, Spells, IsReadable, IsFound, IsRefused, all_allowed}
+use Rattle.dy_dots.specs.Spelling.{run_text, later_text, runs_text, Spells, IsReadable, IsFound, IsReading, IsReadAs}
+use Rattle.dy_dots.specs.Reading.{run_to, read_from, read_runs, all_allowed}
 use Rattle.dy_dots.specs.declared.faults.Fault.{Fault}
-use Rattle.dy_dots.specs.declared.faults.Fault.TheVariants.{OutOfMemory}
 use Rattle.dy_dots.specs.declared.runs.Run.{Run}
 use Rattle.dy_dots.proofs.Sets.{set_of_is, runs_are}
 use Rattle.dy_dots.proofs.Sizes.{IsSmall, AreSmall, smalls_of, readable_runs, own_runs, allowed_kept, allowed_readable, kept_dots}
@@ -178,7 +178,7 @@ one_set bytes s t p q = sym (set_of_is p.runs s p.are_runs.members) ∙ ap set_o
         some_same (a ∷ xs) (b ∷ ys) (sym (text_reads a xs (smalls_of (a ∷ xs) s x p.are_dots)) ∙ ap read_runs e ∙ text_reads b ys (smalls_of (b ∷ ys) t y q.are_dots))
 
 -- what spells a set is read as that set, memory aside
-pub read_as : (bytes : List ℕ) (s : DotSet) (answer : Result DotSet Fault) → Spells bytes s → IsReadable s → IfOk answer (IsFound bytes) → IfErr answer (IsRefused bytes) → (answer ≡ Ok s) ⊎ (answer ≡ Err OutOfMemory)
-read_as bytes s (Ok t) spells few found refused = inl (ap Ok (one_set bytes t s found.0 spells))
-read_as bytes s (Err fault) spells few found (inl e) = inr (ap Err e)
-read_as bytes s (Err fault) spells few found (inr p) = absurd (p.1 s spells few)
+pub read_as : (bytes : List ℕ) (s : DotSet) (answer : Result DotSet Fault) → IsFound bytes s → IsReading bytes answer → IsReadAs s answer
+read_as bytes s (Ok t) found (ok, err) = inl (ap Ok (one_set bytes t s ok.0 found.0))
+read_as bytes s (Err fault) found (ok, inl e) = inr (ap Err e)
+read_as bytes s (Err fault) found (ok, inr p) = absurd (p.1 s found.0 found.1)

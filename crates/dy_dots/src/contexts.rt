@@ -1,8 +1,8 @@
-ghost use Rattle.std.specs.Prelude.{◌≡◌, ◌⊎◌, ◌↔◌, true, ◌++◌, List, ℕ, OnOk, OnErr, IfOk, IfErr, IsOkUnless, string_bytes, Result, Ok, Err, Some};
+ghost use Rattle.std.specs.Prelude.{◌≡◌, ◌↔◌, ◌++◌, true, Some, OnOk, OnErr, IfOk, IfErr, IsOkUnless, string_bytes};
 ghost use Rattle.std.specs.FinSet as set;
 ghost use Rattle.dy_dots.specs.Dots.{DotSet, dot_set_code, AreDots};
 ghost use Rattle.dy_dots.specs.Runs.{AreKept, AreRunsOf, set_of};
-ghost use Rattle.dy_dots.specs.Spelling.{IsFound, IsReadable, IsRefused, Spells, context_text};
+ghost use Rattle.dy_dots.specs.Spelling.{HasText, IsFound, IsRefused, OneSet, OneSpelling, ReadsBack, Spells, SpellingIsText, context_text};
 
 use crate::dots::Dot;
 use crate::faults::Fault;
@@ -29,7 +29,7 @@ impl Model for Context {
 }
 
 impl Context {
-    /// The empty set.
+    /// The empty set. Takes no memory.
     pub fn new(alloc: Global) -> Self
         ensures { result ≡ set.empty }
     {
@@ -59,7 +59,7 @@ impl Context {
         runs::holds(self.runs.as_slice(), &dot)
     }
 
-    /// The maximal runs, rising.
+    /// The maximal runs, rising. Takes no memory.
     pub fn runs(&self) -> &[Run]
         ensures runs { AreRunsOf result.now self.now }
         ensures valid { AreDots self.now }
@@ -67,6 +67,7 @@ impl Context {
         self.runs.as_slice()
     }
 
+    /// Adds the dot.
     pub fn insert(&mut self, dot: Dot) -> Result<(), Fault>
         ensures ok { OnOk result (self.new ≡ set.insert self.old dot) }
         ensures err { OnErr result (self.new ≡ self.old) }
@@ -89,13 +90,14 @@ impl Context {
         Ok(())
     }
 
-    /// Whether every dot of the other set is in this one.
+    /// Whether every dot of the other set is in this one, in one pass over both. Takes no memory.
     pub fn includes(&self, other: &Context) -> bool
         ensures { result ≡ set.is_subset other.now self.now }
     {
         runs::include(self.runs.as_slice(), other.runs.as_slice())
     }
 
+    /// The same set in memory of its own.
     pub fn try_clone(&self, alloc: Global) -> Result<Context, Fault>
         ensures ok { IfOk result (λ context. context ≡ self.now) }
         ensures memory { IsOkUnless result Fault.OutOfMemory }
@@ -105,7 +107,7 @@ impl Context {
         })
     }
 
-    /// The set that the text spells.
+    /// The set that the text spells, where it has at most 100,000 dots.
     pub fn read_text(alloc: Global, text: &str) -> Result<Context, Fault>
         ensures found { IfOk result (IsFound text.now) }
         ensures refused { IfErr result (IsRefused text.now) }
@@ -129,7 +131,7 @@ impl Context {
 
     /// Appends the one spelling of the set.
     pub fn write_text(&self, alloc: Global, out: &mut String) -> Result<(), Fault>
-        ensures ok { OnOk result (string_bytes out.new ≡ string_bytes out.old ++ context_text self.now) }
+        ensures ok { OnOk result (HasText (string_bytes out.old) self.now (string_bytes out.new)) }
         ensures spells { OnOk result (Spells (context_text self.now) self.now) }
         ensures err { OnErr result (string_bytes out.new ≡ string_bytes out.old) }
         ensures memory { IsOkUnless result Fault.OutOfMemory }
@@ -150,22 +152,22 @@ impl fmt::Display for Context {
 
 /// No set has two spellings.
 pub fn spelling_is_unique()
-    ensures { (s : DotSet) (a b : List ℕ) → Spells a s → Spells b s → a ≡ b }
+    ensures { OneSpelling }
 {}
 
 /// No text spells two sets.
 pub fn spelled_set_is_unique()
-    ensures { (bytes : List ℕ) (s t : DotSet) → Spells bytes s → Spells bytes t → s ≡ t }
-{}
-
-/// Where the text of a set of at most 100,000 dots is read, the answer is that set, memory aside.
-pub fn written_is_read_back()
-    ensures { (bytes : List ℕ) (s : DotSet) (answer : Result DotSet Fault) → Spells bytes s → IsReadable s → IfOk answer (IsFound bytes) → IfErr answer (IsRefused bytes) → (answer ≡ Ok s) ⊎ (answer ≡ Err Fault.OutOfMemory) }
+    ensures { OneSet }
 {}
 
 /// The text of a set of dots spells it, and nothing else does.
 pub fn spelling_is_the_text()
-    ensures { (bytes : List ℕ) (s : DotSet) → Spells bytes s ↔ (AreDots s × (bytes ≡ context_text s)) }
+    ensures { SpellingIsText }
+{}
+
+/// Where the text of a set of at most 100,000 dots is read, the answer is that set, memory aside.
+pub fn written_is_read_back()
+    ensures { ReadsBack }
 {}
 
 #[cfg(test)]

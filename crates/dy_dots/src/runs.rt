@@ -2,8 +2,9 @@ ghost use Rattle.std.specs.Prelude.{◌≡◌, ◌+◌, ◌<◌, ◌≤◌, ◌�
 ghost use Rattle.dy_dots.specs.Dots.{DotSet, IsDot};
 ghost use Rattle.dy_dots.specs.declared.dots.Dot.{Dot};
 ghost use Rattle.dy_dots.specs.Runs.{AreApart, AreKept, HasAll, count_of, StartsFrom, RiseFrom, in_run, in_runs};
-ghost use Rattle.dy_dots.specs.Kinds.{single, joined, covers_run, IsBelow, IsReached, IsNext, Added};
-ghost use Rattle.dy_dots.specs.Spelling.{run_text, run_to};
+ghost use Rattle.dy_dots.specs.Kinds.{single, joined, covers_run, IsBelow, IsReached, IsNext, AreBelow, IsPlace, HaveBoth, Added};
+ghost use Rattle.dy_dots.specs.Spelling.{run_text};
+ghost use Rattle.dy_dots.specs.Reading.{run_to};
 
 use crate::dots::Dot;
 use crate::nodes::NodeId;
@@ -88,8 +89,8 @@ impl Run {
 fn place_of(runs: &[Run], dot: &Run) -> usize
     requires { AreApart runs.now }
     ensures within { result ≤ length runs.now }
-    ensures below { (k : ℕ) → k < result → IsBelow (slice_index_or runs.now k dot.now) dot.now }
-    ensures reached { result < length runs.now → IsReached (slice_index_or runs.now result dot.now) dot.now }
+    ensures below { AreBelow runs.now result dot.now }
+    ensures reached { IsPlace runs.now result dot.now }
 {
     let mut low = 0;
     let mut high = runs.len();
@@ -214,7 +215,7 @@ pub(crate) fn union_of(alloc: Global, a: &[Run], b: &[Run]) -> Result<Vec<Run>, 
     requires a_apart { AreApart a.now }
     requires b_apart { AreApart b.now }
     ensures apart { IfOk result (λ runs. AreApart runs.items) }
-    ensures members { IfOk result (λ runs. (d : Dot) → in_runs runs.items d ≡ (in_runs a.now d || in_runs b.now d)) }
+    ensures members { IfOk result (λ runs. HaveBoth a.now b.now runs.items) }
 {
     let mut runs = Vec::new(alloc);
     let Some((first, mut left, mut right)) = split_next(a, b) else {

@@ -1,6 +1,7 @@
 ghost use Rattle.std.specs.Prelude.{◌≡◌, ◌⊎◌, ◌++◌, Some, None, OnOk, IfOk, IfErr, string_bytes};
 ghost use Rattle.std.specs.Fmt.{DisplaysOnOk};
-ghost use Rattle.dy_dots.specs.Spelling.{all_allowed, allowed, read_runs, run_text, runs_text};
+ghost use Rattle.dy_dots.specs.Spelling.{run_text, runs_text};
+ghost use Rattle.dy_dots.specs.Reading.{all_allowed, allowed, read_runs, IsUnread};
 
 use crate::dots::MAX_COUNTER;
 use crate::faults::Fault;
@@ -54,7 +55,7 @@ pub(crate) fn text_of(alloc: Global, runs: &[Run]) -> Result<String, AllocError>
 /// The runs that the bytes name, perhaps by other words than their own text.
 pub(crate) fn runs_in(alloc: Global, bytes: &[u8]) -> Result<Vec<Run>, Fault>
     ensures found { IfOk result (λ runs. read_runs bytes.now ≡ Some runs.items) }
-    ensures errors { IfErr result (λ fault. (fault ≡ Fault.OutOfMemory) ⊎ ((fault ≡ Fault.ContextSyntax) × (read_runs bytes.now ≡ None))) }
+    ensures errors { IfErr result (IsUnread bytes.now) }
 {
     let mut runs = Vec::new(alloc);
     let mut node = NodeId::nth(0);
