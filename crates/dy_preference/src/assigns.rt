@@ -1,5 +1,6 @@
-ghost use Rattle.std.specs.Prelude.{◌≡◌, [], ◌∷◌, IfSome, IfNone};
-ghost use Rattle.dy_preference.specs.Preferences.{stand_ins_of};
+ghost use Rattle.std.specs.Prelude.{take, nat_eq, false, ◌≢◌, ◌≡◌, [], ◌∷◌, IfSome, IfNone};
+ghost use Rattle.std.specs.List.{All, IsDistinct};
+ghost use Rattle.dy_preference.specs.Preferences.{is_home, stand_ins_of};
 
 use crate::lists::Preference;
 use dy_dots::NodeId;
@@ -7,13 +8,14 @@ use std::marker::Model;
 
 /// The nodes that may stand in for a home, in the order in which they are asked (Dynamo, section
 /// 4.6).
+#[derive(Drop)]
 pub struct Assign<'a> {
     rest: &'a [NodeId],
     coordinator: NodeId,
 }
 
 impl<'a> Model for Assign<'a> {
-    ghost use Rattle.std.specs.Prelude.{ℕ, List, ◌==◌, not};
+    ghost use Rattle.std.specs.Prelude.{take, nat_eq, false, ◌≢◌, ℕ, List, ◌==◌, not};
     ghost use Rattle.std.specs.List.{filter};
 
     ghost Value = { List ℕ };
@@ -25,6 +27,9 @@ impl<'a> Assign<'a> {
     /// The nodes past the homes, without the coordinator. Takes no memory.
     pub fn new(list: &'a Preference, coordinator: NodeId) -> Assign<'a>
         ensures value { result ≡ stand_ins_of list.now.nodes list.now.n coordinator }
+        ensures once { IsDistinct nat_eq result }
+        ensures others { All (λ node. node ≢ coordinator) result }
+        ensures past { All (λ node. is_home (take list.now.n list.now.nodes) node ≡ false) result }
     {
         Assign {
             rest: list.past_homes(),

@@ -4,6 +4,8 @@
 mod assigns;
 mod lists;
 mod orders;
+#[cfg(test)]
+mod tests;
 
 pub use assigns::Assign;
 pub use lists::Preference;

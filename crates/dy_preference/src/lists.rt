@@ -48,14 +48,15 @@ impl Preference {
         ensures count { length result.now ≡ self.now.n }
         ensures valid { IsPreferred self.now }
     {
-        &self.nodes.as_slice()[..self.n]
+        &self.nodes()[..self.n]
     }
 
     /// The nodes past the homes. Takes no memory.
     pub(crate) fn past_homes(&self) -> &[NodeId]
-        ensures { result.now ≡ drop self.now.n self.now.nodes }
+        ensures value { result.now ≡ drop self.now.n self.now.nodes }
+        ensures valid { IsPreferred self.now }
     {
-        &self.nodes.as_slice()[self.n..]
+        &self.nodes()[self.n..]
     }
 
     /// Whether the holder may hold the key for the home. Takes no memory.

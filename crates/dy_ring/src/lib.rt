@@ -3,5 +3,7 @@
 
 mod givens;
 mod rings;
+#[cfg(test)]
+mod tests;
 
 pub use rings::{MAX_TOKENS_PER_NODE, Ring};
