@@ -15,9 +15,10 @@ use Rattle.dy_dots.specs.Dots.{dot_cmp}
 use Rattle.dy_siblings.specs.Siblings.{same_key}
 use Rattle.dy_core.specs.Steps.{same_place}
 use Rattle.dy_core.specs.Inside.{is_at, others, row_in}
-use Rattle.dy_core.specs.Orders.{key_cmp, holding_cmp, ack_cmp, put}
+use Rattle.dy_core.specs.Orders.{key_cmp, holding_cmp, ack_cmp, place_cmp, put}
 use Rattle.dy_siblings.specs.declared.versions.Version.{Version}
 use Rattle.dy_core.specs.declared.acks.Acked.{Acked}
+use Rattle.dy_core.specs.declared.places.Place.{Place}
 use Rattle.dy_core.specs.declared.holdings.Holding.{Holding}
 use Rattle.dy_core.proofs.Members.{not_in_nil, in_head, in_tail, in_cases}
 use Rattle.dy_core.proofs.Tests.{dot_cmp_total, dot_cmp_same, same_key_is, same_key_self}
@@ -54,6 +55,16 @@ acks_tie a b e =
     let dot_is = dot_cmp_same a.dot b.dot inner.0 in
     let w_is = nat_cmp-IsAntisymmetric a.w b.w inner.1 in
     λ i. record { key = key_is i; dot = dot_is i; w = w_is i }
+
+pub place_cmp_total : IsTotalOrder place_cmp
+place_cmp_total = then_total (on_total (λ (p : Place). p.home) nat_cmp_total) (on_total (λ (p : Place). p.holder) nat_cmp_total)
+
+pub places_tie : IsAntisymmetric place_cmp
+places_tie a b e =
+    let parts = both_tie (nat_cmp a.home b.home) (nat_cmp a.holder b.holder) e in
+    let home_is = nat_cmp-IsAntisymmetric a.home b.home parts.0 in
+    let holder_is = nat_cmp-IsAntisymmetric a.holder b.holder parts.1 in
+    λ i. record { home = home_is i; holder = holder_is i }
 
 -- two holdings at one place
 pub record IsSameSpot (a b : Holding) : Type 0 where

@@ -17,5 +17,6 @@ pub mod Meeting
 pub mod NextVersion
 pub mod Held
 pub mod Keeping
+pub mod Gathering
 pub mod Listed
 pub mod Performing

@@ -1,20 +1,33 @@
 -- What the lists inside a world say of it.
-use Rattle.std.proofs.Common.{◌≡◌, ℕ, Bool, true, false, ◌&&◌, ◌↔◌, List, [], ◌∷◌, refl, sym, ap, ◌∙◌, subst}
+use Rattle.std.proofs.Common.{◌≡◌, ℕ, ◌<◌, Bool, true, false, ◌&&◌, not, eqb, ◌↔◌, List, [], ◌∷◌, length, Option, None, Some, MatchOption, refl, sym, ap, ◌∙◌, subst, ⊎_elim, arith}
 use Rattle.std.specs.List.{All, Contains, list_any}
+use Rattle.std.proofs.lemmas.Bool.{cases_Bool, and_parts, and_from, eqb-true, eqb-false, true≢false, not-true, not_from_false}
+use Rattle.std.proofs.lemmas.Cmp.{nat_list_cmp_total}
+use Rattle.std.proofs.lemmas.List.Elements.{All-contains}
 use Rattle.std.specs.Cmp.{both_ways as both_ways_same}
 use Rattle.dy_dots.specs.Dots.{same_dot}
 use Rattle.dy_siblings.specs.Versions.{in_history}
 use Rattle.dy_siblings.specs.Siblings.{IsSameRow, same_key, covers}
-use Rattle.dy_core.specs.Worlds.{Layout, World, is_issued, row_at}
+use Rattle.dy_core.specs.Worlds.{Layout, World, IsSettled, is_issued, row_at}
 use Rattle.dy_core.specs.Covers.{covers_at}
-use Rattle.dy_core.specs.Inside.{Meets, row_in}
-use Rattle.dy_core.specs.Listings.{ListsHoldings, ListsAcks}
+use Rattle.dy_core.specs.Logs.{world_after}
+use Rattle.dy_core.specs.Inside.{Meets, IsAfter, last_in, row_in, gathered, is_covering, is_hint, place_of, settled_in}
+use Rattle.dy_core.specs.Listings.{ListsHoldings, ListsAcks, ListsCovers, ListsSettled}
+use Rattle.dy_core.specs.Orders.{place_cmp, key_cmp}
 use Rattle.dy_dots.specs.declared.dots.Dot.{Dot}
 use Rattle.dy_siblings.specs.declared.versions.Version.{Version}
 use Rattle.dy_core.specs.declared.acks.Acked.{Acked}
+use Rattle.dy_core.specs.declared.places.Place.{Place}
 use Rattle.dy_core.specs.declared.holdings.Holding.{Holding}
-use Rattle.dy_core.proofs.Members.{any_gives, any_from}
-use Rattle.dy_core.proofs.Held.{Spot, at_from, row_in-of, row_in-from}
+use Rattle.dy_core.specs.declared.steps.Step.{Step}
+use Rattle.dy_core.proofs.Members.{not_in_nil, in_head, any_gives, any_from, none_from}
+use Rattle.dy_core.proofs.Tests.{same_dot_is, same_key_is, same_key_self}
+use Rattle.dy_core.proofs.Standing.{stands_from, stands_in}
+use Rattle.dy_core.proofs.Kept.{IsSound}
+use Rattle.dy_core.proofs.OverLogs.{log_sound}
+use Rattle.dy_core.proofs.NextVersion.{last_is}
+use Rattle.dy_core.proofs.Gathering.{Source, gathered_from, gathered_has, gathered_sorted}
+use Rattle.dy_core.proofs.Held.{Spot, at_from, keys_tie, place_cmp_total, places_tie, row_in-of, row_in-from}
 use Rattle.dy_core.proofs.Keeping.{all_from}
 
 -- a test of some member is the same for the same members
@@ -29,6 +42,14 @@ issued_same xs ys same key d = any_same (λ v. same_key v.key key && same_dot v.
 
 pub covers_same : (xs ys : List Version) → IsSameRow xs ys → (d : Dot) → covers xs d ≡ covers ys d
 covers_same xs ys same d = any_same (λ v. in_history v d) xs ys same
+
+-- a member fails a test that none passes
+none_passes : {X : Type 0} (p : X → Bool) (xs : List X) (x : X) → Contains xs x → list_any p xs ≡ false → p x ≡ false
+none_passes p xs x h e = ⊎_elim (λ yes. absurd (true≢false (sym (any_from p xs x h yes) ∙ e))) (λ no. no) (cases_Bool (p x))
+
+first_of : (vs : List Version) → 0 < length vs → (v : Version) × Contains vs v
+first_of [] some = absurd (omega (arith, some))
+first_of (v ∷ vs) some = (v, in_head v vs)
 
 module _ (w : World) (versions : List Version) (held : List Holding) (acked : List Acked) (meets : Meets w versions held acked) where
   pub acks_listed : ListsAcks w acked
@@ -51,3 +72,124 @@ module _ (w : World) (versions : List Version) (held : List Holding) (acked : Li
 
   pub covers_is : (holder home : ℕ) (key : List ℕ) (d : Dot) → covers (row_in held holder home key) d ≡ covers_at w key d home holder
   covers_is holder home key d = covers_same (row_in held holder home key) (row_at w holder home key) (meets.rows_are holder home key) d
+
+  -- what covers a dot at a place is a holding there
+  pub covers_listed : (key : List ℕ) (d : Dot) → ListsCovers w key d (gathered place_cmp (is_covering key d) place_of held)
+  covers_listed key d =
+      record {
+        same = λ p. (
+          (λ inside.
+              let s = gathered_from place_cmp (is_covering key d) place_of held p inside in
+              let h = s.item in
+              let parts = and_parts (same_key h.row.key key) (covers h.row.versions d) s.passes in
+              let key_is = same_key_is h.row.key key parts.0 in
+              let row_is = row_in-of h.holder h.home key held meets.held_in_order h s.in_list
+              (at_from h.holder h.home key h (record { holder_is = refl; home_is = refl; key_is = key_is })) in
+              ap (λ q. covers_at w key d q.home q.holder) (sym s.gives)
+              ∙ sym (covers_is h.holder h.home key d)
+              ∙ ap (λ vs. covers vs d) row_is
+              ∙ parts.1),
+          (λ covered.
+              let found = any_gives (λ v. in_history v d) (row_in held p.holder p.home key) (covers_is p.holder p.home key d ∙ covered) in
+              let f = row_in-from p.holder p.home key held found.item found.in_list in
+              let h = f.0 in
+              let row_is = row_in-of p.holder p.home key held meets.held_in_order h f.1 (at_from p.holder p.home key h f.2) in
+              subst (Contains (gathered place_cmp (is_covering key d) place_of held))
+              (place_at h f.2)
+              (gathered_has place_cmp (is_covering key d) place_of places_tie held h f.1
+              (and_from (same_key h.row.key key) (covers h.row.versions d)
+              (ap (λ k. same_key k key) f.2.key_is ∙ same_key_self key)
+              (ap (λ vs. covers vs d) (sym row_is) ∙ covers_is p.holder p.home key d ∙ covered)))),
+        );
+        in_order = gathered_sorted place_cmp (is_covering key d) place_of place_cmp_total held;
+      }
+    where
+      place_at : {p : Place} (h : Holding) → Spot p.holder p.home key h → place_of h ≡ p
+      place_at h spot = λ i. record { home = spot.home_is i; holder = spot.holder_is i }
+
+  pub settled_gives : (layout : Layout) → IsSound layout w → (key : List ℕ) → settled_in held key ≡ true → IsSettled w key
+  settled_gives layout sound key e holder home d is_held =
+      let issued = any_gives (λ v. same_key v.key key && same_dot v.dot d) w.versions (sound.held_sound holder home key d is_held).1 in
+      let v = issued.item in
+      let parts = and_parts (same_key v.key key) (same_dot v.dot d) issued.passes in
+      let stands = stands_in w holder home key v
+      (record {
+        made = issued.in_list;
+        key_is = same_key_is v.key key parts.0;
+        is_held = ap (w.holdings holder home key) (same_dot_is v.dot d parts.1) ∙ is_held;
+      }) in
+      let f = row_in-from holder home key held v ((meets.rows_are holder home key v).1 stands) in
+      let h = f.0 in
+      let no_hint : is_hint key h ≡ false = none_passes (is_hint key) held h f.1 (not-true (list_any (is_hint key) held) e) in
+      sym f.2.holder_is
+      ∙ ⊎_elim
+      (λ same. eqb-true h.holder h.home same)
+      (λ other.
+      absurd
+      (true≢false
+      (sym (and_from (not (eqb h.holder h.home)) (same_key h.row.key key) (not_from_false (eqb h.holder h.home) other)
+      (ap (λ k. same_key k key) f.2.key_is ∙ same_key_self key)) ∙ no_hint)))
+      (cases_Bool (eqb h.holder h.home))
+      ∙ f.2.home_is
+
+  pub settled_from : (key : List ℕ) → IsSettled w key → settled_in held key ≡ true
+  settled_from key settled =
+      not_from_false (list_any (is_hint key) held)
+      (none_from (is_hint key) held (λ h inside hint.
+      let parts = and_parts (not (eqb h.holder h.home)) (same_key h.row.key key) hint in
+      let key_is = same_key_is h.row.key key parts.1 in
+      let first = first_of h.row.versions (All-contains (λ x. 0 < length x.row.versions) held h meets.none_empty inside) in
+      let row_is = row_in-of h.holder h.home key held meets.held_in_order h inside
+      (at_from h.holder h.home key h (record { holder_is = refl; home_is = refl; key_is = key_is })) in
+      let s = stands_from w h.holder h.home key first.0 ((meets.rows_are h.holder h.home key first.0).0 (subst (λ vs. Contains vs first.0) (sym row_is) first.1)) in
+      eqb-false h.holder h.home (not-true (eqb h.holder h.home) parts.0) (settled h.holder h.home first.0.dot s.is_held)))
+
+  pub settled_listed : (layout : Layout) → IsSound layout w →
+      ListsSettled w (gathered key_cmp (λ v. settled_in held v.key) (λ v. v.key) versions)
+  settled_listed layout sound =
+      record {
+        same = λ key. (
+          (λ inside.
+              let s = gathered_from key_cmp (λ v. settled_in held v.key) (λ v. v.key) versions key inside in
+              ((s.item, (meets.versions_are s.item).0 s.in_list, s.gives), settled_gives layout sound key (ap (settled_in held) (sym s.gives) ∙ s.passes))),
+          (λ h.
+              let v = h.0.0 in
+              subst (Contains (gathered key_cmp (λ v. settled_in held v.key) (λ v. v.key) versions)) h.0.2
+              (gathered_has key_cmp (λ v. settled_in held v.key) (λ v. v.key) keys_tie versions v ((meets.versions_are v).1 h.0.1)
+              (ap (settled_in held) h.0.2 ∙ settled_from key h.1))),
+        );
+        in_order = gathered_sorted key_cmp (λ v. settled_in held v.key) (λ v. v.key) nat_list_cmp_total versions;
+      }
+
+-- a fact of the option's cases gives a weaker one
+pub option_weaker : {T : Type 0} (o : Option T) (P Q : Type 0) (R S : T → Type 0) → (P → Q) → ((x : T) → R x → S x) → MatchOption o P R → MatchOption o Q S
+option_weaker None P Q R S none some h = none h
+option_weaker (Some x) P Q R S none some h = some x h
+
+-- the same where each case has two facts
+pub option_both : {T : Type 0} (o : Option T) (P Q : Type 0) (R S U : T → Type 0) → (P → Q) → ((x : T) → R x → S x → U x) →
+    MatchOption o P R → MatchOption o P S → MatchOption o Q U
+option_both None P Q R S U none some h k = none h
+option_both (Some x) P Q R S U none some h k = some x h k
+
+module _ (layout : Layout) (steps : List Step) (versions : List Version) (held : List Holding) (acked : List Acked)
+    (after : IsAfter layout steps versions held acked) where
+  pub last_listed : (node : ℕ) (key : List ℕ) → last_in versions node key ≡ (world_after steps).counters node key
+  last_listed node key = last_is layout (world_after steps) (log_sound layout steps after.is_legal) versions after.meets.versions_are node key
+
+  pub settled_is : (key : List ℕ) → (settled_in held key ≡ true) ↔ IsSettled (world_after steps) key
+  settled_is key = (
+    settled_gives (world_after steps) versions held acked after.meets layout (log_sound layout steps after.is_legal) key,
+    settled_from (world_after steps) versions held acked after.meets key,
+  )
+
+  pub keys_listed : ListsSettled (world_after steps) (gathered key_cmp (λ v. settled_in held v.key) (λ v. v.key) versions)
+  keys_listed = settled_listed (world_after steps) versions held acked after.meets layout (log_sound layout steps after.is_legal)
+
+  -- a row that is in the list of holdings has a version
+  pub row_some : (h : Holding) → Contains held h → 0 < length h.row.versions
+  row_some h inside = All-contains (λ x. 0 < length x.row.versions) held h after.meets.none_empty inside
+
+  pub none_at : (holder home : ℕ) (key : List ℕ) → row_in held holder home key ≡ [] → (v : Version) → Contains (row_at (world_after steps) holder home key) v → ⊥
+  none_at holder home key none v inside =
+      not_in_nil v (subst (λ vs. Contains vs v) none ((after.meets.rows_are holder home key v).1 inside))

@@ -1,7 +1,8 @@
 -- What holds after every run.
-use Rattle.std.proofs.Common.{◌≡◌, ℕ, true, List, [], ◌∷◌, ◌++◌, refl, sym, subst, arith}
+use Rattle.std.proofs.Common.{◌≡◌, ℕ, true, List, [], ◌∷◌, ◌++◌, ◌+◌, ◌<◌, length, get_or, take, drop, refl, sym, ap, ◌∙◌, subst, arith}
 use Rattle.std.specs.List.{All, Contains}
 use Rattle.std.proofs.lemmas.Bool.{or_left}
+use Rattle.std.proofs.lemmas.List.{drop_more, take-append-drop}
 use Rattle.std.proofs.lemmas.List.Elements.{All-cons, All-weaker}
 use Rattle.dy_core.specs.Worlds.{Layout, World, empty_world}
 use Rattle.dy_core.specs.Covers.{HasCover, covers_at, AcksAreCovered, receipt_holds}
@@ -108,3 +109,10 @@ step_keeps_issued layout v w sound (Ack key d n) a h = h
 pub issued_stays : (layout : Layout) (steps more : List Step) → IsLegal layout (steps ++ more) → (v : Version) →
     Contains (world_after steps).versions v → Contains (world_after (steps ++ more)).versions v
 issued_stays layout steps more legal v = stays layout (λ w. Contains w.versions v) (step_keeps_issued layout v) steps more legal
+
+-- each step of a legal log is allowed in the world after those before it
+pub legal_at : (layout : Layout) (steps : List Step) → IsLegal layout steps → (k : ℕ) (s : Step) → k < length steps → s ≡ get_or steps k s →
+    IsAllowed layout (world_after (take k steps)) s
+legal_at layout steps legal k s lt is =
+    (subst (IsLegalFrom layout (world_after (take k steps))) (drop_more steps k s lt ∙ ap (λ t. t ∷ drop (k + 1) steps) (sym is))
+    (legal_rest layout empty_world (take k steps) (drop k steps) (subst (IsLegal layout) (sym (take-append-drop k steps)) legal))).0

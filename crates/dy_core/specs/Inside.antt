@@ -1,12 +1,14 @@
 -- How the lists inside a world mean it.
-use Rattle.std.specs.Prelude.{◌≡◌, ℕ, ◌<◌, ◌==◌, Bool, ◌&&◌, ◌||◌, not, true, false, ◌↔◌, max, fold, length, if◌then◌else◌, List, [], ◌∷◌}
+use Rattle.std.specs.Prelude.{◌≡◌, ℕ, ◌<◌, ◌≤◌, ◌==◌, Bool, ◌&&◌, ◌||◌, not, true, false, ◌↔◌, max, fold, length, if◌then◌else◌, List, [], ◌∷◌}
 use Rattle.std.specs.List.{list_any, filter, All, Contains}
 use Rattle.std.specs.List.Sorted.{IsStrictlySortedBy}
 use Rattle.std.specs.FinSet as set
 use Rattle.dy_dots.specs.Dots.{DotSet}
 use Rattle.dy_siblings.specs.Versions.{in_history}
-use Rattle.dy_siblings.specs.Siblings.{IsSameRow, same_key}
-use Rattle.dy_core.specs.Worlds.{Layout, World, row_at}
+use Rattle.dy_siblings.specs.Siblings.{IsSameRow, same_key, covers}
+use Rattle.std.specs.declared.cmp.Ordering.{Ordering}
+use Rattle.dy_ring.specs.Rings.{Tokens}
+use Rattle.dy_core.specs.Worlds.{Layout, layout_of, World, row_at}
 use Rattle.dy_core.specs.Steps.{same_place}
 use Rattle.dy_core.specs.Logs.{world_after, IsLegal}
 use Rattle.dy_core.specs.Orders.{holding_cmp, ack_cmp, put}
@@ -14,6 +16,7 @@ use Rattle.dy_dots.specs.declared.dots.Dot.{Dot}
 use Rattle.dy_siblings.specs.declared.versions.Version.{Version}
 use Rattle.dy_core.specs.declared.steps.Step.{Step}
 use Rattle.dy_core.specs.declared.acks.Acked.{Acked}
+use Rattle.dy_core.specs.declared.places.Place.{Place}
 use Rattle.dy_core.specs.declared.holdings.Holding.{Holding}
 
 -- whether the version is of the key and the context names it
@@ -67,3 +70,29 @@ pub record Meets (w : World) (versions : List Version) (held : List Holding) (ac
 pub record IsAfter (layout : Layout) (steps : List Step) (versions : List Version) (held : List Holding) (acked : List Acked) : Type 0 where
   pub is_legal : IsLegal layout steps
   pub meets : Meets (world_after steps) versions held acked
+
+-- a key has some homes, and no more than the ring has nodes, and the lists are those after the steps
+pub record IsInside (ring : Tokens) (n : ℕ) (steps : List Step) (versions : List Version) (held : List Holding) (acked : List Acked) : Type 0 where
+  pub some : 1 ≤ n
+  pub enough : n ≤ ring.nodes
+  pub after : IsAfter (layout_of ring n) steps versions held acked
+
+-- whether the holding is of the key, and for another node
+abbrev pub is_hint : List ℕ → Holding → Bool
+is_hint key h = not (h.holder == h.home) && same_key h.row.key key
+
+-- whether what is held of the key is held by its homes alone
+abbrev pub settled_in : List Holding → List ℕ → Bool
+settled_in held key = not (list_any (is_hint key) held)
+
+-- what those that pass a test give, each put into its place
+abbrev pub gathered : {X Y : Type 0} → (Y → Y → Ordering) → (X → Bool) → (X → Y) → List X → List Y
+gathered cmp test of xs = fold (λ ys x. if test x then put cmp ys (of x) else ys) [] xs
+
+-- whether the holding is of the key and covers the dot
+abbrev pub is_covering : List ℕ → Dot → Holding → Bool
+is_covering key d h = same_key h.row.key key && covers h.row.versions d
+
+-- the place of a holding
+abbrev pub place_of : Holding → Place
+place_of h = record { home = h.home; holder = h.holder }

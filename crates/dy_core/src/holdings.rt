@@ -1,10 +1,14 @@
 ghost use Rattle.std.specs.Prelude.{◌≡◌, ◌++◌, [], IfOk, OnOk, OnErr, MatchOption, IsOkUnless};
 ghost use Rattle.dy_siblings.specs.Siblings.{Siblings, AreOneByDot, IsSameRow, merge, without};
-ghost use Rattle.dy_core.specs.Inside.{kept, others, row_in};
+ghost use Rattle.std.specs.List.{Contains, list_any};
+ghost use Rattle.dy_core.specs.Orders.{key_cmp, place_cmp};
+ghost use Rattle.dy_core.specs.Inside.{gathered, is_covering, is_hint, kept, others, place_of, row_in, settled_in};
+ghost use Rattle.dy_core.specs.declared.holdings.Holding.{Holding as HoldingParts};
 
 use crate::lists::{self, Ranked};
+use crate::places::Place;
 use dy_dots::{Dot, Fault, NodeId};
-use dy_siblings::{Key, Row};
+use dy_siblings::{Key, Row, Version};
 use std::alloc::Global;
 use std::cmp::Ordering;
 
@@ -30,7 +34,31 @@ impl Ranked for Holding {
 }
 
 impl Holding {
-    ghost use Rattle.dy_core.specs.Inside.{is_at};
+    ghost use Rattle.dy_core.specs.Inside.{is_at, is_covering, is_hint, place_of};
+
+    // Whether it is of the key and covers the dot.
+    fn is_covering(&self, key: &Key, dot: Dot) -> bool
+        ensures { result ≡ is_covering key.now dot self.now }
+    {
+        self.row.key() == key && self.row.covers(dot)
+    }
+
+    // Whether it is of the key, and for another node.
+    fn is_hint(&self, key: &Key) -> bool
+        ensures { result ≡ is_hint key.now self.now }
+    {
+        self.holder != self.home && self.row.key() == key
+    }
+
+    // Its home and its holder.
+    fn place(&self) -> Place
+        ensures { result ≡ place_of self.now }
+    {
+        Place {
+            home: self.home,
+            holder: self.holder,
+        }
+    }
 
     // Whether it is at the place.
     fn is_at(&self, holder: NodeId, home: NodeId, key: &Key) -> bool
@@ -49,6 +77,7 @@ pub(crate) fn find<'a>(
 ) -> Option<&'a Row>
     ensures none { MatchOption result (row_in held.now holder home key.now ≡ []) (λ row. row.now.key ≡ key.now) }
     ensures some { MatchOption result (row_in held.now holder home key.now ≡ []) (λ row. row.now.versions ≡ row_in held.now holder home key.now) }
+    ensures inside { MatchOption result (row_in held.now holder home key.now ≡ []) (λ row. (h : HoldingParts) × Contains held.now h × (h.row ≡ row.now)) }
 {
     for holding in held {
         if holding.is_at(holder, home, key) {
@@ -144,4 +173,55 @@ pub(crate) fn release(
     };
     keep(held, holding)?;
     Ok(())
+}
+
+/// Whether what is held of the key is held by its homes alone. Takes no memory.
+pub(crate) fn are_settled(held: &[Holding], key: &Key) -> bool
+    ensures { result ≡ settled_in held.now key.now }
+{
+    !have_hint(held, key)
+}
+
+// Whether one of the holdings is of the key, and for another node.
+fn have_hint(held: &[Holding], key: &Key) -> bool
+    ensures { result ≡ list_any (is_hint key.now) held.now }
+{
+    held.iter().any(|holding| holding.is_hint(key))
+}
+
+/// The places whose row covers the dot, by home and holder.
+pub(crate) fn covering(
+    alloc: Global,
+    held: &[Holding],
+    key: &Key,
+    dot: Dot,
+) -> Result<Vec<Place>, Fault>
+    ensures ok { IfOk result (λ places. places.items ≡ gathered place_cmp (is_covering key.now dot) place_of held.now) }
+    ensures memory { IsOkUnless result Fault.OutOfMemory }
+{
+    let mut places = Vec::new(alloc);
+    for holding in held {
+        if holding.is_covering(key, dot) {
+            lists::put(&mut places, holding.place())?;
+        }
+    }
+    Ok(places)
+}
+
+/// The keys of versions that are settled, by their bytes.
+pub(crate) fn settled_of(
+    alloc: Global,
+    held: &[Holding],
+    versions: &[Version],
+) -> Result<Vec<Key>, Fault>
+    ensures ok { IfOk result (λ keys. keys.items ≡ gathered key_cmp (λ v. settled_in held.now v.key) (λ v. v.key) versions.now) }
+    ensures memory { IsOkUnless result Fault.OutOfMemory }
+{
+    let mut keys = Vec::new(alloc);
+    for version in versions {
+        if are_settled(held, version.key()) {
+            lists::put(&mut keys, version.key().try_clone(alloc)?)?;
+        }
+    }
+    Ok(keys)
 }

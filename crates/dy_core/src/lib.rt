@@ -8,10 +8,12 @@ mod issuing;
 pub mod laws;
 mod lists;
 mod places;
+mod readers;
 mod steps;
 mod worlds;
 
 pub use acks::Acked;
+pub use applying::run_steps;
 pub use holdings::Holding;
 pub use places::Place;
 pub use steps::Step;

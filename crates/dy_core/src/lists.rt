@@ -3,6 +3,7 @@ ghost use Rattle.std.specs.declared.cmp.Ordering.{Ordering};
 ghost use Rattle.dy_core.specs.Orders.{put};
 
 use dy_dots::Fault;
+use dy_siblings::Key;
 use std::cmp::Ordering;
 
 /// The order in which a world lists its items.
@@ -11,6 +12,16 @@ pub(crate) trait Ranked {
 
     fn rank(&self, other: &Self) -> Ordering
         ensures { result ≡ ranked self.now other.now };
+}
+
+impl Ranked for Key {
+    ghost use Rattle.dy_core.specs.Orders.{key_cmp};
+
+    ghost ranked = { key_cmp };
+
+    fn rank(&self, other: &Key) -> Ordering {
+        self.cmp(other)
+    }
 }
 
 // How many items of the list, from its first on, come before this one.

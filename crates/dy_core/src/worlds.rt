@@ -1,7 +1,6 @@
 ghost use Rattle.std.specs.Prelude.{◌≡◌, ◌≤◌, ◌↔◌, [], length, IsTrue, IfOk, IsOk};
-ghost use Rattle.dy_siblings.specs.declared.versions.Version.{Version as Parts};
-ghost use Rattle.dy_core.specs.Worlds.{is_issued, IsSettled};
-ghost use Rattle.dy_core.specs.Logs.{world_after};
+ghost use Rattle.dy_core.specs.Worlds.{is_issued, layout_of};
+ghost use Rattle.dy_core.specs.Logs.{IsLegal, world_after};
 ghost use Rattle.dy_core.specs.Listings.{ListsHoldings, ListsAcks};
 
 use crate::acks::Acked;
@@ -33,12 +32,11 @@ impl Model for World {
 
     ghost coded = { log_code };
 
-    ghost use Rattle.dy_core.specs.Inside.{IsAfter};
-    ghost use Rattle.dy_core.specs.Worlds.{layout_of};
+    ghost use Rattle.dy_core.specs.Inside.{IsInside};
 
     ghost view = { λ w. record { ring = w.ring; n = w.n; steps = w.steps.items } };
 
-    ghost invariant = { λ w. IsAfter (layout_of w.ring w.n) w.steps.items w.versions.items w.held.items w.acked.items };
+    ghost invariant = { λ w. IsInside w.ring w.n w.steps.items w.versions.items w.held.items w.acked.items };
 }
 
 impl World {
@@ -68,7 +66,10 @@ impl World {
 
     /// How many homes a key has. Takes no memory.
     pub fn n(&self) -> u8
-        ensures { result ≡ self.now.n }
+        ensures value { result ≡ self.now.n }
+        ensures some { 1 ≤ self.now.n }
+        ensures enough { self.now.n ≤ self.now.ring.nodes }
+        ensures legal { IsLegal (layout_of self.now.ring self.now.n) self.now.steps }
     {
         self.n
     }

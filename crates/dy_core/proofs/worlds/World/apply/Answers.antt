@@ -11,10 +11,15 @@ invariant_of-self-2 c =
     let w = c.self.inside in
     let steps_are = c.in_ok-push.ensures.items ∙ ap (λ steps. steps ++ c.args.step ∷ []) c.in_ok-reserve.ensures.items in
     let allowed = subst (λ log. IsAllowed (layout_of log.ring log.n) (world_after log.steps) c.args.step) (sym c.self.view_is) c.requires.allowed in
-    subst (λ steps. IsAfter (layout_of w.ring w.n) steps c.perform.new.versions.items c.perform.new.held.items c.perform.new.acked.items)
-    (sym steps_are) (c.in_ok-row.ensures.log _ _ c.self.invariant allowed)
+    record {
+      some = c.self.invariant.some;
+      enough = c.self.invariant.enough;
+      after =
+          subst (λ steps. IsAfter (layout_of w.ring w.n) steps c.perform.new.versions.items c.perform.new.held.items c.perform.new.acked.items)
+          (sym steps_are) (c.in_ok-row.ensures.log _ _ c.self.invariant.after allowed);
+    }
 
 pub returns-clause-row : goal.returns-clause-row
 returns-clause-row c =
     subst (λ log. IsSameRow c.in_ok-row.row.versions (answer_of (world_after log.steps) c.args.step)) c.self.view_is
-    (c.in_ok-row.ensures.row _ _ c.self.invariant)
+    (c.in_ok-row.ensures.row _ _ c.self.invariant.after)

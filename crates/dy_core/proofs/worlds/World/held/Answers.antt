@@ -8,4 +8,4 @@ pub returns : goal.returns
 returns c =
     rw c.as_slice.ensures.value
     (subst (λ steps. ListsHoldings (world_after steps) c.self.inside.held.items) (ap (λ log. log.steps) c.self.view_is)
-    (holdings_listed _ _ _ _ c.self.invariant.meets))
+    (holdings_listed _ _ _ _ c.self.invariant.after.meets))

@@ -1,0 +1,15 @@
+use Rattle.std.proofs.Common.{sym, ap, ◌∙◌, subst}
+use Rattle.dy_core.specs.Logs.{world_after}
+use Rattle.dy_core.specs.Inside.{gathered, is_covering, place_of}
+use Rattle.dy_core.specs.Listings.{ListsCovers}
+use Rattle.dy_core.specs.Orders.{place_cmp}
+use Rattle.dy_core.proofs.Listed.{covers_listed}
+use Rattle.dy_core.proofs.worlds.World.covers.Goals as goal
+
+pub returns-clause-ok : goal.returns-clause-ok
+returns-clause-ok c =
+    subst (λ ps. ListsCovers (world_after c.args.self.now.steps) c.args.key.now c.args.dot ps)
+    (sym (c.in_ok-places.ensures.ok ∙ ap (gathered place_cmp (is_covering c.args.key.now c.args.dot) place_of) c.as_slice.ensures.value))
+    (subst (λ log. ListsCovers (world_after log.steps) c.args.key.now c.args.dot
+    (gathered place_cmp (is_covering c.args.key.now c.args.dot) place_of c.self.inside.held.items)) c.self.view_is
+    (covers_listed _ _ _ _ c.self.invariant.after.meets c.args.key.now c.args.dot))

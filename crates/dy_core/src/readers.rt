@@ -1,0 +1,79 @@
+ghost use Rattle.std.specs.Prelude.{◌≡◌, ◌↔◌, ◌<◌, length, IsTrue, IfOk, IsOkUnless, MatchOption, false};
+ghost use Rattle.std.specs.List.{Contains};
+ghost use Rattle.dy_siblings.specs.Siblings.{IsSameRow};
+ghost use Rattle.dy_siblings.specs.declared.versions.Version.{Version as VersionParts};
+ghost use Rattle.dy_core.specs.Worlds.{IsSettled, is_issued, row_at};
+ghost use Rattle.dy_core.specs.Covers.{covers_at};
+ghost use Rattle.dy_core.specs.Logs.{world_after};
+ghost use Rattle.dy_core.specs.Listings.{ListsCovers, ListsSettled};
+
+use crate::places::Place;
+use crate::worlds::World;
+use crate::{holdings, issuing};
+use dy_dots::{Dot, Fault, NodeId};
+use dy_siblings::{Key, Row, Version};
+use std::alloc::Global;
+
+impl World {
+    /// The greatest counter that the node used for the key, 0 where there is none. Takes no memory.
+    pub fn last(&self, node: NodeId, key: &Key) -> u32
+        ensures { result ≡ (world_after self.now.steps).counters node key.now }
+    {
+        issuing::last_counter(self.versions.as_slice(), node, key)
+    }
+
+    /// The version of this key and dot, where one was made. Takes no memory.
+    pub fn version(&self, key: &Key, dot: Dot) -> Option<&Version>
+        ensures { MatchOption result (is_issued (world_after self.now.steps).versions key.now dot ≡ false)
+            (λ v. Contains (world_after self.now.steps).versions v.now × (v.now.key ≡ key.now) × (v.now.dot ≡ dot)) }
+    {
+        issuing::find(self.versions.as_slice(), key, dot)
+    }
+
+    /// The row that the holder holds for the home, where it has a version. Takes no memory.
+    pub fn row(&self, holder: NodeId, home: NodeId, key: &Key) -> Option<&Row>
+        ensures none { MatchOption result ((v : VersionParts) → Contains (row_at (world_after self.now.steps) holder home key.now) v → ⊥)
+            (λ row. 0 < length row.now.versions) }
+        ensures key { MatchOption result ((v : VersionParts) → Contains (row_at (world_after self.now.steps) holder home key.now) v → ⊥)
+            (λ row. row.now.key ≡ key.now) }
+        ensures row { MatchOption result ((v : VersionParts) → Contains (row_at (world_after self.now.steps) holder home key.now) v → ⊥)
+            (λ row. IsSameRow row.now.versions (row_at (world_after self.now.steps) holder home key.now)) }
+    {
+        holdings::find(self.held.as_slice(), holder, home, key)
+    }
+
+    /// Whether the home's row at the holder covers the dot. Takes no memory.
+    pub fn place_covers(&self, holder: NodeId, home: NodeId, key: &Key, dot: Dot) -> bool
+        ensures { result ≡ covers_at (world_after self.now.steps) key.now dot home holder }
+    {
+        match holdings::find(self.held.as_slice(), holder, home, key) {
+            Some(row) => row.covers(dot),
+            None => false,
+        }
+    }
+
+    /// All places that cover the dot, by home and holder.
+    pub fn covers(&self, alloc: Global, key: &Key, dot: Dot) -> Result<Vec<Place>, Fault>
+        ensures ok { IfOk result (λ places. ListsCovers (world_after self.now.steps) key.now dot places.items) }
+        ensures memory { IsOkUnless result Fault.OutOfMemory }
+    {
+        let places = holdings::covering(alloc, self.held.as_slice(), key, dot)?;
+        Ok(places)
+    }
+
+    /// Whether each holder of the key is the home that it holds for. Takes no memory.
+    pub fn is_settled(&self, key: &Key) -> bool
+        ensures { IsTrue result ↔ IsSettled (world_after self.now.steps) key.now }
+    {
+        holdings::are_settled(self.held.as_slice(), key)
+    }
+
+    /// The settled keys of which a version was made, by their bytes.
+    pub fn settled(&self, alloc: Global) -> Result<Vec<Key>, Fault>
+        ensures ok { IfOk result (λ keys. ListsSettled (world_after self.now.steps) keys.items) }
+        ensures memory { IsOkUnless result Fault.OutOfMemory }
+    {
+        let keys = holdings::settled_of(alloc, self.held.as_slice(), self.versions.as_slice())?;
+        Ok(keys)
+    }
+}
