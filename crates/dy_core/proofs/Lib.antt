@@ -17,6 +17,8 @@ pub mod Meeting
 pub mod NextVersion
 pub mod Held
 pub mod Keeping
+pub mod Choosing
+pub mod Runs
 pub mod Gathering
 pub mod Listed
 pub mod Performing

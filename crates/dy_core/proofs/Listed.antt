@@ -7,8 +7,8 @@ use Rattle.std.proofs.lemmas.List.Elements.{All-contains}
 use Rattle.std.specs.Cmp.{both_ways as both_ways_same}
 use Rattle.dy_dots.specs.Dots.{same_dot}
 use Rattle.dy_siblings.specs.Versions.{in_history}
-use Rattle.dy_siblings.specs.Siblings.{IsSameRow, same_key, covers}
-use Rattle.dy_core.specs.Worlds.{Layout, World, IsSettled, is_issued, row_at}
+use Rattle.dy_siblings.specs.Siblings.{IsSameRow, has_dot, same_key, covers}
+use Rattle.dy_core.specs.Worlds.{Layout, World, AreMadeOf, IsSettled, is_issued, row_at}
 use Rattle.dy_core.specs.Covers.{covers_at}
 use Rattle.dy_core.specs.Logs.{world_after}
 use Rattle.dy_core.specs.Inside.{Meets, IsAfter, last_in, row_in, gathered, is_covering, is_hint, place_of, settled_in}
@@ -193,3 +193,34 @@ module _ (layout : Layout) (steps : List Step) (versions : List Version) (held :
   pub none_at : (holder home : ℕ) (key : List ℕ) → row_in held holder home key ≡ [] → (v : Version) → Contains (row_at (world_after steps) holder home key) v → ⊥
   none_at holder home key none v inside =
       not_in_nil v (subst (λ vs. Contains vs v) none ((after.meets.rows_are holder home key v).1 inside))
+
+  -- what is held at a place is in the row there
+  pub held_in : (holder home : ℕ) (key : List ℕ) (d : Dot) → has_dot (row_in held holder home key) d ≡ (world_after steps).holdings holder home key d
+  held_in holder home key d =
+      both_ways_same (has_dot (row_in held holder home key) d) ((world_after steps).holdings holder home key d)
+      (λ e.
+      let f = any_gives (λ v. same_dot v.dot d) (row_in held holder home key) e in
+      let s = stands_from (world_after steps) holder home key f.item ((after.meets.rows_are holder home key f.item).0 f.in_list) in
+      ap ((world_after steps).holdings holder home key) (sym (same_dot_is f.item.dot d f.passes)) ∙ s.is_held)
+      (λ e.
+      let issued = any_gives (λ v. same_key v.key key && same_dot v.dot d) (world_after steps).versions
+      ((log_sound layout steps after.is_legal).held_sound holder home key d e).1 in
+      let v = issued.item in
+      let parts = and_parts (same_key v.key key) (same_dot v.dot d) issued.passes in
+      any_from (λ v. same_dot v.dot d) (row_in held holder home key) v
+      ((after.meets.rows_are holder home key v).1
+      (stands_in (world_after steps) holder home key v
+      (record {
+        made = issued.in_list;
+        key_is = same_key_is v.key key parts.0;
+        is_held = ap ((world_after steps).holdings holder home key) (same_dot_is v.dot d parts.1) ∙ e;
+      })))
+      parts.1)
+
+  -- versions that are all in the list of one key were made
+  pub made_is : (key : List ℕ) (vs : List Version) → All (λ v. v.key ≡ key) vs →
+      All (λ v. Contains versions v) vs ↔ AreMadeOf (world_after steps) key vs
+  made_is key vs of_key = (
+    (λ all k d lt. (of_key k d lt, (after.meets.versions_are _).0 (all k d lt))),
+    (λ made k d lt. (after.meets.versions_are _).1 (made k d lt).1),
+  )

@@ -1,6 +1,6 @@
 -- How the lists inside a world mean it.
-use Rattle.std.specs.Prelude.{◌≡◌, ℕ, ◌<◌, ◌≤◌, ◌==◌, Bool, ◌&&◌, ◌||◌, not, true, false, ◌↔◌, max, fold, length, if◌then◌else◌, List, [], ◌∷◌}
-use Rattle.std.specs.List.{list_any, filter, All, Contains}
+use Rattle.std.specs.Prelude.{◌≡◌, ℕ, ◌<◌, ◌≤◌, ◌==◌, Bool, ◌&&◌, ◌||◌, not, true, false, ◌↔◌, max, fold, length, map, nat_eq, if◌then◌else◌, List, [], ◌∷◌}
+use Rattle.std.specs.List.{list_any, filter, All, Contains, IsDistinct}
 use Rattle.std.specs.List.Sorted.{IsStrictlySortedBy}
 use Rattle.std.specs.FinSet as set
 use Rattle.dy_dots.specs.Dots.{DotSet}
@@ -8,10 +8,12 @@ use Rattle.dy_siblings.specs.Versions.{in_history}
 use Rattle.dy_siblings.specs.Siblings.{IsSameRow, same_key, covers}
 use Rattle.std.specs.declared.cmp.Ordering.{Ordering}
 use Rattle.dy_ring.specs.Rings.{Tokens}
-use Rattle.dy_core.specs.Worlds.{Layout, layout_of, World, row_at}
+use Rattle.dy_core.specs.Worlds.{Layout, layout_of, World, is_issued, row_at}
 use Rattle.dy_core.specs.Steps.{same_place}
 use Rattle.dy_core.specs.Logs.{world_after, IsLegal}
 use Rattle.dy_core.specs.Orders.{holding_cmp, ack_cmp, put}
+use Rattle.dy_dots.specs.Runs.{in_runs}
+use Rattle.dy_dots.specs.declared.runs.Run.{Run}
 use Rattle.dy_dots.specs.declared.dots.Dot.{Dot}
 use Rattle.dy_siblings.specs.declared.versions.Version.{Version}
 use Rattle.dy_core.specs.declared.steps.Step.{Step}
@@ -96,3 +98,29 @@ is_covering key d h = same_key h.row.key key && covers h.row.versions d
 -- the place of a holding
 abbrev pub place_of : Holding → Place
 place_of h = record { home = h.home; holder = h.holder }
+
+-- each counter of the run below this one is of a version of the key
+abbrev pub AreIssuedBelow : List Version → List ℕ → Run → ℕ → Type 0
+AreIssuedBelow vs key r n = (c : ℕ) → r.first ≤ c → c < n → is_issued vs key (record { node = r.node; counter = c }) ≡ true
+
+-- the dot is the first of the run that is of no version of the key
+pub record IsFirstUnissued (vs : List Version) (key : List ℕ) (r : Run) (d : Dot) : Type 0 where
+  pub node_is : d.node ≡ r.node
+  pub from : r.first ≤ d.counter
+  pub upto : d.counter ≤ r.last
+  pub not_issued : is_issued vs key d ≡ false
+  pub before : AreIssuedBelow vs key r d.counter
+
+-- each dot of the runs is of a version of the key
+abbrev pub AreIssuedIn : List Version → List ℕ → List Run → Type 0
+AreIssuedIn vs key rs = (e : Dot) → in_runs rs e ≡ true → is_issued vs key e ≡ true
+
+-- whether two places have their home or their holder in common
+abbrev pub clashes : Place → Place → Bool
+clashes p q = (q.home == p.home) || (q.holder == p.holder)
+
+-- some of these places, no two with one home or with one holder
+pub record AreChosen (places chosen : List Place) : Type 0 where
+  pub inside : (p : Place) → Contains chosen p → Contains places p
+  pub homes_distinct : IsDistinct nat_eq (map (λ p. p.home) chosen)
+  pub holders_distinct : IsDistinct nat_eq (map (λ p. p.holder) chosen)

@@ -1,9 +1,11 @@
 -- What a world's readers list.
-use Rattle.std.specs.Prelude.{◌≡◌, ℕ, ◌<◌, ◌↔◌, length, IsTrue, List}
+use Rattle.std.specs.Prelude.{◌≡◌, ℕ, ◌<◌, ◌↔◌, length, IsTrue, false, List}
 use Rattle.std.specs.List.{All, Contains}
+use Rattle.std.specs.FinSet as set
+use Rattle.dy_dots.specs.Dots.{DotSet, IsDotBefore}
 use Rattle.std.specs.List.Sorted.{IsStrictlySortedBy}
 use Rattle.dy_siblings.specs.Siblings.{IsSameRow}
-use Rattle.dy_core.specs.Worlds.{World, IsSettled, row_at}
+use Rattle.dy_core.specs.Worlds.{World, IsSettled, is_issued, row_at}
 use Rattle.dy_core.specs.Covers.{CoversAt}
 use Rattle.dy_core.specs.Orders.{holding_cmp, ack_cmp, place_cmp, key_cmp}
 use Rattle.dy_dots.specs.declared.dots.Dot.{Dot}
@@ -34,3 +36,9 @@ pub record ListsCovers (w : World) (key : List ℕ) (d : Dot) (places : List Pla
 pub record ListsSettled (w : World) (keys : List (List ℕ)) : Type 0 where
   pub same : (key : List ℕ) → Contains keys key ↔ ((v : Version) × Contains w.versions v × (v.key ≡ key)) × IsSettled w key
   pub in_order : IsStrictlySortedBy key_cmp keys
+
+-- the dot is the least of the context that is not of one of these versions of the key
+pub record IsLeastUnknown (vs : List Version) (key : List ℕ) (context : DotSet) (d : Dot) : Type 0 where
+  pub in_context : IsTrue (set.contains context d)
+  pub not_issued : is_issued vs key d ≡ false
+  pub least : (e : Dot) → IsTrue (set.contains context e) → IsDotBefore e d → IsTrue (is_issued vs key e)

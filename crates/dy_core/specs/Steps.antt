@@ -99,6 +99,14 @@ key_of (Release holder home key d) = key
 key_of (Fetch holder home key) = key
 key_of (Ack key d count) = key
 
+-- the step is no ack
+abbrev pub IsNoAck : Step → Type 0
+IsNoAck (Issue node key context value) = Unit {0}
+IsNoAck (Hold holder home row) = Unit {0}
+IsNoAck (Release holder home key d) = Unit {0}
+IsNoAck (Fetch holder home key) = Unit {0}
+IsNoAck (Ack key d count) = ⊥
+
 -- the step is a release at this place
 abbrev pub IsReleaseAt : ℕ → ℕ → List ℕ → Step → Type 0
 IsReleaseAt p o k (Issue node key context value) = ⊥

@@ -2,6 +2,7 @@
 #![tactic(auto)]
 
 mod acks;
+mod allowing;
 mod applying;
 mod holdings;
 mod issuing;
@@ -10,6 +11,7 @@ mod lists;
 mod places;
 mod readers;
 mod steps;
+mod unknowns;
 mod worlds;
 
 pub use acks::Acked;

@@ -20,3 +20,15 @@ impl Ranked for Place {
             .then(self.holder.cmp(&other.holder))
     }
 }
+
+impl Place {
+    ghost use Rattle.std.specs.Prelude.{◌≡◌};
+    ghost use Rattle.dy_core.specs.Inside.{clashes};
+
+    // Whether the other has its home or its holder in common.
+    pub(crate) fn clashes(self, other: Place) -> bool
+        ensures { result ≡ clashes self other }
+    {
+        other.home == self.home || other.holder == self.holder
+    }
+}

@@ -4,13 +4,14 @@ ghost use Rattle.dy_siblings.specs.Siblings.{IsSameRow};
 ghost use Rattle.dy_siblings.specs.declared.versions.Version.{Version as VersionParts};
 ghost use Rattle.dy_core.specs.Worlds.{IsSettled, is_issued, row_at};
 ghost use Rattle.dy_core.specs.Covers.{covers_at};
+ghost use Rattle.dy_core.specs.Steps.{IsKnown};
 ghost use Rattle.dy_core.specs.Logs.{world_after};
-ghost use Rattle.dy_core.specs.Listings.{ListsCovers, ListsSettled};
+ghost use Rattle.dy_core.specs.Listings.{IsLeastUnknown, ListsCovers, ListsSettled};
 
 use crate::places::Place;
 use crate::worlds::World;
-use crate::{holdings, issuing};
-use dy_dots::{Dot, Fault, NodeId};
+use crate::{holdings, issuing, unknowns};
+use dy_dots::{Context, Dot, Fault, NodeId};
 use dy_siblings::{Key, Row, Version};
 use std::alloc::Global;
 
@@ -28,6 +29,15 @@ impl World {
             (λ v. Contains (world_after self.now.steps).versions v.now × (v.now.key ≡ key.now) × (v.now.dot ≡ dot)) }
     {
         issuing::find(self.versions.as_slice(), key, dot)
+    }
+
+    /// The least dot of the context that is of no version of the key, where there is one. Takes no
+    /// memory.
+    pub fn unknown(&self, key: &Key, context: &Context) -> Option<Dot>
+        ensures { MatchOption result (IsKnown (world_after self.now.steps) key.now context.now)
+            (IsLeastUnknown (world_after self.now.steps).versions key.now context.now) }
+    {
+        unknowns::least(self.versions.as_slice(), key, context)
     }
 
     /// The row that the holder holds for the home, where it has a version. Takes no memory.

@@ -6,6 +6,15 @@ use Rattle.dy_core.specs.Logs.{world_after}
 use Rattle.dy_core.specs.Inside.{IsAfter}
 use Rattle.dy_core.proofs.worlds.World.apply.Goals as goal
 
+pub perform-requires : goal.perform-requires
+perform-requires c =
+    let w = c.self.inside in (
+      layout_of w.ring w.n,
+      w.steps.items,
+      c.self.invariant.after,
+      subst (λ log. IsAllowed (layout_of log.ring log.n) (world_after log.steps) c.args.step) (sym c.self.view_is) c.requires.allowed,
+    )
+
 pub invariant_of-self-2 : goal.invariant_of-self-2
 invariant_of-self-2 c =
     let w = c.self.inside in

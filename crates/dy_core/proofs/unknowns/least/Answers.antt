@@ -1,0 +1,22 @@
+use Rattle.dy_core.proofs.Runs.{run_low, run_high, more_issued, least_is}
+use Rattle.dy_core.proofs.unknowns.least.Goals as goal
+
+pub first_in-requires-clause-low : goal.first_in-requires-clause-low
+first_in-requires-clause-low c =
+    run_low c.runs-runs.result.now c.args.context.now c.runs-runs.ensures.runs c.loop-run.run-index c.run-item.result c.loop-run-test.true c.run-item.is
+    c.runs-runs.ensures.valid
+
+pub first_in-requires-clause-high : goal.first_in-requires-clause-high
+first_in-requires-clause-high c =
+    run_high c.runs-runs.result.now c.args.context.now c.runs-runs.ensures.runs c.loop-run.run-index c.run-item.result c.loop-run-test.true c.run-item.is
+    c.runs-runs.ensures.valid
+
+pub returns-in-Some : goal.returns-in-Some
+returns-in-Some c =
+    least_is c.runs-runs.result.now c.args.context.now c.runs-runs.ensures.runs c.loop-run.run-index c.run-item.result c.loop-run-test.true c.run-item.is
+    c.args.versions.now c.args.key.now c.loop-run.invariant c.in-Some.dot c.in-Some.ensures
+
+pub loop-run-preserved : goal.loop-run-preserved
+loop-run-preserved c =
+    more_issued c.runs-runs.result.now c.args.context.now c.runs-runs.ensures.runs c.loop-run.run-index c.run-item.result c.loop-run-test.true c.run-item.is
+    c.args.versions.now c.args.key.now c.loop-run.invariant c.in-None.ensures
