@@ -1,12 +1,12 @@
 -- When versions are the same, and when lists of them agree.
-use Rattle.std.proofs.Common.{◌≡◌, ℕ, Bool, true, false, ◌&&◌, not, List, ◌++◌, Option, Some, None, refl, sym, ap, ◌∙◌, subst, ⊎_elim}
-use Rattle.std.specs.Prelude.{nat_eq, IsTrue, ◌↔◌}
+use Rattle.std.proofs.Common.{◌≡◌, ℕ, Bool, true, false, ◌&&◌, not, List, ◌++◌, Option, Some, None, refl, sym, ap, ◌∙◌, ⊎_elim}
+use Rattle.std.specs.Prelude.{nat_eq}
 use Rattle.std.specs.List.{list_any, Contains}
 use Rattle.std.specs.Cmp.Lexicographic.{pointwise, bytes_decides}
 use Rattle.std.specs.FinSet as set
 use Rattle.std.proofs.lemmas.Bool.{and_parts, and_from, true≢false, not-true, not_from_false, cases_Bool}
 use Rattle.std.proofs.lemmas.List.Elements.{Contains-append_left, Contains-append_right, Contains-append_cases}
-use Rattle.dy_dots.specs.Dots.{DotNumbers, DotSet, same_dot}
+use Rattle.dy_dots.specs.Dots.{DotSet, same_dot}
 use Rattle.dy_dots.proofs.Sets.{dot_total}
 use Rattle.dy_siblings.specs.Versions.{VersionParts, same_value, same_version, do_conflict}
 use Rattle.dy_siblings.specs.Siblings.{AreOneByDot, Rise}
