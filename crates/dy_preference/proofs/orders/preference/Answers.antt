@@ -15,3 +15,6 @@ returns-clause-nodes c = ap (λ (p : Preferred). p.nodes) c.of.ensures ∙ c.in_
 pub returns-clause-order : goal.returns-clause-order
 returns-clause-order c =
     subst (IsByDistance c.args.ring.now (position_of c.args.key.now)) (sym (ap (λ (p : Preferred). p.nodes) c.of.ensures)) c.in_ok-nodes.ensures.order
+
+pub returns-clause-homes : goal.returns-clause-homes
+returns-clause-homes c = ap (λ (p : Preferred). p.n) c.of.ensures
