@@ -1,4 +1,9 @@
 pub mod Audits
+pub mod Keys
+pub mod Members
+pub mod Orders
 pub mod Outcomes
 pub mod Places
+pub mod Reading
 pub mod Texts
+pub mod Tokens

@@ -3,6 +3,7 @@
 
 mod audits;
 mod commands;
+mod draws;
 mod members;
 mod orders;
 mod outcomes;
@@ -15,6 +16,7 @@ mod tokens;
 
 pub use audits::{AckedLine, EndLine, HeldLine, SettledLine};
 pub use commands::{Command, Mode, Write};
+pub use draws::draw;
 pub use outcomes::{CommandLine, Outcome, Values, Word};
 pub use places::{At, Places, StoredAt};
 pub use printed::{Hex, Nodes, Position};

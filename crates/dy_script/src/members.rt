@@ -1,62 +1,70 @@
+ghost use Rattle.std.specs.Prelude.{◌≡◌, map, option_map, string_bytes};
+ghost use Rattle.std.specs.List.{list_all};
+ghost use Rattle.std.specs.Map.{keys_of};
+ghost use Rattle.dy_script.specs.Keys.{is_one_of};
+ghost use Rattle.serde_json.specs.Find.{get as member_of};
+ghost use Rattle.serde_json.specs.View.{view, items_view};
+ghost use Rattle.dy_script.specs.Members.{need, seen, allow_only, text, optional_text, optional_list, optional_whole, optional_small, small, flag, as_whole, as_small};
+
 use dy_dots::Fault;
 use serde_json::{Map, Value};
 
-/// The members of one JSON object, and the number of the command that it stands for, 0 for the
-/// script itself.
+/// The members of one JSON value, which has none where it is no object, and the number of the
+/// command that it stands for, 0 for the script itself.
 #[derive(Clone, Copy)]
 pub(crate) struct Members<'a> {
-    object: &'a Map<String, Value>,
-    command: u32,
+    pub(crate) value: &'a Value,
+    pub(crate) command: u32,
 }
 
 impl<'a> Members<'a> {
-    /// The members of the value, where it is an object.
-    pub(crate) fn of(value: &'a Value, command: u32) -> Result<Members<'a>, Fault> {
-        match value.as_object() {
-            Some(object) => Ok(Members { object, command }),
-            None => Err(Fault::ScriptSyntax { command }),
-        }
-    }
-
     /// The refusal of a wrong member.
-    pub(crate) fn fault(&self) -> Fault {
+    pub(crate) fn fault(&self) -> Fault
+        ensures { result ≡ Fault.ScriptSyntax self.now.command }
+    {
         Fault::ScriptSyntax {
             command: self.command,
         }
     }
 
-    /// Refuses a member of any other name.
-    pub(crate) fn allow_only(&self, names: &[&str]) -> Result<(), Fault> {
-        let known = self
-            .object
-            .keys()
-            .all(|name| names.iter().any(|known| *known == name.as_str()));
-        if known { Ok(()) } else { Err(self.fault()) }
-    }
-
-    /// The member of this name, where it is there.
-    pub(crate) fn get(&self, name: &str) -> Option<&'a Value> {
-        self.object.get(name)
-    }
-
-    /// The member of this name, which must be there.
-    pub(crate) fn need(&self, name: &str) -> Result<&'a Value, Fault> {
-        match self.object.get(name) {
-            Some(value) => Ok(value),
-            None => Err(self.fault()),
+    /// Refuses what is no object, and a member of any other name.
+    #[tactic(auto, unfolding(crate::specs::Members::allow_only))]
+    pub(crate) fn allow_only(&self, names: &[&str]) -> Result<(), Fault>
+        ensures { result ≡ allow_only self.now.command (map (λ name. name.now) names.now) (view self.now.value.now) }
+    {
+        let Some(object) = self.value.as_object() else {
+            return Err(self.fault());
+        };
+        if has_only(object, names) {
+            Ok(())
+        } else {
+            Err(self.fault())
         }
     }
 
+    /// The member of this name, where it is there.
+    pub(crate) fn get(&self, name: &str) -> Option<&'a Value>
+        ensures { option_map (λ v. view v.now) result ≡ member_of name.now (view self.now.value.now) }
+    {
+        self.value.get(name)
+    }
+
     /// The text of this name.
-    pub(crate) fn text(&self, name: &str) -> Result<&'a str, Fault> {
-        match self.need(name)?.as_str() {
+    #[tactic(auto, unfolding(crate::specs::Members::text))]
+    pub(crate) fn text(&self, name: &str) -> Result<&'a str, Fault>
+        ensures { seen (λ s. s.now) result ≡ text self.now.command name.now (view self.now.value.now) }
+    {
+        match self.get(name).and_then(Value::as_str) {
             Some(text) => Ok(text),
             None => Err(self.fault()),
         }
     }
 
     /// The text of this name, where it is there.
-    pub(crate) fn optional_text(&self, name: &str) -> Result<Option<&'a str>, Fault> {
+    #[tactic(auto, unfolding(crate::specs::Members::optional_text))]
+    pub(crate) fn optional_text(&self, name: &str) -> Result<Option<&'a str>, Fault>
+        ensures { seen (option_map (λ s. s.now)) result ≡ optional_text self.now.command name.now (view self.now.value.now) }
+    {
         match self.get(name) {
             Some(value) => match value.as_str() {
                 Some(text) => Ok(Some(text)),
@@ -67,7 +75,10 @@ impl<'a> Members<'a> {
     }
 
     /// The elements of the list of this name, where it is there.
-    pub(crate) fn optional_list(&self, name: &str) -> Result<Option<&'a [Value]>, Fault> {
+    #[tactic(auto, unfolding(crate::specs::Members::optional_list))]
+    pub(crate) fn optional_list(&self, name: &str) -> Result<Option<&'a [Value]>, Fault>
+        ensures { seen (option_map (λ vs. items_view vs.now)) result ≡ optional_list self.now.command name.now (view self.now.value.now) }
+    {
         match self.get(name) {
             Some(value) => match value.as_array() {
                 Some(list) => Ok(Some(list.as_slice())),
@@ -78,7 +89,10 @@ impl<'a> Members<'a> {
     }
 
     /// The whole number of this name, where it is there.
-    pub(crate) fn optional_whole(&self, name: &str) -> Result<Option<u64>, Fault> {
+    #[tactic(auto, unfolding(crate::specs::Members::optional_whole))]
+    pub(crate) fn optional_whole(&self, name: &str) -> Result<Option<u64>, Fault>
+        ensures { result ≡ optional_whole self.now.command name.now (view self.now.value.now) }
+    {
         match self.get(name) {
             Some(value) => match value.as_u64() {
                 Some(number) => Ok(Some(number)),
@@ -89,26 +103,35 @@ impl<'a> Members<'a> {
     }
 
     /// The whole number from 0 to 255 of this name, where it is there.
-    pub(crate) fn optional_small(&self, name: &str) -> Result<Option<u8>, Fault> {
-        match self.optional_whole(name)? {
-            Some(number) => match u8::try_from(number) {
-                Ok(number) => Ok(Some(number)),
-                Err(_) => Err(self.fault()),
+    #[tactic(auto, unfolding(crate::specs::Members::optional_small))]
+    pub(crate) fn optional_small(&self, name: &str) -> Result<Option<u8>, Fault>
+        ensures { result ≡ optional_small self.now.command name.now (view self.now.value.now) }
+    {
+        match self.get(name) {
+            Some(value) => match small_of(value) {
+                Some(number) => Ok(Some(number)),
+                None => Err(self.fault()),
             },
             None => Ok(None),
         }
     }
 
     /// The whole number from 0 to 255 of this name.
-    pub(crate) fn small(&self, name: &str) -> Result<u8, Fault> {
-        match self.optional_small(name)? {
+    #[tactic(auto, unfolding(crate::specs::Members::small))]
+    pub(crate) fn small(&self, name: &str) -> Result<u8, Fault>
+        ensures { result ≡ small self.now.command name.now (view self.now.value.now) }
+    {
+        match self.get(name).and_then(small_of) {
             Some(number) => Ok(number),
             None => Err(self.fault()),
         }
     }
 
     /// The truth value of this name, false where it is not there.
-    pub(crate) fn flag(&self, name: &str) -> Result<bool, Fault> {
+    #[tactic(auto, unfolding(crate::specs::Members::flag))]
+    pub(crate) fn flag(&self, name: &str) -> Result<bool, Fault>
+        ensures { result ≡ flag self.now.command name.now (view self.now.value.now) }
+    {
         match self.get(name) {
             Some(value) => match value.as_bool() {
                 Some(flag) => Ok(flag),
@@ -117,4 +140,28 @@ impl<'a> Members<'a> {
             None => Ok(false),
         }
     }
+}
+
+/// The whole number from 0 to 255 that the value is.
+fn small_of(value: &Value) -> Option<u8>
+    ensures { result ≡ as_small (view value.now) }
+{
+    match value.as_u64() {
+        Some(number) => u8::try_from(number).ok(),
+        None => None,
+    }
+}
+
+/// Whether each key is one of the names.
+fn has_only(object: &Map<String, Value>, names: &[&str]) -> bool
+    ensures { result ≡ list_all (λ key. is_one_of names.now (string_bytes key)) (keys_of object.now.entries) }
+{
+    object.keys().all(|key| is_one_of(key.as_str(), names))
+}
+
+/// Whether the key is one of the names.
+fn is_one_of(key: &str, names: &[&str]) -> bool
+    ensures { result ≡ is_one_of names.now key.now }
+{
+    names.iter().any(|name| *name == key)
 }

@@ -1,3 +1,9 @@
+ghost use Rattle.std.specs.Prelude.{◌≡◌};
+ghost use Rattle.std.specs.Vec.{vec_items};
+ghost use Rattle.serde_json.specs.View.{view};
+ghost use Rattle.dy_script.specs.Members.{IsReading, allow_only};
+ghost use Rattle.dy_script.specs.Orders.{command_parts, write_parts, node_of, lone_node, mode_of, session_of, bytes_of, value_of, write_of, put_names, put_of, delete_of, get_of, fault_of, show_of, at_node, command_of};
+
 use crate::commands::{Command, Mode, Write};
 use crate::members::Members;
 use crate::scripts::MAX_SCRIPT_SESSIONS;
@@ -6,44 +12,36 @@ use serde_json::Value;
 use std::alloc::Global;
 
 /// The command that the value says, on a ring of so many nodes.
+#[tactic(auto, unfolding(crate::specs::Orders::command_of, crate::specs::Orders::command_named))]
 pub(crate) fn command_of(
     alloc: Global,
     value: &Value,
     number: u32,
     nodes: usize,
-) -> Result<Command, Fault> {
-    let members = Members::of(value, number)?;
-    match members.text("do")? {
+) -> Result<Command, Fault>
+    ensures { IsReading command_parts result (command_of nodes number (view value.now)) }
+{
+    let members = Members {
+        value,
+        command: number,
+    };
+    let word = members.text("do")?;
+    match word {
         "put" => put_of(alloc, members),
-        "delete" => {
-            members.allow_only(&["do", "key", "context", "session", "w"])?;
-            let write = write_of(alloc, members)?;
-            Ok(Command::Delete { write })
-        }
-        "get" => {
-            members.allow_only(&["do", "key", "session"])?;
-            let session = session_of(members)?;
-            let key = String::from_str(alloc, members.text("key")?)?;
-            Ok(Command::Get { key, session })
-        }
-        "fault" => {
-            members.allow_only(&["do", "node", "mode"])?;
-            let node = node_of(members, nodes)?;
-            let mode = mode_of(members)?;
-            Ok(Command::Fault { node, mode })
-        }
-        "show" => {
-            members.allow_only(&["do", "node", "key"])?;
-            let node = node_of(members, nodes)?;
-            let key = String::from_str(alloc, members.text("key")?)?;
-            Ok(Command::Show { node, key })
-        }
-        word => at_node(word, members, number, nodes),
+        "delete" => delete_of(alloc, members),
+        "get" => get_of(alloc, members),
+        "fault" => fault_of(members, nodes),
+        "show" => show_of(alloc, members, nodes),
+        _ => at_node(word, members, nodes),
     }
 }
 
 /// The command of this word that names a node alone.
-fn at_node(word: &str, members: Members, number: u32, nodes: usize) -> Result<Command, Fault> {
+#[tactic(auto, unfolding(crate::specs::Orders::at_node))]
+fn at_node(word: &str, members: Members, nodes: usize) -> Result<Command, Fault>
+    ensures { IsReading command_parts result
+        (at_node nodes members.entry.command (view members.entry.value.now) word.now) }
+{
     match word {
         "down" => Ok(Command::Down {
             node: lone_node(members, nodes)?,
@@ -57,26 +55,37 @@ fn at_node(word: &str, members: Members, number: u32, nodes: usize) -> Result<Co
         "handoff" => Ok(Command::Handoff {
             node: lone_node(members, nodes)?,
         }),
-        _ => Err(Fault::UnknownCommand { command: number }),
+        _ => Err(Fault::UnknownCommand {
+            command: members.command,
+        }),
     }
 }
 
 /// The node of a command that names nothing else.
-fn lone_node(members: Members, nodes: usize) -> Result<usize, Fault> {
+#[tactic(auto, unfolding(crate::specs::Orders::lone_node))]
+fn lone_node(members: Members, nodes: usize) -> Result<usize, Fault>
+    ensures { result ≡ lone_node nodes members.entry.command (view members.entry.value.now) }
+{
     members.allow_only(&["do", "node"])?;
     node_of(members, nodes)
 }
 
 /// The number of the node, which the ring must have.
-fn node_of(members: Members, nodes: usize) -> Result<usize, Fault> {
-    match members.optional_whole("node")? {
+#[tactic(auto, unfolding(crate::specs::Orders::node_of))]
+fn node_of(members: Members, nodes: usize) -> Result<usize, Fault>
+    ensures { result ≡ node_of nodes members.entry.command (view members.entry.value.now) }
+{
+    match members.get("node").and_then(Value::as_u64) {
         Some(number) if number < nodes as u64 => Ok(number as usize),
         _ => Err(members.fault()),
     }
 }
 
 /// The mode that the command names.
-fn mode_of(members: Members) -> Result<Mode, Fault> {
+#[tactic(auto, unfolding(crate::specs::Orders::mode_of, crate::specs::Orders::mode_named))]
+fn mode_of(members: Members) -> Result<Mode, Fault>
+    ensures { result ≡ mode_of members.entry.command (view members.entry.value.now) }
+{
     match members.text("mode")? {
         "none" => Ok(Mode::None),
         "mute" => Ok(Mode::Mute),
@@ -88,7 +97,10 @@ fn mode_of(members: Members) -> Result<Mode, Fault> {
 }
 
 /// The number of the session, 0 where none is named.
-fn session_of(members: Members) -> Result<u8, Fault> {
+#[tactic(auto, unfolding(crate::specs::Orders::session_of))]
+fn session_of(members: Members) -> Result<u8, Fault>
+    ensures { result ≡ session_of members.entry.command (view members.entry.value.now) }
+{
     match members.optional_small("session")? {
         Some(number) if number >= MAX_SCRIPT_SESSIONS => Err(members.fault()),
         Some(number) => Ok(number),
@@ -97,21 +109,92 @@ fn session_of(members: Members) -> Result<u8, Fault> {
 }
 
 /// A put, whose value is a text or hexadecimal digits.
-fn put_of(alloc: Global, members: Members) -> Result<Command, Fault> {
-    members.allow_only(&["do", "key", "value", "valuehex", "context", "session", "w"])?;
-    let text = members.optional_text("value")?;
-    let digits = members.optional_text("valuehex")?;
-    let value = match (text, digits) {
-        (Some(text), None) => Vec::from_slice(alloc, text.as_bytes())?,
-        (None, Some(digits)) => bytes_of(alloc, members, digits)?,
-        _ => return Err(members.fault()),
-    };
+#[tactic(auto, unfolding(crate::specs::Orders::put_of))]
+fn put_of(alloc: Global, members: Members) -> Result<Command, Fault>
+    ensures { IsReading command_parts result
+        (put_of members.entry.command (view members.entry.value.now)) }
+{
+    allow_put(members)?;
+    let value = value_of(alloc, members)?;
     let write = write_of(alloc, members)?;
     Ok(Command::Put { write, value })
 }
 
+/// Refuses a member that a put doesn't have.
+#[tactic(auto, unfolding(crate::specs::Orders::put_names))]
+fn allow_put(members: Members) -> Result<(), Fault>
+    ensures { result ≡ allow_only members.entry.command put_names (view members.entry.value.now) }
+{
+    members.allow_only(&["do", "key", "value", "valuehex", "context", "session", "w"])
+}
+
+/// A delete, which has no value.
+#[tactic(auto, unfolding(crate::specs::Orders::delete_of))]
+fn delete_of(alloc: Global, members: Members) -> Result<Command, Fault>
+    ensures { IsReading command_parts result
+        (delete_of members.entry.command (view members.entry.value.now)) }
+{
+    members.allow_only(&["do", "key", "context", "session", "w"])?;
+    let write = write_of(alloc, members)?;
+    Ok(Command::Delete { write })
+}
+
+/// A get of a session.
+#[tactic(auto, unfolding(crate::specs::Orders::get_of))]
+fn get_of(alloc: Global, members: Members) -> Result<Command, Fault>
+    ensures { IsReading command_parts result
+        (get_of members.entry.command (view members.entry.value.now)) }
+{
+    members.allow_only(&["do", "key", "session"])?;
+    let session = session_of(members)?;
+    let key = String::from_str(alloc, members.text("key")?)?;
+    Ok(Command::Get { key, session })
+}
+
+/// A node's new mode.
+#[tactic(auto, unfolding(crate::specs::Orders::fault_of))]
+fn fault_of(members: Members, nodes: usize) -> Result<Command, Fault>
+    ensures { IsReading command_parts result
+        (fault_of nodes members.entry.command (view members.entry.value.now)) }
+{
+    members.allow_only(&["do", "node", "mode"])?;
+    let node = node_of(members, nodes)?;
+    let mode = mode_of(members)?;
+    Ok(Command::Fault { node, mode })
+}
+
+/// A question for what a node holds of a key.
+#[tactic(auto, unfolding(crate::specs::Orders::show_of))]
+fn show_of(alloc: Global, members: Members, nodes: usize) -> Result<Command, Fault>
+    ensures { IsReading command_parts result
+        (show_of nodes members.entry.command (view members.entry.value.now)) }
+{
+    members.allow_only(&["do", "node", "key"])?;
+    let node = node_of(members, nodes)?;
+    let key = String::from_str(alloc, members.text("key")?)?;
+    Ok(Command::Show { node, key })
+}
+
+/// The value of a put, given as a text or as hexadecimal digits.
+#[tactic(auto, unfolding(crate::specs::Orders::value_of, crate::specs::Orders::value_given))]
+fn value_of(alloc: Global, members: Members) -> Result<Vec<u8>, Fault>
+    ensures { IsReading vec_items result
+        (value_of members.entry.command (view members.entry.value.now)) }
+{
+    let text = members.optional_text("value")?;
+    let digits = members.optional_text("valuehex")?;
+    match (text, digits) {
+        (Some(text), None) => Ok(Vec::from_slice(alloc, text.as_bytes())?),
+        (None, Some(digits)) => bytes_of(alloc, members, digits),
+        _ => Err(members.fault()),
+    }
+}
+
 /// The bytes of hexadecimal digits.
-fn bytes_of(alloc: Global, members: Members, digits: &str) -> Result<Vec<u8>, Fault> {
+#[tactic(auto, unfolding(crate::specs::Orders::bytes_of))]
+fn bytes_of(alloc: Global, members: Members, digits: &str) -> Result<Vec<u8>, Fault>
+    ensures { IsReading vec_items result (bytes_of members.entry.command digits.now) }
+{
     match hex::decode(alloc, digits) {
         Ok(bytes) => Ok(bytes),
         Err(hex::FromHexError::OutOfMemory) => Err(Fault::OutOfMemory),
@@ -120,7 +203,11 @@ fn bytes_of(alloc: Global, members: Members, digits: &str) -> Result<Vec<u8>, Fa
 }
 
 /// What a put and a delete say beside the value.
-fn write_of(alloc: Global, members: Members) -> Result<Write, Fault> {
+#[tactic(auto, unfolding(crate::specs::Orders::write_of))]
+fn write_of(alloc: Global, members: Members) -> Result<Write, Fault>
+    ensures { IsReading write_parts result
+        (write_of members.entry.command (view members.entry.value.now)) }
+{
     let session = session_of(members)?;
     let w = members.optional_small("w")?;
     let context = match members.optional_text("context")? {

@@ -1,3 +1,9 @@
+ghost use Rattle.std.specs.Prelude.{◌≡◌, ◌⊎◌, ◌≤◌, length, Some, Ok, Err, IfOk, IfErr, vec_items, option_map, map, ℕ};
+ghost use Rattle.serde_json.specs.View.{view, items_view};
+ghost use Rattle.dy_script.specs.Members.{IsReading, allow_only, each_of, seen};
+ghost use Rattle.dy_script.specs.Orders.{command_parts};
+ghost use Rattle.dy_script.specs.Reading.{layout_parts, script_parts, node_count, token_at, token_list, tokens_at, token_lists, derived_of, layout_of, limits_of, key_at, keys_of, command_at, run_of, script_names, script_of, data_of, script_of_text};
+
 use crate::commands::Command;
 use crate::members::Members;
 use crate::orders::command_of;
@@ -14,12 +20,39 @@ const WRONG_SCRIPT: Fault = Fault::ScriptSyntax { command: 0 };
 
 /// The script that the bytes spell, or its first fault: that of the script itself before those of
 /// its commands.
-pub fn read(alloc: Global, bytes: &[u8]) -> Result<Script, Fault> {
+#[tactic(auto, unfolding(crate::specs::Reading::script_of_text))]
+pub fn read(alloc: Global, bytes: &[u8]) -> Result<Script, Fault>
+    ensures ok { IfOk result (λ script. script_of_text bytes.now ≡ Ok (script_parts script)) }
+    ensures err { IfErr result (λ fault. (fault ≡ Fault.OutOfMemory)
+        ⊎ (script_of_text bytes.now ≡ Err fault)) }
+{
     let value = value_of(alloc, bytes)?;
-    let members = Members::of(&value, 0)?;
-    members.allow_only(&[
-        "n", "r", "w", "tokens", "derived", "limits", "keys", "settled", "run",
-    ])?;
+    script_of(alloc, &value)
+}
+
+/// The JSON value that the bytes spell.
+#[tactic(auto, unfolding(crate::specs::Reading::data_of))]
+fn value_of(alloc: Global, bytes: &[u8]) -> Result<Value, Fault>
+    ensures ok { IfOk result (λ value. data_of bytes.now ≡ Some (view value)) }
+    ensures err { IfErr result (λ fault. (fault ≡ Fault.OutOfMemory)
+        ⊎ ((fault ≡ Fault.ScriptSyntax 0) × (data_of bytes.now ≡ None))) }
+{
+    match Value::from_slice(alloc, bytes) {
+        Ok(value) => Ok(value),
+        Err(error) => match error.classify() {
+            Category::Memory => Err(Fault::OutOfMemory),
+            _ => Err(WRONG_SCRIPT),
+        },
+    }
+}
+
+/// The script that the value says.
+#[tactic(auto, unfolding(crate::specs::Reading::script_of))]
+fn script_of(alloc: Global, value: &Value) -> Result<Script, Fault>
+    ensures { IsReading script_parts result (script_of (view value.now)) }
+{
+    let members = Members { value, command: 0 };
+    allow_script(members)?;
     let n = members.small("n")?;
     let r = members.small("r")?;
     let w = members.small("w")?;
@@ -40,67 +73,110 @@ pub fn read(alloc: Global, bytes: &[u8]) -> Result<Script, Fault> {
     })
 }
 
-/// The JSON value that the bytes spell.
-fn value_of(alloc: Global, bytes: &[u8]) -> Result<Value, Fault> {
-    match Value::from_slice(alloc, bytes) {
-        Ok(value) => Ok(value),
-        Err(error) => match error.classify() {
-            Category::Memory => Err(Fault::OutOfMemory),
-            _ => Err(WRONG_SCRIPT),
-        },
-    }
+/// Refuses a member that a script doesn't have.
+#[tactic(auto, unfolding(crate::specs::Reading::script_names))]
+fn allow_script(members: Members) -> Result<(), Fault>
+    ensures { result ≡ allow_only members.entry.command script_names (view members.entry.value.now) }
+{
+    members.allow_only(&[
+        "n", "r", "w", "tokens", "derived", "limits", "keys", "settled", "run",
+    ])
 }
 
 /// How many nodes the layout has.
-fn node_count(layout: &Layout) -> usize {
+fn node_count(layout: &Layout) -> usize
+    ensures { result ≡ node_count (layout_parts layout.now) }
+{
     match layout {
         Layout::Tokens(lists) => lists.len(),
         Layout::Derived { nodes, .. } => *nodes as usize,
     }
 }
 
-/// The tokens, given or derived.
-fn layout_of(alloc: Global, members: Members) -> Result<Layout, Fault> {
-    match (members.optional_list("tokens")?, members.get("derived")) {
+/// The tokens, given or derived, of a script.
+#[tactic(auto, unfolding(crate::specs::Reading::layout_of, crate::specs::Reading::layout_given))]
+fn layout_of(alloc: Global, members: Members) -> Result<Layout, Fault>
+    requires { members.command ≡ 0 }
+    ensures { IsReading layout_parts result (layout_of (view members.entry.value.now)) }
+{
+    let lists = members.optional_list("tokens")?;
+    let derived = members.get("derived");
+    match (lists, derived) {
         (Some(lists), None) => Ok(Layout::Tokens(token_lists(alloc, lists)?)),
-        (None, Some(derived)) => {
-            let members = Members::of(derived, 0)?;
-            members.allow_only(&["nodes", "per_node"])?;
-            Ok(Layout::Derived {
-                nodes: members.small("nodes")?,
-                per_node: members.small("per_node")?,
-            })
-        }
+        (None, Some(derived)) => derived_of(derived),
         _ => Err(WRONG_SCRIPT),
     }
 }
 
-/// Each node's tokens.
-fn token_lists(alloc: Global, lists: &[Value]) -> Result<Vec<Vec<u128>>, Fault> {
-    let mut tokens = Vec::new(alloc);
-    for list in lists {
-        let Some(texts) = list.as_array() else {
-            return Err(WRONG_SCRIPT);
-        };
-        tokens.push(token_list(alloc, texts.as_slice())?)?;
-    }
-    Ok(tokens)
+/// The numbers that tokens are derived from.
+#[tactic(auto, unfolding(crate::specs::Reading::derived_of))]
+fn derived_of(value: &Value) -> Result<Layout, Fault>
+    ensures { seen layout_parts result ≡ derived_of (view value.now) }
+{
+    let members = Members { value, command: 0 };
+    members.allow_only(&["nodes", "per_node"])?;
+    let nodes = members.small("nodes")?;
+    let per_node = members.small("per_node")?;
+    Ok(Layout::Derived { nodes, per_node })
 }
 
-/// The tokens of one node.
-fn token_list(alloc: Global, texts: &[Value]) -> Result<Vec<u128>, Fault> {
-    let mut positions = Vec::new(alloc);
-    for text in texts {
-        let Some(position) = text.as_str().and_then(token) else {
-            return Err(WRONG_SCRIPT);
-        };
-        positions.push(position)?;
+/// Each node's tokens.
+#[tactic(auto, unfolding(crate::specs::Reading::token_lists))]
+fn token_lists(alloc: Global, lists: &[Value]) -> Result<Vec<Vec<u128>>, Fault>
+    ensures { IsReading (λ found. map vec_items found.items) result
+        (token_lists (items_view lists.now)) }
+{
+    let mut found = Vec::new(alloc);
+    for list in lists {
+        let tokens = tokens_at(alloc, list)?;
+        found.push(tokens)?;
     }
-    Ok(positions)
+    Ok(found)
+}
+
+/// One node's tokens.
+#[tactic(auto, unfolding(crate::specs::Reading::tokens_at))]
+fn tokens_at(alloc: Global, value: &Value) -> Result<Vec<u128>, Fault>
+    ensures { (i : ℕ) → IsReading vec_items result (tokens_at i (view value.now)) }
+{
+    match value.as_array() {
+        Some(texts) => token_list(alloc, texts.as_slice()),
+        None => Err(WRONG_SCRIPT),
+    }
+}
+
+/// The tokens of a list.
+#[tactic(auto, unfolding(crate::specs::Reading::token_list))]
+fn token_list(alloc: Global, texts: &[Value]) -> Result<Vec<u128>, Fault>
+    ensures { IsReading vec_items result (token_list (items_view texts.now)) }
+{
+    let mut found = Vec::new(alloc);
+    for text in texts {
+        let position = token_at(text)?;
+        found.push(position)?;
+    }
+    Ok(found)
+}
+
+/// The position that a token names.
+#[tactic(auto, unfolding(crate::specs::Reading::token_at))]
+fn token_at(value: &Value) -> Result<u128, Fault>
+    ensures { (i : ℕ) → result ≡ token_at i (view value.now) }
+{
+    match value.as_str() {
+        Some(text) => match token(text) {
+            Some(position) => Ok(position),
+            None => Err(WRONG_SCRIPT),
+        },
+        None => Err(WRONG_SCRIPT),
+    }
 }
 
 /// The limits that the script sets.
-fn limits_of(members: Members) -> Result<Limits, Fault> {
+#[tactic(auto, unfolding(crate::specs::Reading::limits_of, crate::specs::Reading::limits_given))]
+fn limits_of(members: Members) -> Result<Limits, Fault>
+    ensures { result ≡ limits_of (view members.entry.value.now) }
+{
     let Some(value) = members.get("limits") else {
         return Ok(Limits {
             counter: None,
@@ -108,47 +184,94 @@ fn limits_of(members: Members) -> Result<Limits, Fault> {
             steps: None,
         });
     };
-    let members = Members::of(value, 0)?;
+    let members = Members { value, command: 0 };
     members.allow_only(&["counter", "versions", "steps"])?;
+    let counter = members.optional_whole("counter")?;
+    let versions = members.optional_whole("versions")?;
+    let steps = members.optional_whole("steps")?;
     Ok(Limits {
-        counter: members.optional_whole("counter")?,
-        versions: members.optional_whole("versions")?,
-        steps: members.optional_whole("steps")?,
+        counter,
+        versions,
+        steps,
     })
 }
 
 /// The keys whose lists are asked for.
-fn keys_of(alloc: Global, members: Members) -> Result<Vec<Key>, Fault> {
-    let mut keys = Vec::new(alloc);
-    let Some(list) = members.optional_list("keys")? else {
-        return Ok(keys);
-    };
-    for value in list {
-        let Some(text) = value.as_str() else {
-            return Err(WRONG_SCRIPT);
-        };
-        match Key::new(alloc, text.as_bytes()) {
-            Ok(key) => keys.push(key)?,
-            Err(Fault::OutOfMemory) => return Err(Fault::OutOfMemory),
-            Err(_) => return Err(WRONG_SCRIPT),
-        }
+#[tactic(auto, unfolding(crate::specs::Reading::keys_of, crate::specs::Reading::keys_given))]
+fn keys_of(alloc: Global, members: Members) -> Result<Vec<Key>, Fault>
+    requires { members.command ≡ 0 }
+    ensures { IsReading vec_items result (keys_of (view members.entry.value.now)) }
+{
+    match members.optional_list("keys")? {
+        Some(list) => keys_in(alloc, list),
+        None => Ok(Vec::new(alloc)),
     }
-    Ok(keys)
 }
 
-/// The commands, numbered from 1.
-fn run_of(alloc: Global, members: Members, nodes: usize) -> Result<Vec<Command>, Fault> {
-    let mut commands = Vec::new(alloc);
-    let Some(list) = members.optional_list("run")? else {
-        return Ok(commands);
-    };
-    if list.len() > MAX_COMMANDS {
-        return Err(WRONG_SCRIPT);
+/// The keys of a list.
+fn keys_in(alloc: Global, list: &[Value]) -> Result<Vec<Key>, Fault>
+    ensures { IsReading vec_items result (each_of key_at 0 (items_view list.now)) }
+{
+    let mut found = Vec::new(alloc);
+    for value in list {
+        let key = key_at(alloc, value)?;
+        found.push(key)?;
     }
+    Ok(found)
+}
+
+/// The key that the value spells.
+#[tactic(auto, unfolding(crate::specs::Reading::key_at, crate::specs::Reading::sized_key))]
+fn key_at(alloc: Global, value: &Value) -> Result<Key, Fault>
+    ensures { (i : ℕ) → IsReading (λ key. key) result (key_at i (view value.now)) }
+{
+    let Some(text) = value.as_str() else {
+        return Err(WRONG_SCRIPT);
+    };
+    match Key::new(alloc, text.as_bytes()) {
+        Ok(key) => Ok(key),
+        Err(Fault::KeySize) => Err(WRONG_SCRIPT),
+        Err(_) => Err(Fault::OutOfMemory),
+    }
+}
+
+/// The commands of a script, on a ring of so many nodes.
+#[tactic(auto, using(crate::proofs::Lists::items_len_view), unfolding(crate::specs::Reading::run_of, crate::specs::Reading::run_given))]
+fn run_of(alloc: Global, members: Members, nodes: usize) -> Result<Vec<Command>, Fault>
+    requires { members.command ≡ 0 }
+    ensures { IsReading (λ run. map command_parts run.items) result
+        (run_of nodes (view members.entry.value.now)) }
+{
+    match members.optional_list("run")? {
+        Some(list) => {
+            if list.len() > MAX_COMMANDS {
+                return Err(WRONG_SCRIPT);
+            }
+            commands_in(alloc, list, nodes)
+        }
+        None => Ok(Vec::new(alloc)),
+    }
+}
+
+/// The commands of a list, numbered from 1.
+fn commands_in(alloc: Global, list: &[Value], nodes: usize) -> Result<Vec<Command>, Fault>
+    requires { length list.now ≤ 100000 }
+    ensures { IsReading (λ run. map command_parts run.items) result
+        (each_of (command_at nodes) 0 (items_view list.now)) }
+{
+    let mut found = Vec::new(alloc);
     let mut number = 0u32;
     for value in list {
-        number = number.saturating_add(1);
-        commands.push(command_of(alloc, value, number, nodes)?)?;
+        number += 1;
+        let command = command_of(alloc, value, number, nodes)?;
+        found.push(command)?;
     }
-    Ok(commands)
+    Ok(found)
 }
+
+#[cfg(test)]
+mod growths;
+#[cfg(test)]
+mod long;
+#[cfg(test)]
+mod tests;

@@ -1,0 +1,7 @@
+use Rattle.std.proofs.Common.{map, vec_items}
+use Rattle.dy_script.specs.Reading.{key_at}
+use Rattle.dy_script.proofs.Lists.{HasRead}
+use Rattle.dy_script.proofs.reading.keys_in.Given as goal
+
+abbrev pub invariant-loop-value : goal.invariant-loop-value
+invariant-loop-value l = HasRead key_at l.list l.value-index l.found.items

@@ -1,0 +1,7 @@
+use Rattle.std.proofs.Common.{map, vec_items}
+use Rattle.dy_script.specs.Reading.{token_at}
+use Rattle.dy_script.proofs.Lists.{HasRead}
+use Rattle.dy_script.proofs.reading.token_list.Given as goal
+
+abbrev pub invariant-loop-text : goal.invariant-loop-text
+invariant-loop-text l = HasRead token_at l.texts l.text-index l.found.items
