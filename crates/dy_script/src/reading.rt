@@ -1,4 +1,4 @@
-ghost use Rattle.std.specs.Prelude.{◌≡◌, ◌⊎◌, ◌≤◌, length, Some, Ok, Err, IfOk, IfErr, vec_items, option_map, map, ℕ};
+ghost use Rattle.std.specs.Prelude.{◌≡◌, ◌⊎◌, ◌<◌, ◌≤◌, length, Some, Ok, Err, IfOk, IfErr, OnOk, vec_items, option_map, map, ℕ};
 ghost use Rattle.serde_json.specs.View.{view, items_view};
 ghost use Rattle.dy_script.specs.Members.{IsReading, allow_only, each_of, seen};
 ghost use Rattle.dy_script.specs.Orders.{command_parts};
@@ -25,6 +25,7 @@ pub fn read(alloc: Global, bytes: &[u8]) -> Result<Script, Fault>
     ensures ok { IfOk result (λ script. script_of_text bytes.now ≡ Ok (script_parts script)) }
     ensures err { IfErr result (λ fault. (fault ≡ Fault.OutOfMemory)
         ⊎ (script_of_text bytes.now ≡ Err fault)) }
+    ensures memory { IfErr result (λ fault. fault ≡ Fault.OutOfMemory → 0 < length bytes.now) }
 {
     let value = value_of(alloc, bytes)?;
     script_of(alloc, &value)
@@ -36,6 +37,8 @@ fn value_of(alloc: Global, bytes: &[u8]) -> Result<Value, Fault>
     ensures ok { IfOk result (λ value. data_of bytes.now ≡ Some (view value)) }
     ensures err { IfErr result (λ fault. (fault ≡ Fault.OutOfMemory)
         ⊎ ((fault ≡ Fault.ScriptSyntax 0) × (data_of bytes.now ≡ None))) }
+    ensures memory { IfErr result (λ fault. fault ≡ Fault.OutOfMemory → 0 < length bytes.now) }
+    ensures some { OnOk result (0 < length bytes.now) }
 {
     match Value::from_slice(alloc, bytes) {
         Ok(value) => Ok(value),
