@@ -10,7 +10,7 @@ use Rattle.dy_dots.specs.declared.dots.Dot.{Dot}
 use Rattle.dy_siblings.specs.declared.versions.Version.{Version}
 use Rattle.dy_core.specs.declared.steps.Step.{Step}
 use Rattle.dy_core.proofs.Members.{in_head, in_tail, any_gives}
-use Rattle.dy_core.proofs.Tests.{same_dot_is, same_key_is}
+use Rattle.dy_core.proofs.Sameness.{same_dot_is, same_key_is}
 use Rattle.dy_core.proofs.Ordered.{IsOrdered}
 use Rattle.dy_core.proofs.OverLogs.{log_sound}
 

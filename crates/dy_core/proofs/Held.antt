@@ -21,7 +21,7 @@ use Rattle.dy_core.specs.declared.acks.Acked.{Acked}
 use Rattle.dy_core.specs.declared.places.Place.{Place}
 use Rattle.dy_core.specs.declared.holdings.Holding.{Holding}
 use Rattle.dy_core.proofs.Members.{not_in_nil, in_head, in_tail, in_cases}
-use Rattle.dy_core.proofs.Tests.{dot_cmp_total, dot_cmp_same, same_key_is, same_key_self}
+use Rattle.dy_core.proofs.Sameness.{dot_cmp_total, dot_cmp_same, same_key_is, same_key_self}
 
 -- both parts of a tie
 pub both_tie : (r s : Ordering) → ordering_then r s ≡ Equal → (r ≡ Equal) × (s ≡ Equal)

@@ -18,7 +18,7 @@ use Rattle.dy_core.specs.declared.holdings.Holding.{Holding}
 use Rattle.dy_core.specs.declared.steps.Step.{Step}
 use Rattle.dy_core.specs.declared.steps.Step.TheVariants.{Ack}
 use Rattle.dy_core.proofs.Members.{in_head, in_tail, in_cases, any_gives, any_from, filter_in, filter_from}
-use Rattle.dy_core.proofs.Tests.{same_dot_is, same_dot_self}
+use Rattle.dy_core.proofs.Sameness.{same_dot_is, same_dot_self}
 use Rattle.dy_core.proofs.Ordered.{IsOrdered, same_version}
 use Rattle.dy_core.proofs.Standing.{StandsAt, stands_from, stands_in, AreOf-held, IsSamePlace, place_is}
 use Rattle.dy_core.proofs.Merging.{newest_same, newest_from, same_row_on, same_row_back}

@@ -1,5 +1,5 @@
 pub mod Members
-pub mod Tests
+pub mod Sameness
 pub mod Ordered
 pub mod Standing
 pub mod Kept

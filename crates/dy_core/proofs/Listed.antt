@@ -21,7 +21,7 @@ use Rattle.dy_core.specs.declared.places.Place.{Place}
 use Rattle.dy_core.specs.declared.holdings.Holding.{Holding}
 use Rattle.dy_core.specs.declared.steps.Step.{Step}
 use Rattle.dy_core.proofs.Members.{not_in_nil, in_head, any_gives, any_from, none_from}
-use Rattle.dy_core.proofs.Tests.{same_dot_is, same_key_is, same_key_self}
+use Rattle.dy_core.proofs.Sameness.{same_dot_is, same_key_is, same_key_self}
 use Rattle.dy_core.proofs.Standing.{stands_from, stands_in}
 use Rattle.dy_core.proofs.Kept.{IsSound}
 use Rattle.dy_core.proofs.OverLogs.{log_sound}

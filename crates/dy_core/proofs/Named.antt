@@ -13,7 +13,7 @@ use Rattle.dy_core.specs.Inside.{is_named, named_in}
 use Rattle.dy_dots.specs.declared.dots.Dot.{Dot}
 use Rattle.dy_siblings.specs.declared.versions.Version.{Version}
 use Rattle.dy_core.proofs.Members.{any_gives, any_from}
-use Rattle.dy_core.proofs.Tests.{any-append, in_insert, in_union, same_dot_back, same_key_is, same_key_self, dot_cmp_total, dot_cmp_same}
+use Rattle.dy_core.proofs.Sameness.{any-append, in_insert, in_union, same_dot_back, same_key_is, same_key_self, dot_cmp_total, dot_cmp_same}
 use Rattle.dy_core.proofs.Kept.{Named, past_gives, past_from}
 
 named_push : (vs : List Version) (i : ℕ) (v : Version) → i < length vs → v ≡ get_or vs i v → (key : List ℕ) (context : DotSet) (d : Dot) →

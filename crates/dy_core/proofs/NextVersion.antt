@@ -17,7 +17,7 @@ use Rattle.dy_core.specs.declared.holdings.Holding.{Holding}
 use Rattle.dy_core.specs.declared.steps.Step.{Step}
 use Rattle.dy_core.specs.declared.steps.Step.TheVariants.{Issue}
 use Rattle.dy_core.proofs.Members.{not_in_nil, in_head, in_tail, in_cases, any_gives}
-use Rattle.dy_core.proofs.Tests.{same_dot_is, same_key_is}
+use Rattle.dy_core.proofs.Sameness.{same_dot_is, same_key_is}
 use Rattle.dy_core.proofs.Kept.{IsSound}
 use Rattle.dy_core.proofs.Named.{past_from_list}
 use Rattle.dy_core.proofs.Standing.{stands_from, stands_in}

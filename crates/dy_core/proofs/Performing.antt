@@ -17,7 +17,7 @@ use Rattle.dy_core.specs.declared.acks.Acked.{Acked}
 use Rattle.dy_core.specs.declared.holdings.Holding.{Holding}
 use Rattle.dy_core.specs.declared.steps.Step.{Step}
 use Rattle.dy_core.specs.declared.steps.Step.TheVariants.{Issue, Hold, Release, Fetch, Ack}
-use Rattle.dy_core.proofs.Tests.{same_dot_is}
+use Rattle.dy_core.proofs.Sameness.{same_dot_is}
 use Rattle.dy_core.proofs.Ordered.{past_is_known, same_version}
 use Rattle.dy_core.proofs.Standing.{stands_from}
 use Rattle.dy_core.proofs.Kept.{IsSound, Named}

@@ -13,7 +13,7 @@ use Rattle.dy_siblings.specs.declared.versions.Version.{Version}
 use Rattle.dy_core.specs.Worlds.{is_issued}
 use Rattle.dy_core.specs.Inside.{AreIssuedBelow, IsFirstUnissued, AreIssuedIn}
 use Rattle.dy_core.specs.Listings.{IsLeastUnknown}
-use Rattle.dy_core.proofs.Tests.{any-append}
+use Rattle.dy_core.proofs.Sameness.{any-append}
 
 -- the parts of being in a run
 run_parts : (r : Run) (d : Dot) → in_run r d ≡ true → (d.node ≡ r.node) × (r.first ≤ d.counter) × (d.counter ≤ r.last)

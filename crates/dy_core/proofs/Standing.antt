@@ -13,7 +13,7 @@ use Rattle.dy_core.specs.Steps.{same_place, after_issue, after_hold, after_relea
 use Rattle.dy_dots.specs.declared.dots.Dot.{Dot}
 use Rattle.dy_siblings.specs.declared.versions.Version.{Version}
 use Rattle.dy_core.proofs.Members.{in_tail, any_gives, any_from, filter_in, filter_from}
-use Rattle.dy_core.proofs.Tests.{same_dot_is, same_dot_self, same_key_is, same_key_self}
+use Rattle.dy_core.proofs.Sameness.{same_dot_is, same_dot_self, same_key_is, same_key_self}
 use Rattle.dy_core.proofs.Ordered.{IsOrdered, AreOf, newest_covers, past_is_known, same_version}
 
 -- a version that stands at a place

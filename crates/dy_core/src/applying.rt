@@ -101,14 +101,12 @@ fn perform(
         Step::Ack { key, dot, w } => {
             let answer = Row::new(alloc, key.try_clone(alloc)?);
             let key = key.try_clone(alloc)?;
-            lists::put(
-                acked,
-                Acked {
-                    key,
-                    dot: *dot,
-                    w: *w,
-                },
-            )?;
+            let ack = Acked {
+                key,
+                dot: *dot,
+                w: *w,
+            };
+            lists::put(acked, ack)?;
             Ok(answer)
         }
     }
