@@ -8,7 +8,7 @@ use Rattle.dy_core.specs.declared.steps.Step.{Step}
 use Rattle.dy_shares.specs.declared.entries.Entry.{Entry}
 use Rattle.dy_shares.specs.contracts.entries.Done as done
 use Rattle.dy_shares.specs.declared.entries.Done.{Done}
-use Rattle.dy_shares.specs.Shares.{names, node_of, ack_at, steps_of, since_of, Account, AckTold, NodePart, SessionPart, GetMatches, AreOwned}
+use Rattle.dy_shares.specs.Shares.{names, node_of, ack_at, steps_of, since_of, Account, AckTold, GetTold, NodePart, SessionPart, GetMatches, AreOwned}
 use Rattle.dy_core.specs.Worlds.{Layout}
 use Rattle.dy_core.specs.Logs.{IsLegal}
 
@@ -43,6 +43,10 @@ place_of nodes e = place_by nodes e.told e.step
 abbrev pub numbered : ℕ → List Step → List Done
 numbered at [] = []
 numbered at (s ∷ ss) = record { at = at; step = s } ∷ numbered (at + 1) ss
+
+-- the share with these steps more, numbered from `at`
+abbrev pub with_done : Held → ℕ → List Step → Held
+with_done h at ss = held h.index (h.part ++ numbered at ss)
 
 -- the entries of these steps, of which all are told to the same session, or to none
 abbrev pub entries_of : Option ℕ → List Step → List Entry
@@ -85,6 +89,10 @@ pub record AgreesAsSession (nodes r : ℕ) (parts : List (List Done)) (log : Lis
   pub place_has : get_elem? parts (nodes + s.session) ≡ some part
   pub acks_are : s.acks ≡ done_acks part
   pub gets_match : All (GetMatches (steps_of log) r) s.gets
+
+-- what a session was told, by its part of the row and its gets
+abbrev pub told_parts : ℕ → List Done → List GetTold → SessionPart
+told_parts session part gets = record { session = session; acks = done_acks part; gets = gets }
 
 -- a session's share as it is kept: its place, its since, and a front at which each get was seen to
 -- match the log

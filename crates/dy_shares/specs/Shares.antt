@@ -7,10 +7,11 @@ use Rattle.dy_dots.specs.declared.dots.Dot.{Dot}
 use Rattle.dy_siblings.specs.Versions.{version_code}
 use Rattle.dy_siblings.specs.Siblings.{Siblings}
 use Rattle.dy_siblings.specs.declared.versions.Version.{Version}
-use Rattle.dy_core.specs.Worlds.{Layout, World, empty_world}
+use Rattle.dy_ring.specs.Rings.{Tokens}
+use Rattle.dy_core.specs.Worlds.{World, empty_world, layout_of}
 use Rattle.dy_core.specs.Steps.{version_made, after_issue, after_hold, after_release}
 use Rattle.dy_core.specs.Covers.{ReceiptHolds}
-use Rattle.dy_core.specs.Logs.{world_after, IsLegal, Answer, IsAnswer, MatchesLog}
+use Rattle.dy_core.specs.Logs.{world_after, IsLegalFrom, Answer, IsAnswer, MatchesLog}
 use Rattle.dy_core.specs.contracts.steps.Step as step
 use Rattle.dy_core.specs.declared.steps.Step.{Step}
 use Rattle.dy_core.specs.declared.steps.Step.TheVariants.{Issue, Hold, Release, Fetch, Ack}
@@ -53,6 +54,10 @@ untold s = record { told = None; step = s }
 -- an entry that this session was told
 abbrev pub told_to : ℕ → Step → Entry
 told_to session s = record { told = Some session; step = s }
+
+-- the steps may follow the log: each is allowed where it stands, by the ring and the number of homes
+abbrev pub MayFollow : Tokens → ℕ → List Entry → List Step → Type 0
+MayFollow ring n log steps = IsLegalFrom (layout_of ring n) (world_after (steps_of log)) steps
 
 -- the node whose step it is: the one that makes a version, holds a row or gives up a dot; a fetch
 -- changes nothing, and an ack is a session's
@@ -149,6 +154,9 @@ receipt_parts_code =
     code_by (List ℕ × (Dot × (ℕ × ℕ))) (coded× (coded_list coded_ℕ) (coded× dot_code (coded× coded_ℕ coded_ℕ)))
     (λ r. (r.key, (r.dot, (r.home, r.holder)))) (λ p. record { key = p.0; dot = p.1.0; home = p.1.1.0; holder = p.1.1.1 }) (λ _. refl)
 
+abbrev pub receipt_parts : List ℕ → Dot → ℕ → ℕ → ReceiptParts
+receipt_parts key dot home holder = record { key = key; dot = dot; home = home; holder = holder }
+
 -- the receipt holds in the world after the log
 abbrev pub IsReceipt : List Step → ReceiptParts → Type 0
 IsReceipt steps r = ReceiptHolds (world_after steps) r.key r.dot r.home r.holder
@@ -194,6 +202,13 @@ session_part_code =
     code_by (ℕ × (List AckTold × List GetTold))
     (coded× coded_ℕ (coded× (coded_list ack_told_code) (coded_list get_told_code)))
     (λ s. (s.session, (s.acks, s.gets))) (λ p. record { session = p.0; acks = p.1.0; gets = p.1.1 }) (λ _. refl)
+
+abbrev pub answer_of : ℕ → ℕ → ℕ → List ℕ → Siblings → Answer
+answer_of at holder home key row = record { at = at; holder = holder; home = home; key = key; row = row.versions }
+
+-- the part of a session that was told nothing
+abbrev pub first_session : ℕ → SessionPart
+first_session session = record { session = session; acks = []; gets = [] }
 
 -- the step of this number as an ack, where it is one
 abbrev pub ack_at : ℕ → Step → List AckTold

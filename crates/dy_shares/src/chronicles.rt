@@ -11,7 +11,8 @@ use logbook::{Gain, Offer, Pen, Plain, Play, Rule, Seen, Start, Word};
 use std::collections::LinkedList;
 use std::marker::{Model, PhantomData};
 
-// What one step adds: some entries, all or none. To a contract it is the list of them; no value of it is made.
+// What one step adds: some entries, all or none. To a contract it is the list of them; no value of
+// it is made.
 type Entries = LinkedList<Entry>;
 
 /// The rule of the book.
@@ -98,7 +99,8 @@ pub struct BlankChronicle {
     baton: Pen,
     pub ghost empty: { seen.log ≡ [] },
     pub ghost head_is: { head ≡ head_of seen.book },
-    pub ghost baton_is: { (baton.book ≡ seen.book) × (baton.nib ≡ nib may_write (suc (suc zero)) 0) },
+    pub ghost baton_of: { baton.book ≡ seen.book },
+    pub ghost baton_is: { baton.nib ≡ nib may_write (suc (suc zero)) 0 },
 }
 
 // The right to append the entry of this number. It is there, unless somebody else has made it.
@@ -109,7 +111,8 @@ fn new_baton(
 ) -> Option<Pen>
     requires head { head.now ≡ head_of seen.now.book }
     requires room { number < 2 ^ 63 }
-    ensures { IfSome result (λ pen. (pen.book ≡ seen.now.book) × (pen.nib ≡ nib may_write (suc (suc number)) 0)) }
+    ensures book { IfSome result (λ pen. pen.book ≡ seen.now.book) }
+    ensures nib { IfSome result (λ pen. pen.nib ≡ nib may_write (suc (suc number)) 0) }
 {
     let mut seen = seen.again();
     let mut offer: Offer<Entries, u64, Law, Nothing> = seen.plain::<Nothing, (), Look>(&());
@@ -175,10 +178,14 @@ impl<J: Naming> Model for Chronicle<J> {
 
     ghost view = { λ c. joined c.seen.log };
 
-    ghost invariant = { λ c. (c.seen.book ≡ J.book) × (c.head ≡ head_of J.book) × (c.baton.book ≡ J.book) × (c.baton.nib ≡ nib may_write (suc (suc (length c.seen.log))) 0) × (c.batches ≡ length c.seen.log) };
+    ghost invariant = { λ c.
+        (c.seen.book ≡ J.book) × (c.head ≡ head_of J.book) × (c.baton.book ≡ J.book)
+        × (c.baton.nib ≡ nib may_write (suc (suc (length c.seen.log))) 0)
+        × (c.batches ≡ length c.seen.log) };
 }
 
-/// A beginning of the log. It takes no bytes, and may be copied and dropped. To a contract it is its entries.
+/// A beginning of the log. It takes no bytes, and may be copied and dropped. To a contract it is its
+/// entries.
 #[derive(Drop)]
 pub struct Front<J: Naming> {
     seen: Seen<Entries, u64, Law>,
@@ -245,7 +252,9 @@ impl<J: Naming> Chronicle<J> {
 
     /// Appends the entries, all or none, and says whether it did.
     pub fn append(&mut self, batch: &Batch) -> bool
-        ensures { MatchBool result (self.new ≡ self.old ++ entries_of batch.now.told batch.now.steps.items) (self.new ≡ self.old) }
+        ensures { MatchBool result
+            (self.new ≡ self.old ++ entries_of batch.now.told batch.now.steps.items)
+            (self.new ≡ self.old) }
     {
         if self.batches >= 1 << 40 {
             return false;

@@ -3,10 +3,9 @@ ghost use Rattle.std.specs.List.{All};
 ghost use mathlib.Core.List.{IsPrefix};
 ghost use Rattle.dy_dots.specs.declared.nodes.TheConstants.{MAX_NODES};
 ghost use Rattle.dy_core.specs.Worlds.{layout_of};
-ghost use Rattle.dy_core.specs.Steps.{IsAllowed};
-ghost use Rattle.dy_core.specs.Logs.{IsAnswer, IsLegal, IsLegalFrom, world_after};
-ghost use Rattle.dy_shares.specs.Parts.{AreOf, IsPartOf, IsRowOf, entries_of, held, numbered};
-ghost use Rattle.dy_shares.specs.Shares.{AreAll, AreOwned, BelongsTo, IsAck, IsFetch, IsMissing, IsReceipt, NodeStays, SessionBelongsTo, SessionStays, empty_account, first_parts, node_of, session_acks, steps_of, told_to, untold, with_ack, with_entries, with_session, with_steps};
+ghost use Rattle.dy_core.specs.Logs.{IsAnswer};
+ghost use Rattle.dy_shares.specs.Parts.{AreOf, IsPartOf, IsRowOf, entries_of, with_done};
+ghost use Rattle.dy_shares.specs.Shares.{AreAll, AreOwned, BelongsTo, IsAck, IsFetch, IsMissing, IsReceipt, MayFollow, NodeStays, SessionBelongsTo, SessionStays, answer_of, empty_account, first_parts, first_session, node_of, receipt_parts, steps_of, told_to, untold, with_ack, with_entries, with_session, with_steps};
 ghost use Rattle.dy_shares.specs.declared.ledgers.TheConstants.{MAX_SESSIONS};
 
 use crate::chronicles::{Chronicle, Front};
@@ -51,7 +50,9 @@ impl<J: Naming> Model for Ledger<J> {
 
     ghost view = { λ l. record { log = l.chronicle; sessions = l.sessions } };
 
-    ghost invariant = { λ l. (l.nodes ≡ J.ring.nodes) × IsLedger J.ring.nodes (layout_of J.ring J.n) l.steps.items l.sessions l.chronicle l.row };
+    ghost invariant = { λ l.
+        (l.nodes ≡ J.ring.nodes)
+        × IsLedger J.ring.nodes (layout_of J.ring J.n) l.steps.items l.sessions l.chronicle l.row };
 }
 
 impl<J: Naming> Ledger<J> {
@@ -86,7 +87,7 @@ impl<J: Naming> Ledger<J> {
     /// One more session, which was told nothing yet. Takes no memory.
     pub fn session(&mut self) -> Result<SessionShare<J>, Fault>
         ensures log { OnOk result (self.new ≡ with_session self.old) }
-        ensures share { IfOk result (λ s. s ≡ record { session = self.old.sessions; acks = []; gets = [] }) }
+        ensures share { IfOk result (λ s. s ≡ first_session self.old.sessions) }
         ensures too_many { IsErrOf result Fault.TooMany ↔ (MAX_SESSIONS ≤ self.old.sessions) }
         ensures err { OnErr result (self.new ≡ self.old) }
         ensures only { IsOkUnless result Fault.TooMany }
@@ -136,7 +137,7 @@ impl<J: Naming> Ledger<J> {
     /// Adds steps of one node to the log, all or none, and to the node's share.
     pub fn node_steps(&mut self, share: &mut NodeShare<J>, steps: Vec<Step>) -> Result<(), Fault>
         requires own { All (λ s. node_of s ≡ Some share.old.node) steps.items }
-        requires allowed { IsLegalFrom (layout_of J.ring J.n) (world_after (steps_of self.old.log)) steps.items }
+        requires allowed { MayFollow J.ring J.n self.old.log steps.items }
         ensures log { OnOk result (self.new ≡ with_entries self.old (map untold steps.items)) }
         ensures share { OnOk result (share.new ≡ with_steps share.old steps.items) }
         ensures err { OnErr result ((self.new ≡ self.old) × (share.new ≡ share.old)) }
@@ -152,14 +153,15 @@ impl<J: Naming> Ledger<J> {
     /// Adds an ack to the log, and tells it the session whose share is lent.
     pub fn ack_step(&mut self, share: &mut SessionShare<J>, step: Step) -> Result<(), Fault>
         requires ack { IsAck step }
-        requires allowed { IsAllowed (layout_of J.ring J.n) (world_after (steps_of self.old.log)) step }
+        requires allowed { MayFollow J.ring J.n self.old.log (step ∷ []) }
         ensures log { OnOk result (self.new ≡ with_entries self.old (told_to share.old.session step ∷ [])) }
         ensures share { OnOk result (share.new ≡ with_ack share.old (length self.old.log + 1) step) }
         ensures err { OnErr result ((self.new ≡ self.old) × (share.new ≡ share.old)) }
         ensures memory { IsOkUnless result Fault.OutOfMemory }
         ensures belongs { SessionBelongsTo self.old.log J.r share.old }
         ensures nodes { (node : ℕ) → NodeStays self.old.log self.new.log node }
-        ensures sessions { (session : ℕ) → session ≢ share.old.session → SessionStays self.old.log self.new.log session }
+        ensures sessions { (session : ℕ) → session ≢ share.old.session →
+            SessionStays self.old.log self.new.log session }
     {
         self.agree_session(share);
         let steps = alone(self.alloc, step)?;
@@ -203,10 +205,11 @@ impl<J: Naming> Ledger<J> {
         steps: Vec<Step>,
     ) -> Result<(), Fault>
         requires place { AreOf J.ring.nodes (Some share.old.index) (entries_of told steps.items) }
-        requires owned { share.old.index < J.ring.nodes + self.old.sessions → AreOwned J.ring.nodes self.old.sessions (entries_of told steps.items) }
-        requires allowed { IsLegalFrom (layout_of J.ring J.n) (world_after (steps_of self.old.log)) steps.items }
+        requires owned { share.old.index < J.ring.nodes + self.old.sessions →
+            AreOwned J.ring.nodes self.old.sessions (entries_of told steps.items) }
+        requires allowed { MayFollow J.ring J.n self.old.log steps.items }
         ensures log { OnOk result (self.new ≡ with_entries self.old (entries_of told steps.items)) }
-        ensures share { OnOk result (share.new ≡ held share.old.index (share.old.part ++ numbered (length self.old.log + 1) steps.items)) }
+        ensures share { OnOk result (share.new ≡ with_done share.old (length self.old.log + 1) steps.items) }
         ensures err { OnErr result ((self.new ≡ self.old) × (share.new ≡ share.old)) }
         ensures memory { IsOkUnless result Fault.OutOfMemory }
         ensures belongs { IsPartOf J.ring.nodes (layout_of J.ring J.n) self.old share.old }
@@ -225,8 +228,8 @@ impl<J: Naming> Ledger<J> {
 
     /// A receipt of what is covered as the log stands. Takes no memory.
     pub fn receipt(&self, key: Key, dot: Dot, home: NodeId, holder: NodeId) -> Receipt<J>
-        requires { IsReceipt (steps_of self.now.log) (record { key = key; dot = dot; home = home; holder = holder }) }
-        ensures { result ≡ record { key = key; dot = dot; home = home; holder = holder } }
+        requires { IsReceipt (steps_of self.now.log) (receipt_parts key dot home holder) }
+        ensures { result ≡ receipt_parts key dot home holder }
     {
         Receipt::new(key, dot, home, holder, self.chronicle.front())
     }
@@ -240,9 +243,9 @@ impl<J: Naming> Ledger<J> {
         key: Key,
         row: dy_siblings::Row,
     ) -> Seen<J>
-        requires is { IsAnswer (steps_of self.now.log) (record { at = at; holder = holder; home = home; key = key; row = row.versions }) }
+        requires is { IsAnswer (steps_of self.now.log) (answer_of at holder home key row) }
         requires of_key { row.key ≡ key }
-        ensures { result ≡ record { at = at; holder = holder; home = home; key = key; row = row.versions } }
+        ensures { result ≡ answer_of at holder home key row }
     {
         Seen::new(at, holder, home, key, row, self.chronicle.front())
     }
@@ -303,7 +306,9 @@ impl<J: Naming> Ledger<J> {
         ensures log { IfOk result (λ steps. steps.items ≡ steps_of self.log) }
         ensures exact { IfOk result (λ _. AreAll J.ring.nodes J.r self nodes.items sessions.items) }
         ensures shares_missing { IfErr result (λ _. IsMissing J.ring.nodes self.sessions nodes.items sessions.items) }
-        ensures handed_back { IfErr result (λ refused. (refused.ledger ≡ self) × (refused.nodes.items ≡ nodes.items) × (refused.sessions.items ≡ sessions.items)) }
+        ensures ledger_back { IfErr result (λ refused. refused.ledger ≡ self) }
+        ensures nodes_back { IfErr result (λ refused. refused.nodes.items ≡ nodes.items) }
+        ensures sessions_back { IfErr result (λ refused. refused.sessions.items ≡ sessions.items) }
     {
         if let Some(_node) = missing_node(nodes.as_slice(), self.nodes as usize) {
             return Err(EndRefused {

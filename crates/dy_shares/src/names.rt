@@ -55,7 +55,8 @@ impl Model for Blank {
 
     ghost Value = { BlankNames };
 
-    ghost view = { λ b. record { book = b.chronicle.seen.book; table = b.row.table.shared.table_id } };
+    ghost view = { λ b.
+        record { book = b.chronicle.seen.book; table = b.row.table.shared.table_id } };
 }
 
 impl Blank {

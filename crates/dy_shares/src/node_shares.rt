@@ -6,8 +6,8 @@ use crate::parts::{Row, Share};
 use dy_dots::NodeId;
 use std::marker::Model;
 
-/// A node's share of a book: what the node holds, and its greatest counters, as the node's own steps
-/// show them. It can't be dropped or copied, and must be handed in.
+/// A node's share of a book: what the node holds, and its greatest counters, as its own steps show
+/// them. It can't be dropped or copied, and must be handed in.
 pub struct NodeShare<J: Naming> {
     node: NodeId,
     pub(crate) share: Share<J>,

@@ -3,7 +3,7 @@ ghost use Rattle.std.specs.Prelude.{◌≡◌, ◌<◌, ◌++◌, ◌∷◌, [],
 ghost use mathlib.Core.Option.{some};
 ghost use lib.ListN.{get_elem?};
 ghost use Rattle.dy_shares.specs.Agreeing.{knower};
-ghost use Rattle.dy_shares.specs.Parts.{held, numbered};
+ghost use Rattle.dy_shares.specs.Parts.{held, with_done};
 
 use crate::entries::{Batch, Done};
 use crate::names::Naming;
@@ -116,7 +116,9 @@ impl<J: Naming> Model for Row<J> {
 
     ghost view = { λ r. r.seat.me.0.parts };
 
-    ghost invariant = { λ r. (r.table.shared.table_id ≡ J.table) × (r.seat.table_id ≡ J.table) × (0 < r.table.shared.table_id.words) × (r.seat.me ≡ (knower r.seat.me.0.parts, [])) };
+    ghost invariant = { λ r.
+        (r.table.shared.table_id ≡ J.table) × (r.seat.table_id ≡ J.table)
+        × (0 < r.table.shared.table_id.words) × (r.seat.me ≡ (knower r.seat.me.0.parts, [])) };
 }
 
 /// A share of one place. It must be handed in. To a contract it is its index and its part.
@@ -137,7 +139,9 @@ impl<J: Naming> Model for Share<J> {
 
     ghost view = { λ s. held s.index (part_of s.badge.views) };
 
-    ghost invariant = { λ s. (s.badge.table_id ≡ J.table) × (s.badge.views ≡ share_of s.index (part_of s.badge.views) ∷ []) };
+    ghost invariant = { λ s.
+        (s.badge.table_id ≡ J.table)
+        × (s.badge.views ≡ share_of s.index (part_of s.badge.views) ∷ []) };
 }
 
 impl BlankRow {
@@ -206,8 +210,9 @@ impl<J: Naming> Row<J> {
 
     /// The steps go to the share and to its place.
     pub fn grow(&mut self, share: &mut Share<J>, batch: &Batch)
-        ensures row { self.new ≡ slice_set self.old share.old.index (share.old.part ++ numbered batch.now.first batch.now.steps.items) }
-        ensures share { share.new ≡ held share.old.index (share.old.part ++ numbered batch.now.first batch.now.steps.items) }
+        ensures row { self.new ≡ slice_set self.old share.old.index
+            (with_done share.old batch.now.first batch.now.steps.items).part }
+        ensures share { share.new ≡ with_done share.old batch.now.first batch.now.steps.items }
     {
         let seat = mem::replace(&mut share.badge, Badge::blank()).into_seat::<Batch>();
         let table = &self.table;

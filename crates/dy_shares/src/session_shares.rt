@@ -3,7 +3,7 @@ ghost use Rattle.std.specs.List.{All, IsDistinct};
 ghost use mathlib.Core.List.{IsPrefix};
 ghost use Rattle.dy_core.specs.Logs.{Answer, IsAnswer};
 ghost use Rattle.dy_shares.specs.Parts.{AgreesAsSession, held};
-ghost use Rattle.dy_shares.specs.Shares.{greatest, since_of, steps_of, with_get};
+ghost use Rattle.dy_shares.specs.Shares.{first_session, greatest, since_of, steps_of, with_get};
 
 use crate::chronicles::{Chronicle, Front};
 use crate::names::Naming;
@@ -42,16 +42,18 @@ pub struct SessionShare<J: Naming> {
 }
 
 impl<J: Naming> Model for SessionShare<J> {
-    ghost use Rattle.dy_shares.specs.Parts.{done_acks, IsSessionShare};
+    ghost use Rattle.dy_shares.specs.Parts.{IsSessionShare, told_parts};
     ghost use Rattle.dy_shares.specs.Shares.{SessionPart, session_part_code};
 
     ghost Value = { SessionPart };
 
     ghost coded = { session_part_code };
 
-    ghost view = { λ s. record { session = s.number; acks = done_acks s.share.part; gets = s.gets.items } };
+    ghost view = { λ s. told_parts s.number s.share.part s.gets.items };
 
-    ghost invariant = { λ s. IsSessionShare J.ring.nodes J.r s.share.index s.since s.front (record { session = s.number; acks = done_acks s.share.part; gets = s.gets.items }) };
+    ghost invariant = { λ s.
+        IsSessionShare J.ring.nodes J.r s.share.index s.since s.front
+        (told_parts s.number s.share.part s.gets.items) };
 }
 
 impl<J: Naming> SessionShare<J> {
@@ -65,7 +67,7 @@ impl<J: Naming> SessionShare<J> {
         front: Front<J>,
     ) -> SessionShare<J>
         requires { share ≡ held (J.ring.nodes + number) [] }
-        ensures { result ≡ record { session = number; acks = []; gets = [] } }
+        ensures { result ≡ first_session number }
     {
         SessionShare {
             number,

@@ -1,6 +1,6 @@
 ghost use Rattle.std.specs.Prelude.{◌≡◌, ◌≤◌, length, IfOk, IsOkUnless};
 ghost use Rattle.dy_core.specs.Logs.{IsAnswer};
-ghost use Rattle.dy_shares.specs.Shares.{IsReceipt, steps_of};
+ghost use Rattle.dy_shares.specs.Shares.{IsReceipt, answer_of, receipt_parts, steps_of};
 
 use crate::chronicles::Front;
 use crate::names::Naming;
@@ -21,15 +21,16 @@ pub struct Receipt<J: Naming> {
 }
 
 impl<J: Naming> Model for Receipt<J> {
-    ghost use Rattle.dy_shares.specs.Shares.{ReceiptParts, receipt_parts_code, IsReceipt, steps_of};
+    ghost use Rattle.dy_shares.specs.Shares.{ReceiptParts, receipt_parts, receipt_parts_code, IsReceipt, steps_of};
 
     ghost Value = { ReceiptParts };
 
     ghost coded = { receipt_parts_code };
 
-    ghost view = { λ r. record { key = r.key; dot = r.dot; home = r.home; holder = r.holder } };
+    ghost view = { λ r. receipt_parts r.key r.dot r.home r.holder };
 
-    ghost invariant = { λ r. IsReceipt (steps_of r.front) (record { key = r.key; dot = r.dot; home = r.home; holder = r.holder }) };
+    ghost invariant = { λ r.
+        IsReceipt (steps_of r.front) (receipt_parts r.key r.dot r.home r.holder) };
 }
 
 impl<J: Naming> Receipt<J> {
@@ -41,8 +42,8 @@ impl<J: Naming> Receipt<J> {
         holder: NodeId,
         front: Front<J>,
     ) -> Receipt<J>
-        requires { IsReceipt (steps_of front) (record { key = key; dot = dot; home = home; holder = holder }) }
-        ensures { result ≡ record { key = key; dot = dot; home = home; holder = holder } }
+        requires { IsReceipt (steps_of front) (receipt_parts key dot home holder) }
+        ensures { result ≡ receipt_parts key dot home holder }
     {
         Receipt {
             key,
@@ -118,15 +119,17 @@ pub struct Seen<J: Naming> {
 impl<J: Naming> Model for Seen<J> {
     ghost use Rattle.std.specs.Prelude.{◌≡◌};
     ghost use Rattle.dy_core.specs.Logs.{Answer, IsAnswer};
-    ghost use Rattle.dy_shares.specs.Shares.{answer_code, steps_of};
+    ghost use Rattle.dy_shares.specs.Shares.{answer_code, answer_of, steps_of};
 
     ghost Value = { Answer };
 
     ghost coded = { answer_code };
 
-    ghost view = { λ s. record { at = s.at; holder = s.holder; home = s.home; key = s.key; row = s.row.versions } };
+    ghost view = { λ s. answer_of s.at s.holder s.home s.key s.row };
 
-    ghost invariant = { λ s. IsAnswer (steps_of s.front) (record { at = s.at; holder = s.holder; home = s.home; key = s.key; row = s.row.versions }) × (s.row.key ≡ s.key) };
+    ghost invariant = { λ s.
+        IsAnswer (steps_of s.front) (answer_of s.at s.holder s.home s.key s.row)
+        × (s.row.key ≡ s.key) };
 }
 
 impl<J: Naming> Seen<J> {
@@ -139,9 +142,9 @@ impl<J: Naming> Seen<J> {
         row: Row,
         front: Front<J>,
     ) -> Seen<J>
-        requires is { IsAnswer (steps_of front) (record { at = at; holder = holder; home = home; key = key; row = row.versions }) }
+        requires is { IsAnswer (steps_of front) (answer_of at holder home key row) }
         requires of_key { row.key ≡ key }
-        ensures { result ≡ record { at = at; holder = holder; home = home; key = key; row = row.versions } }
+        ensures { result ≡ answer_of at holder home key row }
     {
         Seen {
             at,
