@@ -8,3 +8,4 @@ pub mod Later
 pub mod Additions
 pub mod Accounts
 pub mod Sessions
+pub mod Scenes

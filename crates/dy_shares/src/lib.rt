@@ -10,6 +10,8 @@ mod names;
 mod node_shares;
 mod parts;
 mod session_shares;
+#[cfg(test)]
+mod tests;
 mod witnesses;
 
 pub use chronicles::Front;
