@@ -1,5 +1,5 @@
 -- A ledger stays one, and each share that agrees with its row belongs to its log.
-use Rattle.std.proofs.Common.{◌≡◌, ℕ, suc, ◌+◌, ◌<◌, ◌≤◌, List, [], ◌∷◌, ◌++◌, length, set, Option, None, Some, slice_index_or, refl, sym, ap, ◌∙◌, subst, arith}
+use Rattle.std.proofs.Common.{◌≡◌, ℕ, suc, ◌+◌, ◌<◌, List, [], ◌∷◌, ◌++◌, length, set, Option, None, Some, slice_index_or, refl, sym, ap, ◌∙◌, subst, arith}
 use Rattle.std.specs.List.{All}
 use Rattle.std.proofs.lemmas.List.Elements.{All-append, All-weaker, All-cons, All-nil}
 use mathlib.Core.Option.{some}
@@ -11,7 +11,7 @@ use Rattle.dy_core.specs.declared.steps.Step.TheVariants.{Issue, Hold, Release, 
 use Rattle.dy_core.proofs.OverLogs.{legal_join}
 use Rattle.dy_shares.specs.declared.entries.Entry.{Entry}
 use Rattle.dy_shares.specs.declared.entries.Done.{Done}
-use Rattle.dy_shares.specs.Shares.{ack_at, first_parts, with_steps, steps_of, IsOwnedStep, AreOwned, BelongsTo, SessionBelongsTo, NodePart, SessionPart, GetMatches, AreAll, Account, HasNode, HasSession}
+use Rattle.dy_shares.specs.Shares.{ack_at, first_parts, with_steps, steps_of, IsOwnedStep, AreOwned, BelongsTo, SessionBelongsTo, NodePart, SessionPart, AreAll, Account, HasNode, HasSession}
 use Rattle.dy_shares.specs.Parts.{entries_of, numbered, done_steps, done_acks, AreOf, IsPartOf, IsRowOf, IsLedger, Held, held, done_from, AgreesAsNode, AgreesAsSession}
 use Rattle.dy_shares.proofs.Rows.{row_free, row_opened, row_means, row_grown}
 use Rattle.std.proofs.lemmas.List.{append-nil}

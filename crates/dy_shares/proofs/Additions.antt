@@ -1,5 +1,5 @@
 -- What steps that are added change, and what they leave.
-use Rattle.std.proofs.Common.{◌≡◌, ◌≢◌, ℕ, ◌+◌, ◌<◌, Bool, true, false, cond, List, [], ◌∷◌, ◌++◌, length, map, filter, Option, None, Some, refl, sym, ap, ◌∙◌, subst, arith}
+use Rattle.std.proofs.Common.{◌≡◌, ◌≢◌, ℕ, ◌+◌, ◌<◌, Bool, false, cond, List, [], ◌∷◌, ◌++◌, length, filter, Option, None, Some, refl, sym, ap, ◌∙◌, subst, arith}
 use Rattle.std.specs.List.{All, AllByRecursion as ByRecursion}
 use Rattle.std.proofs.lemmas.List.{append-nil, append_assoc}
 use Rattle.std.proofs.lemmas.List.Elements.{recursion_from_All, filter-append, All-map, All-cons, All-nil, All-weaker}
@@ -9,7 +9,7 @@ use Rattle.dy_core.specs.Logs.{IsLegalFrom}
 use Rattle.dy_core.specs.declared.steps.Step.{Step}
 use Rattle.dy_core.specs.declared.steps.Step.TheVariants.{Issue, Hold, Release, Fetch, Ack}
 use Rattle.dy_shares.specs.declared.entries.Entry.{Entry}
-use Rattle.dy_shares.specs.Shares.{names, node_of, steps_of, ack_at, acks_from, session_acks, IsOwnedStep, AreOwned, IsAck, IsFetch, AckTold, NodePart, node_part, NodeStays, SessionStays, untold, told_to}
+use Rattle.dy_shares.specs.Shares.{names, node_of, steps_of, ack_at, acks_from, session_acks, IsOwnedStep, AreOwned, IsAck, IsFetch, NodeStays, SessionStays, untold, told_to}
 use Rattle.dy_shares.specs.Parts.{place_of, entries_of, AreOf}
 use Rattle.dy_shares.proofs.Rows.{names_not, names_none}
 use Rattle.dy_shares.proofs.Owners.{steps_of-append, steps_of-entries}

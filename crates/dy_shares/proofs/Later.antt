@@ -1,12 +1,12 @@
 -- What was true of a log stays true of a longer one.
-use Rattle.std.proofs.Common.{◌≡◌, ℕ, zero, suc, ◌-◌, ◌<◌, ◌≤◌, List, [], ◌∷◌, ◌++◌, Option, Some, length, slice_get, take, refl, sym, ap, ◌∙◌, subst, arith}
+use Rattle.std.proofs.Common.{◌≡◌, ℕ, zero, suc, ◌-◌, ◌≤◌, List, [], ◌∷◌, ◌++◌, Some, length, slice_get, take, sym, ap, ◌∙◌, subst, arith}
 use Rattle.std.specs.List.{All}
 use Rattle.std.proofs.lemmas.List.{take-append-le}
 use Rattle.std.proofs.lemmas.List.Elements.{All-weaker}
 use Rattle.std.proofs.lemmas.Option.{slice_get_within}
 use mathlib.Core.List.{IsPrefix}
 use Rattle.dy_core.specs.Worlds.{Layout, row_at}
-use Rattle.dy_core.specs.Logs.{world_after, IsLegal, Answer, IsAnswer, MatchesLog}
+use Rattle.dy_core.specs.Logs.{world_after, IsLegal, Answer, IsAnswer}
 use Rattle.dy_core.specs.declared.steps.Step.{Step}
 use Rattle.dy_core.specs.declared.steps.Step.TheVariants.{Fetch}
 use Rattle.dy_siblings.specs.Siblings.{IsSameRow}

@@ -1,16 +1,16 @@
 -- What a place of the row has done is what the log says of its node or session.
-use Rattle.std.proofs.Common.{◌≡◌, ◌≢◌, ℕ, ◌+◌, ◌<◌, ◌==◌, Bool, true, false, cond, List, [], ◌∷◌, ◌++◌, length, map, filter, Option, None, Some, All, refl, sym, ap, ◌∙◌, subst, arith}
-use Rattle.std.proofs.lemmas.List.{append-nil, append_assoc}
-use Rattle.std.proofs.lemmas.List.Elements.{recursion_from_All, All-append, All-weaker}
+use Rattle.std.proofs.Common.{◌≡◌, ◌≢◌, ℕ, ◌+◌, ◌<◌, ◌==◌, Bool, true, false, cond, List, [], ◌∷◌, ◌++◌, length, filter, Option, refl, sym, ap, ◌∙◌, arith}
+use Rattle.std.proofs.lemmas.List.{append_assoc}
+use Rattle.std.proofs.lemmas.List.Elements.{recursion_from_All}
 use Rattle.std.proofs.lemmas.Bool.Decides.{nat_tests}
 use Rattle.std.specs.List.{AllByRecursion as ByRecursion}
 use Rattle.dy_core.specs.declared.steps.Step.{Step}
 use Rattle.dy_core.specs.declared.steps.Step.TheVariants.{Issue, Hold, Release, Fetch, Ack}
 use Rattle.dy_shares.specs.declared.entries.Entry.{Entry}
 use Rattle.dy_shares.specs.declared.entries.Done.{Done}
-use Rattle.dy_shares.specs.Shares.{names, node_of, steps_of, ack_at, acks_from, IsOwnedStep, AreOwned, IsAck, IsFetch, AckTold, node_part, NodeStays, SessionStays, session_acks}
-use Rattle.dy_shares.specs.Parts.{place_by, place_of, numbered, entries_of, done_from, done_steps, done_acks, AreOf}
-use Rattle.dy_shares.proofs.Rows.{names_it, names_not, names_none}
+use Rattle.dy_shares.specs.Shares.{names, node_of, steps_of, ack_at, acks_from, IsOwnedStep, AreOwned, session_acks}
+use Rattle.dy_shares.specs.Parts.{place_by, place_of, numbered, entries_of, done_from, done_steps, done_acks}
+use Rattle.dy_shares.proofs.Rows.{names_none}
 
 apart_test : (n k : ℕ) → n ≢ k → (n == k) ≡ false
 apart_test n k apart = by_test (n == k) refl

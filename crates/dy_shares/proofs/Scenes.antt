@@ -14,7 +14,7 @@ use Rattle.dy_core.specs.declared.steps.Step.{Step}
 use Rattle.dy_core.specs.declared.steps.Step.TheVariants.{Issue, Fetch}
 use Rattle.dy_core.proofs.OverLogs.{world_from-append}
 use Rattle.dy_shares.specs.declared.entries.Entry.{Entry}
-use Rattle.dy_shares.specs.Shares.{steps_of, untold, NodePart, BelongsTo, HasSession, SessionPart, MayFollow, shown_from}
+use Rattle.dy_shares.specs.Shares.{steps_of, untold, NodePart, BelongsTo, HasSession, MayFollow, shown_from}
 use Rattle.dy_shares.proofs.Owners.{steps_of-append, steps_of-length}
 
 -- in no list there is nobody

@@ -1,24 +1,24 @@
 -- What a node's own steps show is what the world holds at the node.
-use Rattle.std.proofs.Common.{◌≡◌, ℕ, ◌+◌, ◌==◌, Bool, ◌&&◌, not, true, false, true≢false, cond, List, [], ◌∷◌, ◌++◌, filter, Option, None, Some, refl, sym, ap, ◌∙◌, subst, ⊎_elim}
+use Rattle.std.proofs.Common.{◌≡◌, ℕ, ◌+◌, ◌==◌, Bool, ◌&&◌, not, true, false, true≢false, cond, List, [], ◌∷◌, ◌++◌, filter, Option, Some, refl, sym, ap, ◌∙◌, subst, ⊎_elim}
 use Rattle.std.specs.List.{All, Contains}
 use Rattle.std.proofs.lemmas.Bool.{and_parts, cases_Bool, eqb-true, eq-eqb}
 use Rattle.std.proofs.lemmas.List.Elements.{All-contains, Contains-append_left, Contains-append_right, Contains-append_cases}
 use Rattle.dy_dots.specs.Dots.{DotSet, same_dot}
 use Rattle.dy_dots.specs.declared.dots.Dot.{Dot}
-use Rattle.dy_siblings.specs.Siblings.{Siblings, same_key, has_dot, newest, merge, IsSameRow}
+use Rattle.dy_siblings.specs.Siblings.{Siblings, same_key, has_dot, merge, IsSameRow}
 use Rattle.dy_siblings.specs.declared.versions.Version.{Version}
 use Rattle.dy_core.specs.Worlds.{Layout, World, empty_world, row_at}
 use Rattle.dy_core.specs.Steps.{IsAllowed, world_after_step, same_place, version_made, after_issue, after_hold, after_release}
 use Rattle.dy_core.specs.Logs.{world_from, world_after, IsLegalFrom, IsLegal}
 use Rattle.dy_core.specs.declared.steps.Step.{Step}
 use Rattle.dy_core.specs.declared.steps.Step.TheVariants.{Issue, Hold, Release, Fetch, Ack}
-use Rattle.dy_core.proofs.Members.{any_gives, any_from, filter_from, in_tail, not_in_nil}
-use Rattle.dy_core.proofs.Tests.{same_dot_is, same_key_is, same_key_self}
+use Rattle.dy_core.proofs.Members.{any_gives, any_from, filter_from, in_tail}
+use Rattle.dy_core.proofs.Tests.{same_dot_is}
 use Rattle.dy_core.proofs.Ordered.{same_version}
 use Rattle.dy_core.proofs.Places.{stands_from, stands_in, place_is}
 use Rattle.dy_core.proofs.Merging.{newest_same}
 use Rattle.dy_core.proofs.Kept.{IsSound, empty_sound, step_sound}
-use Rattle.dy_shares.specs.Shares.{names, node_of, node_part, shown_after_step, shown_from, shows_held, shows_counter, BelongsTo, NodePart}
+use Rattle.dy_shares.specs.Shares.{names, node_of, node_part, shown_after_step, shown_from, BelongsTo, NodePart}
 
 -- a version of the key and the dot that came along
 pub record IsBrought (vs : List Version) (key : List ℕ) (d : Dot) : Type 0 where

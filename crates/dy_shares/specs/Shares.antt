@@ -1,6 +1,6 @@
 -- Shares: which part of a log is a node's and which a session's, and what each part shows.
-use Rattle.std.specs.Prelude.{◌≡◌, ℕ, zero, suc, ◌+◌, ◌<◌, ◌⊎◌, ◌≤◌, ◌==◌, max, Bool, false, Option, None, Some, List, [], ◌∷◌, ◌++◌, map, length, take, slice_get, nat_eq, filter, if◌then◌else◌, refl}
-use Rattle.std.specs.List.{All, Any, Contains, IsDistinct}
+use Rattle.std.specs.Prelude.{◌≡◌, ℕ, zero, suc, ◌+◌, ◌<◌, ◌⊎◌, ◌==◌, max, Bool, false, Option, None, Some, List, [], ◌∷◌, ◌++◌, map, filter, if◌then◌else◌, refl}
+use Rattle.std.specs.List.{All, Any}
 use Rattle.std.specs.Coded.{Coded, coded×, coded_ℕ, coded_list, code_by}
 use Rattle.dy_dots.specs.Dots.{dot_code}
 use Rattle.dy_dots.specs.declared.dots.Dot.{Dot}
@@ -11,7 +11,7 @@ use Rattle.dy_ring.specs.Rings.{Tokens}
 use Rattle.dy_core.specs.Worlds.{World, empty_world, layout_of}
 use Rattle.dy_core.specs.Steps.{version_made, after_issue, after_hold, after_release}
 use Rattle.dy_core.specs.Covers.{ReceiptHolds}
-use Rattle.dy_core.specs.Logs.{world_after, IsLegalFrom, Answer, IsAnswer, MatchesLog}
+use Rattle.dy_core.specs.Logs.{world_after, IsLegalFrom, Answer, MatchesLog}
 use Rattle.dy_core.specs.contracts.steps.Step as step
 use Rattle.dy_core.specs.declared.steps.Step.{Step}
 use Rattle.dy_core.specs.declared.steps.Step.TheVariants.{Issue, Hold, Release, Fetch, Ack}

@@ -1,6 +1,4 @@
-use Rattle.std.proofs.Common.{◌≡◌, [], rules, sym, ◌∙◌, subst}
-use Rattle.std.specs.List.{All}
-use Rattle.std.proofs.lemmas.List.Elements.{All-nil}
+use Rattle.std.proofs.Common.{◌∙◌, subst}
 use Rattle.dy_shares.specs.Parts.{AgreesAsSession}
 use Rattle.dy_shares.proofs.Accounts.{all_back}
 use Rattle.dy_shares.proofs.endings.end_sessions.Goals as goal

@@ -1,4 +1,4 @@
-use Rattle.std.proofs.Common.{◌≡◌, List, [], ◌∷◌, ◌++◌, ◌+◌, rules, sym, ap, ◌∙◌, subst, arith}
+use Rattle.std.proofs.Common.{List, [], ◌∷◌, ◌++◌, ◌+◌, rules, sym, ap, ◌∙◌, subst, arith}
 use Rattle.dy_shares.specs.declared.entries.Done.{Done}
 use Rattle.dy_shares.specs.Parts.{IsRowOf}
 use Rattle.dy_shares.specs.Shares.{first_parts}

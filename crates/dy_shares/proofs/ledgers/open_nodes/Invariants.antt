@@ -1,4 +1,4 @@
-use Rattle.std.proofs.Common.{◌≡◌, ◌+◌, ◌≤◌, [], vec_len, vec_capacity}
+use Rattle.std.proofs.Common.{◌≡◌, ◌+◌, [], vec_len, vec_capacity}
 use Rattle.dy_shares.specs.Parts.{IsRowOf}
 use Rattle.dy_shares.specs.Shares.{first_parts}
 use Rattle.dy_shares.proofs.ledgers.open_nodes.Given as goal

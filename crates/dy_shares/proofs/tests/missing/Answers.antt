@@ -1,5 +1,5 @@
-use Rattle.std.proofs.Common.{◌≡◌, ◌<◌, ℕ, List, [], rules, sym, ap, subst, arith}
-use Rattle.dy_shares.specs.Shares.{Account, HasSession, SessionPart}
+use Rattle.std.proofs.Common.{◌<◌, sym, ap, subst, arith}
+use Rattle.dy_shares.specs.Shares.{Account, HasSession}
 use Rattle.dy_shares.proofs.Scenes.{nobody_has}
 use Rattle.dy_shares.proofs.tests.missing.Goals as goal
 

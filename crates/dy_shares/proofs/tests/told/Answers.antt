@@ -1,4 +1,4 @@
-use Rattle.std.proofs.Common.{List, [], map, nat_eq, rules, sym, subst}
+use Rattle.std.proofs.Common.{List, map, nat_eq, sym, subst}
 use Rattle.std.specs.List.{IsDistinct}
 use Rattle.dy_core.specs.Logs.{Answer}
 use Rattle.dy_shares.proofs.Scenes.{none_twice}

@@ -1,7 +1,4 @@
-use Rattle.std.proofs.Common.{◌≡◌, ℕ, ◌+◌, ◌≤◌, max, List, [], ◌∷◌, ◌++◌, Some, length, length-append, arith, rules, sym, ap, ◌∙◌, subst}
-use mathlib.Core.List.{IsPrefix}
-use Rattle.dy_shares.specs.declared.entries.Done.{Done}
-use Rattle.dy_shares.specs.declared.entries.Entry.{Entry}
+use Rattle.std.proofs.Common.{◌≡◌, ℕ, ◌+◌, max, List, [], ◌∷◌, ◌++◌, Some, length, length-append, arith, rules, sym, ap, ◌∙◌, subst}
 use Rattle.dy_shares.specs.Shares.{Account, AckTold, SessionPart, SessionStays, told_to, with_ack, with_entries}
 use Rattle.dy_shares.specs.Parts.{Held, IsSessionShare, done_acks, entries_of, numbered}
 use Rattle.dy_shares.proofs.Fronts.{prefix_length}

@@ -1,5 +1,5 @@
-use Rattle.std.proofs.Common.{◌≡◌, ℕ, List, ◌+◌, ◌<◌, ◌++◌, slice_set, length, rules, sym, ap, ◌∙◌, subst, arith}
-use Rattle.dy_core.specs.Worlds.{layout_of, empty_world}
+use Rattle.std.proofs.Common.{◌≡◌, List, ◌+◌, ◌<◌, ◌++◌, slice_set, length, rules, sym, ap, subst, arith}
+use Rattle.dy_core.specs.Worlds.{layout_of}
 use Rattle.dy_core.specs.Logs.{IsLegalFrom, world_after}
 use Rattle.dy_core.specs.declared.steps.Step.{Step}
 use Rattle.dy_shares.specs.declared.entries.Entry.{Entry}

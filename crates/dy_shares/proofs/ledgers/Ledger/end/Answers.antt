@@ -1,4 +1,4 @@
-use Rattle.std.proofs.Common.{ℕ, ◌<◌, sym, ap, subst, ◌∙◌}
+use Rattle.std.proofs.Common.{ℕ, ◌<◌, subst}
 use Rattle.std.specs.List.{All}
 use Rattle.dy_core.specs.Worlds.{layout_of}
 use Rattle.dy_shares.specs.Parts.{AgreesAsSession}

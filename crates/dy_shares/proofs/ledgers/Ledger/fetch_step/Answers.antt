@@ -1,4 +1,4 @@
-use Rattle.std.proofs.Common.{◌≡◌, List, [], ◌∷◌, ◌++◌, Option, None, rules, sym, ap, subst}
+use Rattle.std.proofs.Common.{◌≡◌, List, [], ◌∷◌, ◌++◌, None, rules, sym, subst}
 use Rattle.dy_core.specs.Worlds.{layout_of}
 use Rattle.dy_core.specs.Logs.{world_after}
 use Rattle.dy_core.specs.declared.steps.Step.{Step}

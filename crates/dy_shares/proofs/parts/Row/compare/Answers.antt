@@ -1,7 +1,6 @@
 use Rattle.std.proofs.Common.{◌≡◌, [], refl, sym, ap, ◌∙◌, subst}
 use mathlib.Core.Option.{none}
 use Rattle.atomic_table.specs.Table.{Me, Allows, step}
-use Rattle.dy_shares.specs.declared.entries.Done.{Done}
 use Rattle.dy_shares.specs.declared.parts.View.{View}
 use Rattle.dy_shares.specs.Agreeing.{knower_with, holding, part_of, Compares}
 use Rattle.dy_shares.proofs.Seats.{Rule, takes_in_as, gives_out_as, compares_as, taken}

@@ -1,7 +1,7 @@
 use Rattle.std.proofs.Common.{◌≡◌, refl, subst}
 use mathlib.Core.Option.{some}
 use lib.ListN.{get_elem?}
-use Rattle.dy_shares.specs.Parts.{AgreesAsSession, done_acks}
+use Rattle.dy_shares.specs.Parts.{AgreesAsSession}
 use Rattle.dy_shares.proofs.Later.{gets_later}
 use Rattle.dy_shares.proofs.session_shares.SessionShare.end.Goals as goal
 

@@ -1,4 +1,4 @@
-use Rattle.std.proofs.Common.{ap, subst}
+use Rattle.std.proofs.Common.{subst}
 use Rattle.std.specs.List.{All}
 use Rattle.dy_shares.specs.Shares.{GetMatches, steps_of}
 use Rattle.dy_shares.proofs.session_shares.SessionShare.front.Goals as goal
