@@ -1,3 +1,4 @@
 pub mod CounterLemmas
+pub mod DotLemmas
 pub mod Maps
 pub mod RowLemmas

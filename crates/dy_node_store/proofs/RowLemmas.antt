@@ -55,7 +55,7 @@ pub with_versions_filled : (rows : Rows) (key : List ℕ) (vs : List VersionPart
 with_versions_filled rows key [] filled = absurd (omega (arith, filled))
 with_versions_filled rows key (v ∷ vs) filled = refl
 
--- and no versions take the key's row out
-pub with_versions_empty : (rows : Rows) (key : List ℕ) (vs : List VersionParts) → length vs ≡ 0 → with_versions rows key vs ≡ maps.remove rows key
-with_versions_empty rows key [] empty = refl
-with_versions_empty rows key (v ∷ vs) empty = absurd (omega (arith, empty))
+-- a row whose test of emptiness fails has a version
+pub has_version : (empty : Bool) (vs : List VersionParts) → (vs ≡ [] → empty ≡ true) → empty ≡ false → 0 < length vs
+has_version empty [] told not_empty = let both : true ≡ false = sym (told refl) ∙ not_empty in cc
+has_version empty (v ∷ vs) told not_empty = omega arith

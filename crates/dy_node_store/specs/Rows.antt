@@ -1,9 +1,11 @@
 -- Rows by key.
-use Rattle.std.specs.Prelude.{◌≡◌, ℕ, ◌<◌, List, [], ◌∷◌, length, Option, Some, None, IfSome}
+use Rattle.std.specs.Prelude.{◌≡◌, ℕ, ◌<◌, not, List, [], ◌∷◌, length, Option, Some, None}
 use Rattle.std.specs.Ordering.{nat_cmp}
 use Rattle.std.specs.Cmp.Lexicographic.{slice_cmp}
 use Rattle.std.specs.Coded.{Coded, coded_ℕ, coded_list}
 use Rattle.std.specs.FinMap as map
+use Rattle.std.specs.List.{filter, list_any}
+use Rattle.dy_dots.specs.Dots.{DotNumbers, same_dot}
 use Rattle.dy_siblings.specs.Siblings.{Siblings, siblings_code}
 use Rattle.dy_siblings.specs.Versions.{VersionParts}
 
@@ -27,6 +29,10 @@ versions_of rows key = versions_in (map.get rows key)
 abbrev pub with_versions : Rows → List ℕ → List VersionParts → Rows
 with_versions rows key [] = map.remove rows key
 with_versions rows key (v ∷ vs) = map.insert rows key (record { key = key; versions = v ∷ vs })
+
+-- the versions but those of these dots
+abbrev pub without_dots : List VersionParts → List DotNumbers → List VersionParts
+without_dots vs dots = filter (λ v. not (list_any (λ d. same_dot v.dot d) dots)) vs
 
 -- the row is one of this key, and has a version
 abbrev pub IsRowOf : List ℕ → Siblings → Type 0

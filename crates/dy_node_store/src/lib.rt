@@ -3,6 +3,8 @@
 
 mod row_maps;
 mod stores;
+#[cfg(test)]
+mod tests;
 
 pub use row_maps::RowMap;
 pub use stores::NodeStore;

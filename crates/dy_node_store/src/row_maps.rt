@@ -1,7 +1,7 @@
 ghost use Rattle.std.specs.Prelude.{◌≡◌, ◌<◌, None, Some, length, map, IsSome, IfSome, IfOk, OnOk, OnErr, IsOkUnless};
 ghost use Rattle.std.specs.Option.{option_copied};
 ghost use Rattle.std.specs.FinMap as maps;
-ghost use Rattle.dy_node_store.specs.Rows.{with_versions, versions_of, IsRowOf};
+ghost use Rattle.dy_node_store.specs.Rows.{with_versions, versions_of, without_dots, IsRowOf};
 
 use dy_dots::{Dot, Fault};
 use dy_siblings::{Key, Row};
@@ -57,7 +57,7 @@ impl RowMap {
         ensures filled { OnErr result (0 < length row.versions) }
         ensures memory { IsOkUnless result Fault.OutOfMemory }
     {
-        if row.versions().is_empty() {
+        if row.is_empty() {
             self.rows.remove(row.key());
             return Ok(());
         }
@@ -95,6 +95,20 @@ impl RowMap {
         self.rows.remove(key)
     }
 
+    /// Drops the versions of these dots from the key's row, where there are any. Takes no memory.
+    pub fn remove_dots(&mut self, key: &Key, dots: &[Dot])
+        ensures { self.new ≡ with_versions self.old key.now (without_dots (versions_of self.old key.now) dots.now) }
+    {
+        let Some(row) = self.rows.get_mut(key) else {
+            return;
+        };
+        drop_dots(row, dots);
+        if !row.is_empty() {
+            return;
+        }
+        self.rows.remove(key);
+    }
+
     /// The rows, in the order of their keys' bytes.
     pub fn list(&self, alloc: Global) -> Result<Vec<&Row>, Fault>
         ensures value { IfOk result (λ rows. map (λ row. row.now) rows.items ≡ maps.values self.now) }
@@ -105,5 +119,14 @@ impl RowMap {
             rows.push(row)?;
         }
         Ok(rows)
+    }
+}
+
+fn drop_dots(row: &mut Row, dots: &[Dot])
+    ensures key { row.new.key ≡ row.old.key }
+    ensures versions { row.new.versions ≡ without_dots row.old.versions dots.now }
+{
+    for dot in dots {
+        row.remove(*dot);
     }
 }

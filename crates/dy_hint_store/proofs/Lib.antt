@@ -1,0 +1,2 @@
+pub mod HomeLemmas
+pub mod Listing

@@ -1,0 +1,35 @@
+use Rattle.std.proofs.Common.{◌≡◌, ◌≤◌, ◌<◌, ◌∷◌, ◌+◌, ◌++◌, length, map, drop, sym, ap, ◌∙◌, arith}
+use Rattle.std.specs.FinMap as maps
+use Rattle.std.proofs.lemmas.List.{drop_more, drop_all, append-nil}
+use Rattle.dy_hint_store.specs.Hints.{home_and_row, shown}
+use Rattle.dy_hint_store.specs.Homes.{entries_from}
+use Rattle.dy_hint_store.proofs.Listing.{entries_of_hints, shown_before}
+use Rattle.dy_hint_store.proofs.stores.HintStore.list.Goals as goal
+
+-- all are to come, in the order of the hints
+pub loop-number-init : goal.loop-number-init
+loop-number-init c =
+    ap (λ hints. map shown hints ++ map home_and_row (entries_from 0 (drop 0 c.self.inside.homes.items))) c.new-hints.ensures.items
+    ∙ ap (map home_and_row) (sym (entries_of_hints c.self.inside.homes.items) ∙ ap maps.entries c.self.view_is)
+
+-- those of this home come next
+pub loop-number-preserved : goal.loop-number-preserved
+loop-number-preserved c =
+    let homes = c.self.inside.homes.items in
+    let inside : c.loop-number.number < length homes = omega (arith, c.loop-number-test.true, c.len-number-end.ensures, c.self.inside.homes.ok.0) in
+    let first_is = drop_more homes c.loop-number.number c.index.result.now inside ∙ ap (λ rows. rows ∷ drop (c.loop-number.number + 1) homes) (sym c.index.ensures) in
+    let rows_are = ap (map (λ row. row.now)) c.as_slice.ensures.value ∙ c.in_ok-rows.ensures.value in
+    let to_come = map home_and_row (entries_from (c.loop-number.number + 1) (drop (c.loop-number.number + 1) homes)) in
+    ap (λ hints. hints ++ to_come) c.in_ok-add_hints.ensures.ok
+    ∙ ap (λ home. (map shown c.loop-number.hints.items ++ map (λ row. shown (home, row)) c.as_slice.result.now) ++ to_come) c.nth.ensures
+    ∙ shown_before homes c.loop-number.number c.index.result.now c.as_slice.result.now _ first_is rows_are
+    ∙ c.loop-number.invariant
+
+-- none are to come
+pub returns-clause-value : goal.returns-clause-value
+returns-clause-value c =
+    let homes = c.self.inside.homes.items in
+    let past : length homes ≤ c.loop-number.number = omega (arith, c.loop-number-test.false, c.len-number-end.ensures, c.self.inside.homes.ok.0) in
+    sym (append-nil (map shown c.loop-number.hints.items))
+    ∙ ap (λ left. map shown c.loop-number.hints.items ++ map home_and_row (entries_from c.loop-number.number left)) (sym (drop_all c.loop-number.number homes past))
+    ∙ c.loop-number.invariant

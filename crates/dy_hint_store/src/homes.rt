@@ -1,0 +1,42 @@
+ghost use Rattle.std.specs.Prelude.{◌≡◌, ◌<◌, ◌≤◌, ◌++◌, length, map, OnOk, OnErr, IsOkUnless};
+ghost use Rattle.dy_hint_store.specs.Hints.{shown};
+ghost use Rattle.dy_hint_store.specs.Homes.{HaveSameRows};
+
+use dy_dots::{Fault, NodeId};
+use dy_node_store::RowMap;
+use dy_siblings::Row;
+use std::alloc::Global;
+
+// Makes maps with no rows, until there is one for the home.
+pub(crate) fn make_room(alloc: Global, homes: &mut Vec<RowMap>, home: usize) -> Result<(), Fault>
+    requires home { home < 32 }
+    requires few { length homes.old.items ≤ 32 }
+    ensures room { OnOk result (home < length homes.new.items) }
+    ensures short { OnErr result (length homes.old.items ≤ home) }
+    ensures same { HaveSameRows homes.new.items homes.old.items }
+    ensures few { length homes.new.items ≤ 32 }
+    ensures memory { IsOkUnless result Fault.OutOfMemory }
+{
+    while homes.len() <= home {
+        homes.push(RowMap::new(alloc))?;
+    }
+    Ok(())
+}
+
+// Lists the rows as hints for the home.
+pub(crate) fn add_hints<'a>(
+    hints: &mut Vec<(NodeId, &'a Row)>,
+    home: NodeId,
+    rows: &[&'a Row],
+) -> Result<(), Fault>
+    ensures ok { OnOk result
+        (map shown hints.new.items ≡ map shown hints.old.items ++ map (λ row. shown (home, row)) rows.now) }
+    ensures memory { IsOkUnless result Fault.OutOfMemory }
+{
+    for row in rows {
+        if hints.push((home, *row)).is_err() {
+            return Err(Fault::OutOfMemory);
+        }
+    }
+    Ok(())
+}
