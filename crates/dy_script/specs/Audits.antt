@@ -1,14 +1,15 @@
 -- The lines of the audit, and of the ring.
 use Rattle.std.specs.Prelude.{ℕ, List, ◌++◌, codes, decimal, Option, Some, None}
-use Rattle.dy_dots.specs.Dots.{dot_text}
+use Rattle.dy_dots.specs.Dots.{DotSet, dot_text}
+use Rattle.dy_dots.specs.Spelling.{context_text}
 use Rattle.dy_dots.specs.declared.dots.Dot.{Dot}
 use Rattle.dy_script.specs.Texts.{hex_text, position_text, nodes_text}
 use Rattle.dy_script.specs.Places.{place_text, places_text}
 use Rattle.dy_core.specs.declared.places.Place.{Place}
 
--- a place, a key and a context text
-abbrev pub held_text : Place → List ℕ → List ℕ → List ℕ
-held_text place key dots = codes "held " ++ place_text place ++ codes " " ++ hex_text key ++ codes " " ++ dots
+-- a place, a key, and the text of the dots held there
+abbrev pub held_text : Place → List ℕ → DotSet → List ℕ
+held_text place key dots = codes "held " ++ place_text place ++ codes " " ++ hex_text key ++ codes " " ++ context_text dots
 
 -- the number of homes that a put named, where it is told
 abbrev pub own_w_text : Option ℕ → List ℕ

@@ -1,7 +1,8 @@
 -- The lines that tell what came of commands.
-use Rattle.std.specs.Prelude.{ℕ, List, [], ◌∷◌, ◌++◌, codes, decimal, string_bytes, Option, Some, None, option_map, is_some, Bool, if◌then◌else◌}
+use Rattle.std.specs.Prelude.{ℕ, List, [], ◌∷◌, ◌++◌, codes, decimal, Option, Some, None, option_map, is_some, Bool, if◌then◌else◌}
 use Rattle.std.specs.List.{flat_map, list_any}
 use Rattle.dy_dots.specs.Dots.{dot_text}
+use Rattle.dy_dots.specs.Spelling.{context_text}
 use Rattle.dy_dots.specs.declared.dots.Dot.{Dot}
 use Rattle.dy_siblings.specs.declared.versions.Version.{Version}
 use Rattle.dy_script.specs.Texts.{hex_text}
@@ -40,7 +41,7 @@ abbrev pub outcome_text : Outcome → Option (List ℕ)
 outcome_text (Stored word dot places) =
     Some (word_text word ++ codes " ok " ++ dot_text dot ++ codes " answers" ++ stored_text places.items)
 outcome_text (Read context «from» row) =
-    Some (codes "get ok context " ++ string_bytes context ++ codes " from" ++ places_text «from».items ++ codes " values" ++ values_text row.versions)
+    Some (codes "get ok context " ++ context_text context ++ codes " from" ++ places_text «from».items ++ codes " values" ++ values_text row.versions)
 outcome_text (Refused word fault) = None
 
 -- the command's number, a blank, and what came of it

@@ -1,8 +1,9 @@
 use crate::places::{At, Places};
 use crate::printed::Hex;
-use dy_core::Place;
-use dy_dots::Dot;
+use dy_core::{Acked, Holding, Place, World};
+use dy_dots::{Context, Dot, Fault};
 use dy_siblings::Key;
+use std::alloc::Global;
 use std::fmt;
 
 /// The line of what a place holds of a key: the dots of the versions, as a context text.
@@ -10,14 +11,27 @@ use std::fmt;
 pub struct HeldLine<'a> {
     pub place: Place,
     pub key: &'a Key,
-    pub dots: String,
+    pub dots: Context,
+}
+
+impl<'a> HeldLine<'a> {
+    /// The line of the holding.
+    pub(crate) fn of(alloc: Global, holding: &'a Holding) -> Result<HeldLine<'a>, Fault> {
+        let dots = holding.row.dots(alloc)?;
+        let place = Place {
+            home: holding.home,
+            holder: holding.holder,
+        };
+        let key = holding.row.key();
+        Ok(HeldLine { place, key, dots })
+    }
 }
 
 impl fmt::Display for HeldLine<'_> {
-    ghost use Rattle.std.specs.Prelude.{Some, string_bytes};
+    ghost use Rattle.std.specs.Prelude.{Some};
     ghost use Rattle.dy_script.specs.Audits.{held_text};
 
-    ghost output = { λ line. Some (held_text line.place line.key.now (string_bytes line.dots)) };
+    ghost output = { λ line. Some (held_text line.place line.key.now line.dots) };
 
     fn fmt<W: fmt::Write>(&self, f: &mut fmt::Formatter<W>) -> fmt::Result {
         let key = Hex(self.key.as_bytes());
@@ -33,6 +47,25 @@ pub struct AckedLine<'a> {
     pub dot: Dot,
     pub own_w: Option<u8>,
     pub places: Vec<Place>,
+}
+
+impl<'a> AckedLine<'a> {
+    /// The line of the ack, in a world whose puts name w homes where they name no number themselves.
+    pub(crate) fn of(
+        alloc: Global,
+        world: &World,
+        w: u8,
+        ack: &'a Acked,
+    ) -> Result<AckedLine<'a>, Fault> {
+        let places = world.covers(alloc, &ack.key, ack.dot)?;
+        let own_w = if ack.w == w { None } else { Some(ack.w) };
+        Ok(AckedLine {
+            key: &ack.key,
+            dot: ack.dot,
+            own_w,
+            places,
+        })
+    }
 }
 
 impl fmt::Display for AckedLine<'_> {

@@ -5,7 +5,7 @@ ghost use Rattle.dy_script.specs.Outcomes.{is_present};
 use crate::places::{Places, StoredAt};
 use crate::printed::Hex;
 use dy_core::Place;
-use dy_dots::{Dot, Fault};
+use dy_dots::{Context, Dot, Fault};
 use dy_siblings::{Row, Version};
 use std::fmt;
 
@@ -84,9 +84,9 @@ pub enum Outcome {
         dot: Dot,
         places: Vec<Place>,
     },
-    /// A get was answered: the text of the context, whose rows were used, and the merged row.
+    /// A get was answered: its context, whose rows were used, and the merged row.
     Read {
-        context: String,
+        context: Context,
         from: Vec<Place>,
         row: Row,
     },

@@ -1,0 +1,55 @@
+ghost use Rattle.std.specs.Prelude.{◌≤◌};
+
+use crate::jobs::Job;
+use dy_dots::Fault;
+use dy_script::{Stopped, read, write_ring, write_run};
+use std::alloc::Global;
+use std::io::{Read, Write};
+
+/// Reads the script from the input, does the job, and gives the status: 0 where it was done, 1 where
+/// memory or the output failed, 2 where the script, its ring, a limit or its quorum is refused. A
+/// refusal is one line on `err`.
+pub fn perform<R: Read, W: Write, E: Write>(
+    alloc: Global,
+    job: &Job,
+    input: &mut R,
+    out: &mut W,
+    err: &mut E,
+) -> u8
+    ensures { result ≤ 2 }
+{
+    let mut bytes = Vec::new(alloc);
+    if let Err(error) = input.read_to_end(&mut bytes) {
+        let _ = writeln!(err, "dynamo: {}: {error}", job.file());
+        return 2;
+    }
+    match write_job(alloc, job, bytes.as_slice(), out) {
+        Ok(()) => 0,
+        Err(stopped) => {
+            let _ = writeln!(err, "dynamo: {stopped}");
+            status_of(&stopped)
+        }
+    }
+}
+
+/// Writes what the job is asked to write.
+fn write_job<W: Write>(alloc: Global, job: &Job, bytes: &[u8], out: &mut W) -> Result<(), Stopped> {
+    let script = read(alloc, bytes)?;
+    match job {
+        Job::Run(_) => write_run(alloc, &script, out)?,
+        Job::Ring(_) => write_ring(alloc, &script, out)?,
+    }
+    out.flush()?;
+    Ok(())
+}
+
+/// The status that a job ends with where it stopped early.
+fn status_of(stopped: &Stopped) -> u8
+    ensures { result ≤ 2 }
+{
+    match stopped {
+        Stopped::Refused(Fault::OutOfMemory) | Stopped::Refused(Fault::SharesMissing) => 1,
+        Stopped::Refused(_) => 2,
+        Stopped::Output(_) => 1,
+    }
+}

@@ -1,0 +1,20 @@
+use dy_dots::Fault;
+use std::io;
+use thiserror::Error;
+
+/// Why a run, or the printing of a ring, ended before its last line.
+#[derive(Debug, Drop, Error)]
+pub enum Stopped {
+    /// The script, its ring, a limit or its quorum was refused, or memory ran out.
+    #[error("{0}")]
+    Refused(Fault),
+    /// The output could not be written.
+    #[error("{0}")]
+    Output(#[from] io::Error),
+}
+
+impl From<Fault> for Stopped {
+    fn from(fault: Fault) -> Stopped {
+        Stopped::Refused(fault)
+    }
+}
