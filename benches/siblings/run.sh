@@ -11,7 +11,7 @@ for crate in dy_dots dy_siblings; do
     cp -r "$top/crates/$crate" "$folder/crates/"
 done
 mkdir -p "$folder/crates/bench_siblings/src"
-cp "$here/main.rt" "$folder/crates/bench_siblings/src/main.rt"
+cp "$here/main.rt.txt" "$folder/crates/bench_siblings/src/main.rt"
 cat > "$folder/crates.txt" <<'LINES'
 dy_dots: thiserror
 dy_siblings: dy_dots

@@ -16,9 +16,9 @@ for crate in $needed; do
 done
 echo "refused: $needed" >> "$work/crates.txt"
 failed=0
-[ $# -gt 0 ] || set -- $(cd "$here" && ls *.rt | sed 's/\.rt$//')
+[ $# -gt 0 ] || set -- $(cd "$here" && ls *.rt.txt | sed 's/\.rt\.txt$//')
 for name in "$@"; do
-    program=$here/$name.rt
+    program=$here/$name.rt.txt
     cp "$program" "$work/crates/refused/src/lib.rt"
     (cd "$work/crates/refused" && rt check > "$work/said" 2>&1)
     if grep -q '^// taken' "$program"; then
