@@ -13,9 +13,9 @@ use Rattle.dy_core.specs.Logs.{world_from, world_after, IsLegalFrom, IsLegal}
 use Rattle.dy_core.specs.declared.steps.Step.{Step}
 use Rattle.dy_core.specs.declared.steps.Step.TheVariants.{Issue, Hold, Release, Fetch, Ack}
 use Rattle.dy_core.proofs.Members.{any_gives, any_from, filter_from, in_tail}
-use Rattle.dy_core.proofs.Tests.{same_dot_is}
+use Rattle.dy_core.proofs.Sameness.{same_dot_is}
 use Rattle.dy_core.proofs.Ordered.{same_version}
-use Rattle.dy_core.proofs.Places.{stands_from, stands_in, place_is}
+use Rattle.dy_core.proofs.Standing.{stands_from, stands_in, place_is}
 use Rattle.dy_core.proofs.Merging.{newest_same}
 use Rattle.dy_core.proofs.Kept.{IsSound, empty_sound, step_sound}
 use Rattle.dy_shares.specs.Shares.{names, node_of, node_part, shown_after_step, shown_from, BelongsTo, NodePart}
