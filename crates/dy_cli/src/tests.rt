@@ -12,21 +12,21 @@ use std::test::Fail;
 
 /// What a run of the program wrote, and the status that it ended with.
 #[derive(Debug, Drop)]
-struct Told {
+struct Printout {
     status: u8,
     out: String,
     err: String,
 }
 
 /// Runs the program with this word and a file that has this script.
-fn told(alloc: Global, word: &str, script: &str) -> Result<Told, Fail> {
+fn told(alloc: Global, word: &str, script: &str) -> Result<Printout, Fail> {
     let mut line = Vec::new(alloc);
     line.push(String::from_str(alloc, word)?)?;
     line.push(String::from_str(alloc, "script.json")?)?;
     let job = match words(alloc, line.as_slice()) {
         Ok(job) => job,
         Err(status) => {
-            return Ok(Told {
+            return Ok(Printout {
                 status,
                 out: String::new(alloc),
                 err: String::new(alloc),
@@ -37,7 +37,7 @@ fn told(alloc: Global, word: &str, script: &str) -> Result<Told, Fail> {
     let mut out = Vec::new(alloc);
     let mut err = Vec::new(alloc);
     let status = perform(alloc, &job, &mut input, &mut out, &mut err);
-    Ok(Told {
+    Ok(Printout {
         status,
         out: text_of(alloc, out.as_slice())?,
         err: text_of(alloc, err.as_slice())?,
