@@ -1,4 +1,0 @@
-pub mod Growth
-pub mod Agreeing
-pub mod Parts
-pub mod Shares
