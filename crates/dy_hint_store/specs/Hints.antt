@@ -29,7 +29,8 @@ versions_for hints home key = versions_in (maps.get hints (home, key))
 -- no hint of the key for the home
 abbrev pub with_versions_for : Hints → ℕ → List ℕ → List VersionParts → Hints
 with_versions_for hints home key [] = maps.remove hints (home, key)
-with_versions_for hints home key (v ∷ vs) = maps.insert hints (home, key) (record { key = key; versions = v ∷ vs })
+with_versions_for hints home key (v ∷ vs) =
+    maps.insert hints (home, key) (record { key = key; versions = v ∷ vs })
 
 -- a hint as it is listed: its home and its row
 abbrev pub home_and_row : (ℕ × List ℕ) × Siblings → ℕ × Siblings

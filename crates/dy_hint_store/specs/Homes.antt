@@ -15,7 +15,8 @@ entries_for home entries = map (λ e. ((home, e.0), e.1)) entries
 -- the entries of the maps, of which the first is this home's
 abbrev pub entries_from : ℕ → List Rows → List ((ℕ × List ℕ) × Siblings)
 entries_from home [] = []
-entries_from home (rows ∷ later) = entries_for home (maps.entries rows) ++ entries_from (suc home) later
+entries_from home (rows ∷ later) =
+    entries_for home (maps.entries rows) ++ entries_from (suc home) later
 
 -- the two have the same rows for each home
 abbrev pub HaveSameRows : List Rows → List Rows → Type 0

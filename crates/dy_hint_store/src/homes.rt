@@ -30,7 +30,8 @@ pub(crate) fn add_hints<'a>(
     rows: &[&'a Row],
 ) -> Result<(), Fault>
     ensures ok { OnOk result
-        (map shown hints.new.items ≡ map shown hints.old.items ++ map (λ row. shown (home, row)) rows.now) }
+        (map shown hints.new.items ≡
+        map shown hints.old.items ++ map (λ row. shown (home, row)) rows.now) }
     ensures memory { IsOkUnless result Fault.OutOfMemory }
 {
     for row in rows {

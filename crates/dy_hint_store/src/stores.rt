@@ -1,4 +1,5 @@
-ghost use Rattle.std.specs.Prelude.{◌≡◌, ◌<◌, None, Some, length, map, IsSome, IfSome, IfOk, OnOk, OnErr, IsOkUnless};
+ghost use Rattle.std.specs.Prelude.{◌≡◌, ◌<◌, None, Some, length, map, IsSome, IfSome, IfOk, OnOk};
+ghost use Rattle.std.specs.Prelude.{OnErr, IsOkUnless};
 ghost use Rattle.std.specs.Option.{option_copied};
 ghost use Rattle.std.specs.FinMap as maps;
 ghost use Rattle.dy_node_store.specs.Rows.{without_dots, IsRowOf};
@@ -11,8 +12,8 @@ use dy_siblings::{Key, Row};
 use std::alloc::Global;
 use std::marker::Model;
 
-/// The rows that a node holds for other nodes, by home and key. A row that has no version is none: it
-/// is not kept.
+/// The rows that a node holds for other nodes, by home and key. A row that has no version is none:
+/// it is not kept.
 #[derive(Drop)]
 pub struct HintStore {
     alloc: Global,
@@ -96,10 +97,12 @@ impl HintStore {
         self.homes[at].remove_row(key)
     }
 
-    /// Drops the versions of these dots from the key's row for the home, where there are any. Takes no
-    /// memory.
+    /// Drops the versions of these dots from the key's row for the home, where there are any. Takes
+    /// no memory.
     pub fn remove_dots(&mut self, home: NodeId, key: &Key, dots: &[Dot])
-        ensures { self.new ≡ with_versions_for self.old home key.now (without_dots (versions_for self.old home key.now) dots.now) }
+        ensures { self.new ≡
+            with_versions_for self.old home key.now
+            (without_dots (versions_for self.old home key.now) dots.now) }
     {
         let at = home.number() as usize;
         if self.homes.len() <= at {
@@ -108,9 +111,11 @@ impl HintStore {
         self.homes[at].remove_dots(key, dots);
     }
 
-    /// The rows with their homes, in the order of the homes' numbers, and of their keys' bytes for each.
+    /// The rows with their homes, in the order of the homes' numbers, and of their keys' bytes for
+    /// each.
     pub fn list(&self, alloc: Global) -> Result<Vec<(NodeId, &Row)>, Fault>
-        ensures value { IfOk result (λ hints. map shown hints.items ≡ map home_and_row (maps.entries self.now)) }
+        ensures value { IfOk result
+            (λ hints. map shown hints.items ≡ map home_and_row (maps.entries self.now)) }
         ensures memory { IsOkUnless result Fault.OutOfMemory }
     {
         let mut hints = Vec::new(alloc);

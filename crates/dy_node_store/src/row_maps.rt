@@ -1,4 +1,5 @@
-ghost use Rattle.std.specs.Prelude.{◌≡◌, ◌<◌, None, Some, length, map, IsSome, IfSome, IfOk, OnOk, OnErr, IsOkUnless};
+ghost use Rattle.std.specs.Prelude.{◌≡◌, ◌<◌, None, Some, length, map, IsSome, IfSome, IfOk, OnOk};
+ghost use Rattle.std.specs.Prelude.{OnErr, IsOkUnless};
 ghost use Rattle.std.specs.Option.{option_copied};
 ghost use Rattle.std.specs.FinMap as maps;
 ghost use Rattle.dy_node_store.specs.Rows.{with_versions, versions_of, without_dots, IsRowOf};
@@ -97,7 +98,8 @@ impl RowMap {
 
     /// Drops the versions of these dots from the key's row, where there are any. Takes no memory.
     pub fn remove_dots(&mut self, key: &Key, dots: &[Dot])
-        ensures { self.new ≡ with_versions self.old key.now (without_dots (versions_of self.old key.now) dots.now) }
+        ensures { self.new ≡
+            with_versions self.old key.now (without_dots (versions_of self.old key.now) dots.now) }
     {
         let Some(row) = self.rows.get_mut(key) else {
             return;
@@ -111,7 +113,8 @@ impl RowMap {
 
     /// The rows, in the order of their keys' bytes.
     pub fn list(&self, alloc: Global) -> Result<Vec<&Row>, Fault>
-        ensures value { IfOk result (λ rows. map (λ row. row.now) rows.items ≡ maps.values self.now) }
+        ensures value { IfOk result
+            (λ rows. map (λ row. row.now) rows.items ≡ maps.values self.now) }
         ensures memory { IsOkUnless result Fault.OutOfMemory }
     {
         let mut rows = Vec::with_capacity(alloc, self.rows.len())?;

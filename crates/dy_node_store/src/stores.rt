@@ -1,4 +1,5 @@
-ghost use Rattle.std.specs.Prelude.{◌≡◌, ◌<◌, ◌≤◌, ◌+◌, ℕ, List, None, Some, length, map, IsSome, IfSome, IfOk, IfErr, OnOk, OnErr, IsOkUnless};
+ghost use Rattle.std.specs.Prelude.{◌≡◌, ◌<◌, ◌≤◌, ◌+◌, ℕ, List, None, Some, length, map, IsSome};
+ghost use Rattle.std.specs.Prelude.{IfSome, IfOk, IfErr, OnOk, OnErr, IsOkUnless};
 ghost use Rattle.std.specs.Option.{option_copied};
 ghost use Rattle.std.specs.Result.{OkIff};
 ghost use Rattle.std.specs.FinMap as maps;
@@ -29,7 +30,8 @@ impl Model for NodeStore {
 
     ghost coded = { kept_code };
 
-    ghost view = { λ store. record { rows = store.rows; counters = maps.from_entries store.counters.entries } };
+    ghost view = { λ store.
+        record { rows = store.rows; counters = maps.from_entries store.counters.entries } };
 }
 
 impl NodeStore {
@@ -54,7 +56,8 @@ impl NodeStore {
 
     /// Puts the row in the place of its key's. Takes memory only where the key had none.
     pub fn put_row(&mut self, row: Row) -> Result<(), Fault>
-        ensures ok { OnOk result (self.new ≡ record self.old { rows = with_versions self.old.rows row.key row.versions }) }
+        ensures ok { OnOk result (self.new ≡
+            record self.old { rows = with_versions self.old.rows row.key row.versions }) }
         ensures err { OnErr result (self.new ≡ self.old) }
         ensures absent { OnErr result (maps.get self.old.rows row.key ≡ None) }
         ensures filled { OnErr result (0 < length row.versions) }
@@ -68,7 +71,8 @@ impl NodeStore {
         requires present { IsSome (maps.get self.old.rows row.key) }
         requires filled { 0 < length row.versions }
         ensures value { maps.get self.old.rows row.key ≡ Some result }
-        ensures rows { self.new ≡ record self.old { rows = with_versions self.old.rows row.key row.versions } }
+        ensures rows { self.new ≡
+            record self.old { rows = with_versions self.old.rows row.key row.versions } }
     {
         self.rows.replace_row(row)
     }
@@ -83,7 +87,8 @@ impl NodeStore {
 
     /// The rows, in the order of their keys' bytes.
     pub fn list(&self, alloc: Global) -> Result<Vec<&Row>, Fault>
-        ensures value { IfOk result (λ rows. map (λ row. row.now) rows.items ≡ maps.values self.now.rows) }
+        ensures value { IfOk result
+            (λ rows. map (λ row. row.now) rows.items ≡ maps.values self.now.rows) }
         ensures memory { IsOkUnless result Fault.OutOfMemory }
     {
         self.rows.list(alloc)
@@ -103,13 +108,15 @@ impl NodeStore {
         }
     }
 
-    /// Uses the counter. Takes memory only at the key's first, so that to use 0 makes room for those
-    /// that follow.
+    /// Uses the counter. Takes memory only at the key's first, so that to use 0 makes room for
+    /// those that follow.
     pub fn use_counter(&mut self, key: &Key, counter: u32) -> Result<(), Fault>
-        ensures ok { OnOk result (self.new ≡ record self.old { counters = with_used self.old.counters key.now counter }) }
+        ensures ok { OnOk result (self.new ≡
+            record self.old { counters = with_used self.old.counters key.now counter }) }
         ensures err { OnErr result (self.new ≡ self.old) }
         ensures used { OnOk result (counter ≤ greatest_used self.new.counters key.now) }
-        ensures not_lower { (q : List ℕ) → greatest_used self.old.counters q ≤ greatest_used self.new.counters q }
+        ensures not_lower { (q : List ℕ) →
+            greatest_used self.old.counters q ≤ greatest_used self.new.counters q }
         ensures absent { OnErr result (maps.get self.old.counters key.now ≡ None) }
         ensures memory { IsOkUnless result Fault.OutOfMemory }
     {
