@@ -15,9 +15,10 @@ covers_at w key d home holder = covers (row_at w holder home key) d
 abbrev pub CoversAt : World → List ℕ → Dot → ℕ → ℕ → Type 0
 CoversAt w key d home holder = IsTrue (covers_at w key d home holder)
 
--- places, each a home with its holder, that cover the dot: so many, with distinct homes and distinct
--- holders (Dynamo, sections 4.5 and 4.6, with each node and each home counted once)
-pub record IsCover (w : World) (key : List ℕ) (d : Dot) (count : ℕ) (places : List Place) : Type 0 where
+-- places, each a home with its holder, that cover the dot: so many, with distinct homes and
+-- distinct holders (Dynamo, sections 4.5 and 4.6, with each node and each home counted once)
+pub record IsCover (w : World) (key : List ℕ) (d : Dot) (count : ℕ) (places : List Place)
+    : Type 0 where
   pub count_is : length places ≡ count
   pub homes_distinct : IsDistinct nat_eq (map (λ p. p.home) places)
   pub holders_distinct : IsDistinct nat_eq (map (λ p. p.holder) places)

@@ -1,5 +1,6 @@
 -- How the lists inside a world mean it.
-use Rattle.std.specs.Prelude.{◌≡◌, ℕ, ◌<◌, ◌≤◌, ◌==◌, Bool, ◌&&◌, ◌||◌, not, true, false, ◌↔◌, max, fold, length, map, nat_eq, if◌then◌else◌, List, [], ◌∷◌}
+use Rattle.std.specs.Prelude.{◌≡◌, ℕ, ◌<◌, ◌≤◌, ◌==◌, Bool, ◌&&◌, ◌||◌, not, true, false, ◌↔◌, max}
+use Rattle.std.specs.Prelude.{fold, length, map, nat_eq, if◌then◌else◌, List, [], ◌∷◌}
 use Rattle.std.specs.List.{list_any, filter, All, Contains, IsDistinct}
 use Rattle.std.specs.List.Sorted.{IsStrictlySortedBy}
 use Rattle.std.specs.FinSet as set
@@ -44,7 +45,8 @@ is_at holder home key h = same_place holder home key h.holder h.home h.row.key
 -- the versions of the holding at the place, none where there is no such holding
 abbrev pub row_in : List Holding → ℕ → ℕ → List ℕ → List Version
 row_in [] holder home key = []
-row_in (h ∷ hs) holder home key = if is_at holder home key h then h.row.versions else row_in hs holder home key
+row_in (h ∷ hs) holder home key =
+    if is_at holder home key h then h.row.versions else row_in hs holder home key
 
 -- the holdings but that at the place
 abbrev pub others : ℕ → ℕ → List ℕ → List Holding → List Holding
@@ -57,24 +59,32 @@ is_nothing (v ∷ vs) = false
 
 -- the holdings with this one in its place, or with none there where it has no version
 abbrev pub kept : List Holding → Holding → List Holding
-kept hs h = if is_nothing h.row.versions then others h.holder h.home h.row.key hs else put holding_cmp hs h
+kept hs h =
+    if is_nothing h.row.versions
+    then others h.holder h.home h.row.key hs
+    else put holding_cmp hs h
 
 -- these lists are the world's
-pub record Meets (w : World) (versions : List Version) (held : List Holding) (acked : List Acked) : Type 0 where
+pub record Meets (w : World) (versions : List Version) (held : List Holding) (acked : List Acked)
+    : Type 0 where
   pub versions_are : IsSameRow versions w.versions
-  pub rows_are : (holder home : ℕ) (key : List ℕ) → IsSameRow (row_in held holder home key) (row_at w holder home key)
+  pub rows_are : (holder home : ℕ) (key : List ℕ) →
+      IsSameRow (row_in held holder home key) (row_at w holder home key)
   pub none_empty : All (λ h. 0 < length h.row.versions) held
   pub held_in_order : IsStrictlySortedBy holding_cmp held
   pub acks_are : (a : Acked) → Contains acked a ↔ Contains w.acks a
   pub acks_in_order : IsStrictlySortedBy ack_cmp acked
 
 -- the steps are a legal log, and the lists are those of the world after it
-pub record IsAfter (layout : Layout) (steps : List Step) (versions : List Version) (held : List Holding) (acked : List Acked) : Type 0 where
+pub record IsAfter (layout : Layout) (steps : List Step) (versions : List Version)
+    (held : List Holding) (acked : List Acked) : Type 0 where
   pub is_legal : IsLegal layout steps
   pub meets : Meets (world_after steps) versions held acked
 
--- a key has some homes, and no more than the ring has nodes, and the lists are those after the steps
-pub record IsInside (ring : Tokens) (n : ℕ) (steps : List Step) (versions : List Version) (held : List Holding) (acked : List Acked) : Type 0 where
+-- a key has some homes, and no more than the ring has nodes, and the lists are those after the
+-- steps
+pub record IsInside (ring : Tokens) (n : ℕ) (steps : List Step) (versions : List Version)
+    (held : List Holding) (acked : List Acked) : Type 0 where
   pub some : 1 ≤ n
   pub enough : n ≤ ring.nodes
   pub after : IsAfter (layout_of ring n) steps versions held acked
@@ -101,7 +111,8 @@ place_of h = record { home = h.home; holder = h.holder }
 
 -- each counter of the run below this one is of a version of the key
 abbrev pub AreIssuedBelow : List Version → List ℕ → Run → ℕ → Type 0
-AreIssuedBelow vs key r n = (c : ℕ) → r.first ≤ c → c < n → is_issued vs key (record { node = r.node; counter = c }) ≡ true
+AreIssuedBelow vs key r n = (c : ℕ) → r.first ≤ c → c < n →
+    is_issued vs key (record { node = r.node; counter = c }) ≡ true
 
 -- the dot is the first of the run that is of no version of the key
 pub record IsFirstUnissued (vs : List Version) (key : List ℕ) (r : Run) (d : Dot) : Type 0 where

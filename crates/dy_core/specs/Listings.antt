@@ -18,7 +18,8 @@ use Rattle.dy_core.specs.declared.holdings.Holding.{Holding}
 pub record ListsHoldings (w : World) (hs : List Holding) : Type 0 where
   pub each : All (λ h. IsSameRow h.row.versions (row_at w h.holder h.home h.row.key)) hs
   pub none_empty : All (λ h. 0 < length h.row.versions) hs
-  pub every : (holder home : ℕ) (key : List ℕ) (v : Version) → Contains (row_at w holder home key) v →
+  pub every : (holder home : ℕ) (key : List ℕ) (v : Version) →
+      Contains (row_at w holder home key) v →
       (h : Holding) × Contains hs h × (h.holder ≡ holder) × (h.home ≡ home) × (h.row.key ≡ key)
   pub in_order : IsStrictlySortedBy holding_cmp hs
 
@@ -34,11 +35,14 @@ pub record ListsCovers (w : World) (key : List ℕ) (d : Dot) (places : List Pla
 
 -- the keys are those of which a version was made and that are settled, each once, by their bytes
 pub record ListsSettled (w : World) (keys : List (List ℕ)) : Type 0 where
-  pub same : (key : List ℕ) → Contains keys key ↔ ((v : Version) × Contains w.versions v × (v.key ≡ key)) × IsSettled w key
+  pub same : (key : List ℕ) → Contains keys key ↔
+      ((v : Version) × Contains w.versions v × (v.key ≡ key)) × IsSettled w key
   pub in_order : IsStrictlySortedBy key_cmp keys
 
 -- the dot is the least of the context that is not of one of these versions of the key
-pub record IsLeastUnknown (vs : List Version) (key : List ℕ) (context : DotSet) (d : Dot) : Type 0 where
+pub record IsLeastUnknown (vs : List Version) (key : List ℕ) (context : DotSet) (d : Dot)
+    : Type 0 where
   pub in_context : IsTrue (set.contains context d)
   pub not_issued : is_issued vs key d ≡ false
-  pub least : (e : Dot) → IsTrue (set.contains context e) → IsDotBefore e d → IsTrue (is_issued vs key e)
+  pub least : (e : Dot) → IsTrue (set.contains context e) → IsDotBefore e d →
+      IsTrue (is_issued vs key e)

@@ -1,5 +1,6 @@
 -- Logs: lists of steps, the worlds after them, and the gets that match them.
-use Rattle.std.specs.Prelude.{◌≡◌, ℕ, ◌<◌, ◌≤◌, IsTrue, ◌-◌, nat_eq, take, Some, slice_get, length, List, [], ◌∷◌, ◌++◌, map, refl}
+use Rattle.std.specs.Prelude.{◌≡◌, ℕ, ◌<◌, ◌≤◌, IsTrue, ◌-◌, nat_eq, take, Some, slice_get, length}
+use Rattle.std.specs.Prelude.{List, [], ◌∷◌, ◌++◌, map, refl}
 use Rattle.std.specs.List.{All, IsDistinct, Contains}
 use Rattle.std.specs.FinSet as set
 use Rattle.std.specs.Coded.{Coded, coded×, coded_ℕ, coded_list, code_by}
@@ -63,7 +64,8 @@ rows_of (a ∷ rest) = a.row ++ rows_of rest
 
 -- a get of a key matches the log: r answers of distinct homes, each of them a fetch of the log with
 -- that row, after the first steps, of which there are `since` (Dynamo, section 4.5)
-pub record MatchesLog (steps : List Step) (key : List ℕ) (r : ℕ) (since : ℕ) (answers : List Answer) : Type 0 where
+pub record MatchesLog (steps : List Step) (key : List ℕ) (r : ℕ) (since : ℕ)
+    (answers : List Answer) : Type 0 where
   pub count_is : length answers ≡ r
   pub each_is : All (IsAnswer steps) answers
   pub each_later : All (λ a. since < a.at) answers
@@ -86,5 +88,8 @@ with_step log s = record log { steps = log.steps ++ s ∷ [] }
 
 abbrev pub log_code : Coded Log
 log_code =
-    code_by (Tokens × (ℕ × List Step)) (coded× tokens_code (coded× coded_ℕ (coded_list step.the_row.coded)))
-    (λ h. (h.ring, (h.n, h.steps))) (λ p. record { ring = p.0; n = p.1.0; steps = p.1.1 }) (λ _. refl)
+    code_by (Tokens × (ℕ × List Step))
+    (coded× tokens_code (coded× coded_ℕ (coded_list step.the_row.coded)))
+    (λ h. (h.ring, (h.n, h.steps)))
+    (λ p. record { ring = p.0; n = p.1.0; steps = p.1.1 })
+    (λ _. refl)

@@ -1,5 +1,6 @@
 -- Steps: when each is allowed, and the world after it.
-use Rattle.std.specs.Prelude.{◌≡◌, ◌≢◌, ℕ, ◌+◌, ◌<◌, ◌≤◌, ◌==◌, Bool, ◌&&◌, not, IsTrue, if◌then◌else◌, Option, List, [], ◌∷◌}
+use Rattle.std.specs.Prelude.{◌≡◌, ◌≢◌, ℕ, ◌+◌, ◌<◌, ◌≤◌, ◌==◌, Bool, ◌&&◌, not, IsTrue}
+use Rattle.std.specs.Prelude.{if◌then◌else◌, Option, List, [], ◌∷◌}
 use Rattle.std.specs.FinSet as set
 use Rattle.dy_dots.specs.Dots.{DotSet, same_dot}
 use Rattle.dy_dots.specs.declared.dots.TheConstants.{MAX_COUNTER}
@@ -35,14 +36,17 @@ version_made w node key context value =
 
 -- each dot of the context is of a version of the key
 abbrev pub IsKnown : World → List ℕ → DotSet → Type 0
-IsKnown w key context = (d : Dot) → IsTrue (set.contains context d) → IsTrue (is_issued w.versions key d)
+IsKnown w key context =
+    (d : Dot) → IsTrue (set.contains context d) → IsTrue (is_issued w.versions key d)
 
 -- a step is allowed: a put names known versions and has a counter left; a row goes only where it
 -- may be held; a stand-in gives up a dot only once the home covers it; a put is acknowledged only
 -- with its cover (Dynamo, sections 4.4 to 4.6)
 abbrev pub IsAllowed : Layout → World → Step → Type 0
-IsAllowed layout w (Issue node key context value) = IsKnown w key context × (w.counters node key < MAX_COUNTER)
-IsAllowed layout w (Hold holder home row) = IsTrue (may_hold (layout.homes row.key) holder home) × AreMadeOf w row.key row.versions
+IsAllowed layout w (Issue node key context value) =
+    IsKnown w key context × (w.counters node key < MAX_COUNTER)
+IsAllowed layout w (Hold holder home row) =
+    IsTrue (may_hold (layout.homes row.key) holder home) × AreMadeOf w row.key row.versions
 IsAllowed layout w (Release holder home key d) =
     (holder ≢ home) × IsTrue (w.holdings holder home key d) × CoversAt w key d home home
 IsAllowed layout w (Fetch holder home key) = Unit {0}
@@ -57,7 +61,8 @@ abbrev pub after_issue : World → Version → World
 after_issue w v =
     record w {
       versions = v ∷ w.versions;
-      counters = λ n k. if (n == v.dot.node) && same_key k v.key then v.dot.counter else w.counters n k;
+      counters = λ n k.
+          if (n == v.dot.node) && same_key k v.key then v.dot.counter else w.counters n k;
     }
 
 -- at the place the row is merged with what was held there (Dynamo, section 4.4)
@@ -73,15 +78,20 @@ after_hold w holder home row =
 -- at the place the one dot is no longer held (Dynamo, section 4.6)
 abbrev pub after_release : World → ℕ → ℕ → List ℕ → Dot → World
 after_release w holder home key e =
-    record w { holdings = λ p o k d. w.holdings p o k d && not (same_place holder home key p o k && same_dot d e) }
+    record w {
+      holdings = λ p o k d.
+          w.holdings p o k d && not (same_place holder home key p o k && same_dot d e);
+    }
 
 -- the world after a step; a fetch changes nothing
 abbrev pub world_after_step : World → Step → World
-world_after_step w (Issue node key context value) = after_issue w (version_made w node key context value)
+world_after_step w (Issue node key context value) =
+    after_issue w (version_made w node key context value)
 world_after_step w (Hold holder home row) = after_hold w holder home row
 world_after_step w (Release holder home key d) = after_release w holder home key d
 world_after_step w (Fetch holder home key) = w
-world_after_step w (Ack key d count) = record w { acks = record { key = key; dot = d; w = count } ∷ w.acks }
+world_after_step w (Ack key d count) =
+    record w { acks = record { key = key; dot = d; w = count } ∷ w.acks }
 
 -- the row that a step answers: a fetch answers the row at its place, and any other step no version
 abbrev pub answer_of : World → Step → List Version

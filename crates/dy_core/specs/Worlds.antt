@@ -45,11 +45,14 @@ is_issued vs key d = list_any (λ v. same_key v.key key && same_dot v.dot d) vs
 abbrev pub AreMadeOf : World → List ℕ → List Version → Type 0
 AreMadeOf w key vs = All (λ v. (v.key ≡ key) × Contains w.versions v) vs
 
--- the row at a place: the versions of the key that the holder holds for the home (Dynamo, section 4.6)
+-- the row at a place: the versions of the key that the holder holds for the home
+-- (Dynamo, section 4.6)
 abbrev pub row_at : World → ℕ → ℕ → List ℕ → List Version
-row_at w holder home key = filter (λ v. same_key v.key key && w.holdings holder home key v.dot) w.versions
+row_at w holder home key =
+    filter (λ v. same_key v.key key && w.holdings holder home key v.dot) w.versions
 
 -- a key is settled where each holder of it is the home that it holds for: no hint is outstanding
 -- (Dynamo, section 4.6)
 abbrev pub IsSettled : World → List ℕ → Type 0
-IsSettled w key = (holder home : ℕ) (d : Dot) → IsTrue (w.holdings holder home key d) → holder ≡ home
+IsSettled w key =
+    (holder home : ℕ) (d : Dot) → IsTrue (w.holdings holder home key d) → holder ≡ home

@@ -26,7 +26,8 @@ impl World {
         ensures sound { IfOk result (λ yes. IsTrue yes →
             IsAllowed (layout_of self.now.ring self.now.n) (world_after self.now.steps) step.now) }
         ensures exact { IfOk result (λ yes. IsNoAck step.now →
-            IsAllowed (layout_of self.now.ring self.now.n) (world_after self.now.steps) step.now → IsTrue yes) }
+            IsAllowed (layout_of self.now.ring self.now.n) (world_after self.now.steps) step.now →
+            IsTrue yes) }
         ensures memory { IsOkUnless result Fault.OutOfMemory }
     {
         match step {
@@ -70,7 +71,8 @@ impl World {
         home: NodeId,
         row: &Row,
     ) -> Result<bool, Fault>
-        ensures ok { IfOk result (λ yes. IsTrue yes ↔ (IsTrue (may_hold (homes_of self.now.ring self.now.n row.now.key) holder home)
+        ensures ok { IfOk result (λ yes. IsTrue yes ↔
+            (IsTrue (may_hold (homes_of self.now.ring self.now.n row.now.key) holder home)
             × AreMadeOf (world_after self.now.steps) row.now.key row.now.versions)) }
         ensures memory { IsOkUnless result Fault.OutOfMemory }
     {
@@ -83,7 +85,8 @@ impl World {
 
     // Whether the holder may give up the dot for the home.
     fn may_release(&self, holder: NodeId, home: NodeId, key: &Key, dot: Dot) -> bool
-        ensures { IsTrue result ↔ ((holder ≢ home) × IsTrue ((world_after self.now.steps).holdings holder home key.now dot)
+        ensures { IsTrue result ↔ ((holder ≢ home)
+            × IsTrue ((world_after self.now.steps).holdings holder home key.now dot)
             × CoversAt (world_after self.now.steps) key.now dot home home) }
     {
         holder != home
@@ -119,7 +122,8 @@ impl World {
 
     // How many places of a cover were found.
     fn count_covered(&self, alloc: Global, key: &Key, dot: Dot) -> Result<usize, Fault>
-        ensures ok { IfOk result (λ count. (n : ℕ) → n ≤ count → HasCover (world_after self.now.steps) key.now dot n) }
+        ensures ok { IfOk result
+            (λ count. (n : ℕ) → n ≤ count → HasCover (world_after self.now.steps) key.now dot n) }
         ensures memory { IsOkUnless result Fault.OutOfMemory }
     {
         let places = self.covers(alloc, key, dot)?;

@@ -20,9 +20,11 @@ impl World {
     /// Makes the step, which must be allowed. The answer of a fetch is the row at its place, and
     /// that of another step the empty row of its key.
     pub fn apply(&mut self, alloc: Global, step: Step) -> Result<Row, Fault>
-        requires allowed { IsAllowed (layout_of self.old.ring self.old.n) (world_after self.old.steps) step }
+        requires allowed { IsAllowed (layout_of self.old.ring self.old.n)
+            (world_after self.old.steps) step }
         ensures log { OnOk result (self.new ≡ with_step self.old step) }
-        ensures row { IfOk result (λ row. IsSameRow row.versions (answer_of (world_after self.old.steps) step)) }
+        ensures row { IfOk result
+            (λ row. IsSameRow row.versions (answer_of (world_after self.old.steps) step)) }
         ensures key { IfOk result (λ row. row.key ≡ key_of step) }
         ensures err { OnErr result (self.new ≡ self.old) }
         ensures memory { IsOkUnless result Fault.OutOfMemory }
@@ -48,11 +50,15 @@ fn perform(
     acked: &mut Vec<Acked>,
     step: &Step,
 ) -> Result<Row, Fault>
-    requires { (layout : Layout) × (steps : List StepParts) × IsAfter layout steps versions.old.items held.old.items acked.old.items
+    requires { (layout : Layout) × (steps : List StepParts)
+        × IsAfter layout steps versions.old.items held.old.items acked.old.items
         × IsAllowed layout (world_after steps) step.now }
-    ensures log { OnOk result ((layout : Layout) (steps : List StepParts) → IsAfter layout steps versions.old.items held.old.items acked.old.items →
-        IsAllowed layout (world_after steps) step.now → IsAfter layout (steps ++ step.now ∷ []) versions.new.items held.new.items acked.new.items) }
-    ensures row { IfOk result (λ row. (layout : Layout) (steps : List StepParts) → IsAfter layout steps versions.old.items held.old.items acked.old.items →
+    ensures log { OnOk result ((layout : Layout) (steps : List StepParts) →
+        IsAfter layout steps versions.old.items held.old.items acked.old.items →
+        IsAllowed layout (world_after steps) step.now →
+        IsAfter layout (steps ++ step.now ∷ []) versions.new.items held.new.items acked.new.items) }
+    ensures row { IfOk result (λ row. (layout : Layout) (steps : List StepParts) →
+        IsAfter layout steps versions.old.items held.old.items acked.old.items →
         IsSameRow row.versions (answer_of (world_after steps) step.now)) }
     ensures key { IfOk result (λ row. row.key ≡ key_of step.now) }
     ensures versions_stay { OnErr result (versions.new.items ≡ versions.old.items) }
@@ -117,7 +123,8 @@ pub fn run_steps(alloc: Global, ring: Ring, n: u8, steps: Vec<Step>) -> Result<W
     requires some { 1 ≤ n }
     requires enough { n ≤ ring.nodes }
     requires legal { IsLegal (layout_of ring n) steps.items }
-    ensures log { IfOk result (λ world. world ≡ record { ring = ring; n = n; steps = steps.items }) }
+    ensures log { IfOk result
+        (λ world. world ≡ record { ring = ring; n = n; steps = steps.items }) }
     ensures memory { IsOkUnless result Fault.OutOfMemory }
 {
     let mut world = World::new(alloc, ring, n)?;

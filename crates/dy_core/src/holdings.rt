@@ -2,7 +2,8 @@ ghost use Rattle.std.specs.Prelude.{◌≡◌, ◌++◌, [], IfOk, OnOk, OnErr, 
 ghost use Rattle.dy_siblings.specs.Siblings.{Siblings, AreOneByDot, IsSameRow, merge, without};
 ghost use Rattle.std.specs.List.{Contains, list_any};
 ghost use Rattle.dy_core.specs.Orders.{key_cmp, place_cmp};
-ghost use Rattle.dy_core.specs.Inside.{gathered, is_covering, is_hint, kept, others, place_of, row_in, settled_in};
+ghost use Rattle.dy_core.specs.Inside.{gathered, is_covering, is_hint, kept, others, place_of};
+ghost use Rattle.dy_core.specs.Inside.{row_in, settled_in};
 ghost use Rattle.dy_core.specs.declared.holdings.Holding.{Holding as HoldingParts};
 
 use crate::lists::{self, Ranked};
@@ -75,9 +76,12 @@ pub(crate) fn find<'a>(
     home: NodeId,
     key: &Key,
 ) -> Option<&'a Row>
-    ensures none { MatchOption result (row_in held.now holder home key.now ≡ []) (λ row. row.now.key ≡ key.now) }
-    ensures some { MatchOption result (row_in held.now holder home key.now ≡ []) (λ row. row.now.versions ≡ row_in held.now holder home key.now) }
-    ensures inside { MatchOption result (row_in held.now holder home key.now ≡ []) (λ row. (h : HoldingParts) × Contains held.now h × (h.row ≡ row.now)) }
+    ensures none { MatchOption result (row_in held.now holder home key.now ≡ [])
+        (λ row. row.now.key ≡ key.now) }
+    ensures some { MatchOption result (row_in held.now holder home key.now ≡ [])
+        (λ row. row.now.versions ≡ row_in held.now holder home key.now) }
+    ensures inside { MatchOption result (row_in held.now holder home key.now ≡ [])
+        (λ row. (h : HoldingParts) × Contains held.now h × (h.row ≡ row.now)) }
 {
     for holding in held {
         if holding.is_at(holder, home, key) {
@@ -95,7 +99,8 @@ pub(crate) fn copy_at(
     home: NodeId,
     key: &Key,
 ) -> Result<Row, Fault>
-    ensures ok { IfOk result (λ row. row ≡ record { key = key.now; versions = row_in held.now holder home key.now }) }
+    ensures ok { IfOk result
+        (λ row. row ≡ record { key = key.now; versions = row_in held.now holder home key.now }) }
     ensures memory { IsOkUnless result Fault.OutOfMemory }
 {
     match find(held, holder, home, key) {
@@ -119,7 +124,8 @@ pub(crate) fn keep(held: &mut Vec<Holding>, holding: Holding) -> Result<(), Faul
 
 // Drops the holding at the place of this one.
 fn drop_at(held: &mut Vec<Holding>, holding: &Holding)
-    ensures { held.new.items ≡ others holding.now.holder holding.now.home holding.now.row.key held.old.items }
+    ensures { held.new.items ≡
+        others holding.now.holder holding.now.home holding.now.row.key held.old.items }
 {
     held.retain(|other| !other.is_at(holding.holder, holding.home, holding.row.key()));
 }
@@ -134,8 +140,10 @@ pub(crate) fn hold(
 ) -> Result<(), Fault>
     requires { AreOneByDot (row_in held.old.items holder home row.now.key ++ row.now.versions) }
     ensures ok { OnOk result ((new : Siblings) × (new.key ≡ row.now.key)
-        × IsSameRow new.versions (merge (row_in held.old.items holder home row.now.key) row.now.versions)
-        × (held.new.items ≡ kept held.old.items (record { holder = holder; home = home; row = new }))) }
+        × IsSameRow new.versions
+        (merge (row_in held.old.items holder home row.now.key) row.now.versions)
+        × (held.new.items ≡
+        kept held.old.items (record { holder = holder; home = home; row = new }))) }
     ensures err { OnErr result (held.new.items ≡ held.old.items) }
     ensures memory { IsOkUnless result Fault.OutOfMemory }
 {
@@ -160,7 +168,14 @@ pub(crate) fn release(
     dot: Dot,
 ) -> Result<(), Fault>
     ensures ok { OnOk result (held.new.items ≡ kept held.old.items
-        (record { holder = holder; home = home; row = record { key = key.now; versions = without (row_in held.old.items holder home key.now) dot } })) }
+        (record {
+          holder = holder;
+          home = home;
+          row = record {
+            key = key.now;
+            versions = without (row_in held.old.items holder home key.now) dot;
+          };
+        })) }
     ensures err { OnErr result (held.new.items ≡ held.old.items) }
     ensures memory { IsOkUnless result Fault.OutOfMemory }
 {
@@ -196,7 +211,8 @@ pub(crate) fn covering(
     key: &Key,
     dot: Dot,
 ) -> Result<Vec<Place>, Fault>
-    ensures ok { IfOk result (λ places. places.items ≡ gathered place_cmp (is_covering key.now dot) place_of held.now) }
+    ensures ok { IfOk result
+        (λ places. places.items ≡ gathered place_cmp (is_covering key.now dot) place_of held.now) }
     ensures memory { IsOkUnless result Fault.OutOfMemory }
 {
     let mut places = Vec::new(alloc);
@@ -214,7 +230,8 @@ pub(crate) fn settled_of(
     held: &[Holding],
     versions: &[Version],
 ) -> Result<Vec<Key>, Fault>
-    ensures ok { IfOk result (λ keys. keys.items ≡ gathered key_cmp (λ v. settled_in held.now v.key) (λ v. v.key) versions.now) }
+    ensures ok { IfOk result (λ keys. keys.items ≡
+        gathered key_cmp (λ v. settled_in held.now v.key) (λ v. v.key) versions.now) }
     ensures memory { IsOkUnless result Fault.OutOfMemory }
 {
     let mut keys = Vec::new(alloc);

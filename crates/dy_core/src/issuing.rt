@@ -66,7 +66,8 @@ fn past_of_context(
     key: &Key,
     context: &Context,
 ) -> Result<Context, Fault>
-    ensures ok { IfOk result (λ past. (d : DotParts) → set.contains past d ≡ named_in versions.now key.now context.now d) }
+    ensures ok { IfOk result (λ past. (d : DotParts) → set.contains past d ≡
+        named_in versions.now key.now context.now d) }
     ensures memory { IsOkUnless result Fault.OutOfMemory }
 {
     let mut past = Context::new(alloc);
@@ -89,11 +90,14 @@ pub(crate) fn next_version(
     value: &Option<Value>,
 ) -> Result<Version, Fault>
     requires room { last_in versions.now node key.now < MAX_COUNTER }
-    requires fresh { named_in versions.now key.now context.now (record { node = node; counter = last_in versions.now node key.now + 1 }) ≡ false }
+    requires fresh { named_in versions.now key.now context.now
+        (record { node = node; counter = last_in versions.now node key.now + 1 }) ≡ false }
     ensures key { IfOk result (λ version. version.key ≡ key.now) }
     ensures node { IfOk result (λ version. version.dot.node ≡ node) }
-    ensures counter { IfOk result (λ version. version.dot.counter ≡ last_in versions.now node key.now + 1) }
-    ensures past { IfOk result (λ version. (d : DotParts) → set.contains version.past d ≡ named_in versions.now key.now context.now d) }
+    ensures counter { IfOk result
+        (λ version. version.dot.counter ≡ last_in versions.now node key.now + 1) }
+    ensures past { IfOk result (λ version. (d : DotParts) → set.contains version.past d ≡
+        named_in versions.now key.now context.now d) }
     ensures value { IfOk result (λ version. version.value ≡ value.now) }
     ensures memory { IsOkUnless result Fault.OutOfMemory }
 {

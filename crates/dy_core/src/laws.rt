@@ -1,5 +1,6 @@
 //! The laws of every legal log. Each is a function that does nothing, and its contract is the law.
-ghost use Rattle.std.specs.Prelude.{◌≡◌, ℕ, ◌+◌, ◌<◌, ◌≤◌, ◌↔◌, ◌&&◌, IsTrue, List, ◌++◌, take, length, map, nat_eq};
+ghost use Rattle.std.specs.Prelude.{◌≡◌, ℕ, ◌+◌, ◌<◌, ◌≤◌, ◌↔◌, ◌&&◌, IsTrue, List, ◌++◌, take};
+ghost use Rattle.std.specs.Prelude.{length, map, nat_eq};
 ghost use Rattle.std.specs.List.{All, Contains, IsDistinct, filter};
 ghost use Rattle.std.specs.FinSet as set;
 ghost use Rattle.dy_dots.specs.Dots.{same_dot};
@@ -11,7 +12,8 @@ ghost use Rattle.dy_preference.specs.Preferences.{homes_of, may_hold};
 ghost use Rattle.dy_core.specs.Worlds.{Layout, layout_of, IsSettled, AreMadeOf, is_issued};
 ghost use Rattle.dy_core.specs.Covers.{CoversAt, HasCover, AcksAreCovered, ReceiptHolds};
 ghost use Rattle.dy_core.specs.Steps.{IsAllowed, world_after_step, IsReleaseAt};
-ghost use Rattle.dy_core.specs.Logs.{Known, world_after, IsLegal, Answer, MatchesLog, AreOfHomes, rows_of};
+ghost use Rattle.dy_core.specs.Logs.{Known, world_after, IsLegal, Answer, MatchesLog, AreOfHomes};
+ghost use Rattle.dy_core.specs.Logs.{rows_of};
 ghost use Rattle.dy_core.specs.declared.places.Place.{Place};
 ghost use Rattle.dy_core.specs.declared.steps.Step.{Step};
 
@@ -26,11 +28,13 @@ pub fn pasts_are_closed()
 pub fn counters_have_no_gaps()
     ensures used { (layout : Layout) (steps : List Step) → IsLegal layout steps →
         (node : ℕ) (key : List ℕ) (counter : ℕ) →
-        IsTrue (is_issued (world_after steps).versions key (record { node = node; counter = counter }))
+        IsTrue (is_issued (world_after steps).versions key
+        (record { node = node; counter = counter }))
         ↔ (1 ≤ counter) × (counter ≤ (world_after steps).counters node key) }
     ensures once { (layout : Layout) (steps : List Step) → IsLegal layout steps →
         (key : List ℕ) (d : Dot) →
-        length (filter (λ v. same_key v.key key && same_dot v.dot d) (world_after steps).versions) ≤ 1 }
+        length (filter (λ v. same_key v.key key && same_dot v.dot d)
+        (world_after steps).versions) ≤ 1 }
 {}
 
 /// Who holds may hold, and what is held was made.
@@ -71,7 +75,8 @@ pub fn receipts_make_a_cover()
     ensures { (layout : Layout) (steps : List Step) → IsLegal layout steps →
         (key : List ℕ) (d : Dot) (receipts : List Place) →
         All (λ p. ReceiptHolds (world_after steps) key d p.home p.holder) receipts →
-        IsDistinct nat_eq (map (λ p. p.home) receipts) → IsDistinct nat_eq (map (λ p. p.holder) receipts) →
+        IsDistinct nat_eq (map (λ p. p.home) receipts) →
+        IsDistinct nat_eq (map (λ p. p.holder) receipts) →
         HasCover (world_after steps) key d (length receipts) }
 {}
 

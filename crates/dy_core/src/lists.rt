@@ -1,4 +1,5 @@
-ghost use Rattle.std.specs.Prelude.{◌≡◌, ◌≢◌, ◌≤◌, ◌<◌, ◌++◌, length, take, drop, slice_index_or, OnOk, OnErr, IsOkUnless};
+ghost use Rattle.std.specs.Prelude.{◌≡◌, ◌≢◌, ◌≤◌, ◌<◌, ◌++◌, length, take, drop, slice_index_or};
+ghost use Rattle.std.specs.Prelude.{OnOk, OnErr, IsOkUnless};
 ghost use Rattle.std.specs.declared.cmp.Ordering.{Ordering};
 ghost use Rattle.dy_core.specs.Orders.{put};
 
@@ -27,8 +28,10 @@ impl Ranked for Key {
 // How many items of the list, from its first on, come before this one.
 fn place_in<T: Ranked>(list: &[T], item: &T) -> usize
     ensures bound { result ≤ length list.now }
-    ensures before { put T.ranked list.now item.now ≡ take result list.now ++ put T.ranked (drop result list.now) item.now }
-    ensures stop { result < length list.now → T.ranked item.now (slice_index_or list.now result item.now) ≢ Ordering.Greater }
+    ensures before { put T.ranked list.now item.now ≡
+        take result list.now ++ put T.ranked (drop result list.now) item.now }
+    ensures stop { result < length list.now →
+        T.ranked item.now (slice_index_or list.now result item.now) ≢ Ordering.Greater }
 {
     let mut at = 0;
     for other in list {

@@ -1,4 +1,5 @@
-ghost use Rattle.std.specs.Prelude.{◌≡◌, ◌↔◌, ◌<◌, length, IsTrue, IfOk, IsOkUnless, MatchOption, false};
+ghost use Rattle.std.specs.Prelude.{◌≡◌, ◌↔◌, ◌<◌, length, IsTrue, IfOk, IsOkUnless, MatchOption};
+ghost use Rattle.std.specs.Prelude.{false};
 ghost use Rattle.std.specs.List.{Contains};
 ghost use Rattle.dy_siblings.specs.Siblings.{IsSameRow};
 ghost use Rattle.dy_siblings.specs.declared.versions.Version.{Version as VersionParts};
@@ -25,8 +26,10 @@ impl World {
 
     /// The version of this key and dot, where one was made. Takes no memory.
     pub fn version(&self, key: &Key, dot: Dot) -> Option<&Version>
-        ensures { MatchOption result (is_issued (world_after self.now.steps).versions key.now dot ≡ false)
-            (λ v. Contains (world_after self.now.steps).versions v.now × (v.now.key ≡ key.now) × (v.now.dot ≡ dot)) }
+        ensures { MatchOption result
+            (is_issued (world_after self.now.steps).versions key.now dot ≡ false)
+            (λ v. Contains (world_after self.now.steps).versions v.now
+            × (v.now.key ≡ key.now) × (v.now.dot ≡ dot)) }
     {
         issuing::find(self.versions.as_slice(), key, dot)
     }
@@ -42,12 +45,16 @@ impl World {
 
     /// The row that the holder holds for the home, where it has a version. Takes no memory.
     pub fn row(&self, holder: NodeId, home: NodeId, key: &Key) -> Option<&Row>
-        ensures none { MatchOption result ((v : VersionParts) → Contains (row_at (world_after self.now.steps) holder home key.now) v → ⊥)
+        ensures none { MatchOption result ((v : VersionParts) →
+            Contains (row_at (world_after self.now.steps) holder home key.now) v → ⊥)
             (λ row. 0 < length row.now.versions) }
-        ensures key { MatchOption result ((v : VersionParts) → Contains (row_at (world_after self.now.steps) holder home key.now) v → ⊥)
+        ensures key { MatchOption result ((v : VersionParts) →
+            Contains (row_at (world_after self.now.steps) holder home key.now) v → ⊥)
             (λ row. row.now.key ≡ key.now) }
-        ensures row { MatchOption result ((v : VersionParts) → Contains (row_at (world_after self.now.steps) holder home key.now) v → ⊥)
-            (λ row. IsSameRow row.now.versions (row_at (world_after self.now.steps) holder home key.now)) }
+        ensures row { MatchOption result ((v : VersionParts) →
+            Contains (row_at (world_after self.now.steps) holder home key.now) v → ⊥)
+            (λ row. IsSameRow row.now.versions
+            (row_at (world_after self.now.steps) holder home key.now)) }
     {
         holdings::find(self.held.as_slice(), holder, home, key)
     }
@@ -64,7 +71,8 @@ impl World {
 
     /// All places that cover the dot, by home and holder.
     pub fn covers(&self, alloc: Global, key: &Key, dot: Dot) -> Result<Vec<Place>, Fault>
-        ensures ok { IfOk result (λ places. ListsCovers (world_after self.now.steps) key.now dot places.items) }
+        ensures ok { IfOk result
+            (λ places. ListsCovers (world_after self.now.steps) key.now dot places.items) }
         ensures memory { IsOkUnless result Fault.OutOfMemory }
     {
         let places = holdings::covering(alloc, self.held.as_slice(), key, dot)?;

@@ -29,7 +29,8 @@ fn first_in(versions: &[Version], key: &Key, run: &Run) -> Option<Dot>
 /// The least dot of the context that is of none of these versions of the key. Takes no memory.
 pub(crate) fn least(versions: &[Version], key: &Key, context: &Context) -> Option<Dot>
     ensures { MatchOption result
-        ((d : DotParts) → IsTrue (set.contains context.now d) → IsTrue (is_issued versions.now key.now d))
+        ((d : DotParts) → IsTrue (set.contains context.now d) →
+        IsTrue (is_issued versions.now key.now d))
         (IsLeastUnknown versions.now key.now context.now) }
 {
     let runs = context.runs();

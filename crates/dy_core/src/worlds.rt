@@ -36,7 +36,8 @@ impl Model for World {
 
     ghost view = { λ w. record { ring = w.ring; n = w.n; steps = w.steps.items } };
 
-    ghost invariant = { λ w. IsInside w.ring w.n w.steps.items w.versions.items w.held.items w.acked.items };
+    ghost invariant = { λ w.
+        IsInside w.ring w.n w.steps.items w.versions.items w.held.items w.acked.items };
 }
 
 impl World {
