@@ -11,6 +11,8 @@ mod lists;
 mod places;
 mod readers;
 mod steps;
+#[cfg(test)]
+mod tests;
 mod unknowns;
 mod worlds;
 
