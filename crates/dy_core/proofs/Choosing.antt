@@ -1,9 +1,9 @@
 -- Places chosen one by one, no two with one home or one holder, make a cover.
-use Rattle.std.proofs.Common.{◌≡◌, ℕ, zero, suc, ◌<◌, ◌≤◌, Bool, true, false, ◌||◌, not, eqb, List, [], ◌∷◌, ◌++◌, length, map, get_or, take, refl, sym, ap, ◌∙◌, subst, ⊎_elim, arith}
+use Rattle.std.proofs.Common.{◌≡◌, ℕ, zero, suc, ◌<◌, ◌≤◌, true, false, eqb, List, [], ◌∷◌, ◌++◌, length, map, get_or, take, refl, sym, ap, ◌∙◌, subst, ⊎_elim, arith}
 use Rattle.std.specs.Prelude.{nat_eq}
 use Rattle.std.specs.Cmp.{nat_eq_equiv}
-use Rattle.std.specs.List.{All, AllByRecursion, Contains, IsDistinct, list_any}
-use Rattle.std.proofs.lemmas.Bool.{or_left, or_right, true≢false, not-true, eqb-true, eq-eqb}
+use Rattle.std.specs.List.{AllByRecursion, Contains, IsDistinct, list_any}
+use Rattle.std.proofs.lemmas.Bool.{or_left, or_right, true≢false, eqb-true, eq-eqb}
 use Rattle.std.proofs.lemmas.List.{length-take, take-append-drop}
 use Rattle.std.proofs.lemmas.List.Elements.{Contains-append_left, Contains-push_cases}
 use Rattle.std.proofs.lemmas.Map.Keys.{IsDistinct-push}
@@ -13,7 +13,7 @@ use Rattle.dy_core.specs.Inside.{AreChosen, clashes}
 use Rattle.dy_core.specs.Listings.{ListsCovers}
 use Rattle.dy_dots.specs.declared.dots.Dot.{Dot}
 use Rattle.dy_core.specs.declared.places.Place.{Place}
-use Rattle.dy_core.proofs.Members.{Mapped, map_from, not_in_nil, any_from, none_from}
+use Rattle.dy_core.proofs.Members.{map_from, not_in_nil, any_from, none_from}
 use Rattle.dy_core.proofs.Keeping.{all_from}
 
 map-push : (f : Place → ℕ) (xs : List Place) (p : Place) → map f (xs ++ p ∷ []) ≡ map f xs ++ f p ∷ []

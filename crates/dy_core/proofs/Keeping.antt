@@ -1,27 +1,25 @@
 -- The lists of a world after a row was kept at a place, and after an ack.
-use Rattle.std.proofs.Common.{◌≡◌, ℕ, zero, suc, ◌<◌, Bool, true, false, cond, ◌&&◌, not, eqb, ◌↔◌, ◌⊎◌, List, [], ◌∷◌, ◌++◌, length, refl, sym, ap, ◌∙◌, subst, inl, inr, ⊎_elim, arith}
+use Rattle.std.proofs.Common.{◌≡◌, ℕ, ◌<◌, Bool, true, false, cond, ◌&&◌, not, ◌↔◌, List, [], ◌∷◌, ◌++◌, length, refl, sym, ap, ◌∙◌, subst, ⊎_elim, arith}
 use Rattle.std.specs.List.{filter, All, Contains}
 use Rattle.std.specs.List.Sorted.{IsStrictlySortedBy}
 use Rattle.std.proofs.lemmas.Bool.{cases_Bool, and_parts, and_from, and_left, and_right, cond-true, cond-false, true≢false, not-true, not_from_false}
 use Rattle.std.proofs.lemmas.List.Elements.{All-contains, All-filter, Contains-get_or, Contains-append_left, Contains-append_right, Contains-append_cases}
 use Rattle.std.proofs.lemmas.List.Kept.{IsStrictlySortedBy-filter}
 use Rattle.dy_dots.specs.Dots.{same_dot}
-use Rattle.dy_siblings.specs.Siblings.{Siblings, IsSameRow, same_key, has_dot, is_past, newest, merge}
-use Rattle.dy_core.specs.Worlds.{Layout, World, AreMadeOf, row_at}
-use Rattle.dy_core.specs.Steps.{same_place, after_hold, after_release, world_after_step}
+use Rattle.dy_siblings.specs.Siblings.{Siblings, IsSameRow, has_dot, newest, merge}
+use Rattle.dy_core.specs.Worlds.{World, AreMadeOf, row_at}
+use Rattle.dy_core.specs.Steps.{same_place, after_hold, after_release}
 use Rattle.dy_core.specs.Inside.{Meets, is_at, is_nothing, others, kept, row_in}
 use Rattle.dy_core.specs.Orders.{holding_cmp, ack_cmp, put}
 use Rattle.dy_dots.specs.declared.dots.Dot.{Dot}
 use Rattle.dy_siblings.specs.declared.versions.Version.{Version}
 use Rattle.dy_core.specs.declared.acks.Acked.{Acked}
 use Rattle.dy_core.specs.declared.holdings.Holding.{Holding}
-use Rattle.dy_core.specs.declared.steps.Step.{Step}
-use Rattle.dy_core.specs.declared.steps.Step.TheVariants.{Ack}
 use Rattle.dy_core.proofs.Members.{in_head, in_tail, in_cases, any_gives, any_from, filter_in, filter_from}
 use Rattle.dy_core.proofs.Sameness.{same_dot_is, same_dot_self}
 use Rattle.dy_core.proofs.Ordered.{IsOrdered, same_version}
-use Rattle.dy_core.proofs.Standing.{StandsAt, stands_from, stands_in, AreOf-held, IsSamePlace, place_is}
-use Rattle.dy_core.proofs.Merging.{newest_same, newest_from, same_row_on, same_row_back}
+use Rattle.dy_core.proofs.Standing.{stands_from, stands_in, AreOf-held, place_is}
+use Rattle.dy_core.proofs.Merging.{newest_same, newest_from, same_row_on}
 use Rattle.dy_core.proofs.Putting.{put_cases, put_has, put_keeps, put_sorted}
 use Rattle.dy_core.proofs.Held.{Spot, spot_from, at_from, row_in-put, row_in-others, holding_cmp_total, ack_cmp_total, acks_tie}
 

@@ -26,7 +26,7 @@ use Rattle.dy_core.proofs.Standing.{stands_from, stands_in}
 use Rattle.dy_core.proofs.Kept.{IsSound}
 use Rattle.dy_core.proofs.OverLogs.{log_sound}
 use Rattle.dy_core.proofs.NextVersion.{last_is}
-use Rattle.dy_core.proofs.Gathering.{Source, gathered_from, gathered_has, gathered_sorted}
+use Rattle.dy_core.proofs.Gathering.{gathered_from, gathered_has, gathered_sorted}
 use Rattle.dy_core.proofs.Held.{Spot, at_from, keys_tie, place_cmp_total, places_tie, row_in-of, row_in-from}
 use Rattle.dy_core.proofs.Keeping.{all_from}
 

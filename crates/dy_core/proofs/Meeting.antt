@@ -1,17 +1,14 @@
 -- The lists of a world, as steps change them.
-use Rattle.std.proofs.Common.{◌≡◌, ℕ, true, false, List, [], ◌∷◌, ◌++◌, ◌↔◌, sym, subst, arith}
-use Rattle.std.specs.List.{Contains}
+use Rattle.std.proofs.Common.{List, [], ◌∷◌, ◌++◌, sym, subst, arith}
 use Rattle.std.specs.List.Sorted.{IsStrictlySortedBy}
-use Rattle.dy_core.specs.Worlds.{Layout, World, empty_world}
+use Rattle.dy_core.specs.Worlds.{Layout, empty_world}
 use Rattle.dy_core.specs.Steps.{IsAllowed, world_after_step}
 use Rattle.dy_core.specs.Logs.{world_after}
 use Rattle.dy_core.specs.Inside.{Meets, IsAfter}
-use Rattle.dy_core.specs.Orders.{holding_cmp, ack_cmp}
 use Rattle.dy_siblings.specs.declared.versions.Version.{Version}
 use Rattle.dy_core.specs.declared.acks.Acked.{Acked}
 use Rattle.dy_core.specs.declared.holdings.Holding.{Holding}
 use Rattle.dy_core.specs.declared.steps.Step.{Step}
-use Rattle.dy_core.proofs.Members.{not_in_nil}
 use Rattle.dy_core.proofs.OverLogs.{world_from-append, legal_join}
 
 -- empty lists are the empty world's

@@ -1,6 +1,6 @@
 -- Rows merged one after another are the rows merged at once.
 use Rattle.std.proofs.Common.{◌≡◌, ℕ, true, false, not, List, ◌++◌, append_assoc, sym, subst, ap, ◌∙◌, ⊎_elim}
-use Rattle.std.specs.List.{All, Contains}
+use Rattle.std.specs.List.{Contains}
 use Rattle.std.specs.FinSet as set
 use Rattle.std.proofs.lemmas.Bool.{or_cases, or_left, or_right, true≢false, not-true, not_from_false}
 use Rattle.std.proofs.lemmas.List.Elements.{All-contains, Contains-append_left, Contains-append_right, Contains-append_cases}

@@ -1,15 +1,15 @@
 -- A step in the lists of a world gives the lists of the world after it.
-use Rattle.std.proofs.Common.{◌≡◌, ℕ, ◌+◌, ◌<◌, ◌≤◌, Bool, true, false, ◌&&◌, eqb, ◌⊎◌, List, [], ◌∷◌, ◌++◌, Option, refl, sym, ap, ◌∙◌, subst, ⊎_elim, arith}
+use Rattle.std.proofs.Common.{◌≡◌, ℕ, ◌+◌, ◌<◌, true, false, List, [], ◌∷◌, ◌++◌, Option, refl, sym, ap, ◌∙◌, subst, ⊎_elim, arith}
 use Rattle.std.specs.List.{Contains}
 use Rattle.std.specs.FinSet as set
 use Rattle.std.proofs.lemmas.Bool.{cases_Bool, or_cases}
 use Rattle.std.proofs.lemmas.List.Elements.{All-contains, Contains-append_cases}
 use Rattle.dy_dots.specs.Dots.{DotSet, same_dot}
 use Rattle.dy_siblings.specs.Siblings.{Siblings, AreOneByDot, IsSameRow, merge, without}
-use Rattle.dy_core.specs.Worlds.{Layout, World, row_at}
+use Rattle.dy_core.specs.Worlds.{Layout, World}
 use Rattle.dy_core.specs.Steps.{IsAllowed, world_after_step, answer_of}
 use Rattle.dy_core.specs.Logs.{world_after}
-use Rattle.dy_core.specs.Inside.{IsAfter, Meets, is_named, named_in, last_in, row_in, kept}
+use Rattle.dy_core.specs.Inside.{IsAfter, Meets, named_in, last_in, row_in, kept}
 use Rattle.dy_core.specs.Orders.{ack_cmp, put}
 use Rattle.dy_dots.specs.declared.dots.Dot.{Dot}
 use Rattle.dy_siblings.specs.declared.versions.Version.{Version}

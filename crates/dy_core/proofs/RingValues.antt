@@ -1,5 +1,5 @@
 -- Worked values of the ring.
-use Rattle.std.proofs.Common.{◌≡◌, ℕ, List, [], ◌∷◌, refl}
+use Rattle.std.proofs.Common.{◌≡◌, [], ◌∷◌, refl}
 use Rattle.dy_ring.specs.Rings.{Tokens, node_distance}
 use Rattle.dy_preference.specs.Preferences.{nodes_by}
 

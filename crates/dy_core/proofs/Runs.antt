@@ -1,10 +1,9 @@
 -- The runs of a context, one after another: which of their dots are issued.
-use Rattle.std.proofs.Common.{◌≡◌, ℕ, suc, ◌+◌, ◌<◌, ◌≤◌, Bool, true, false, ◌&&◌, ◌||◌, eqb, leb, ◌⊎◌, List, [], ◌∷◌, ◌++◌, length, get_or, take, drop, refl, sym, ap, ◌∙◌, subst, inl, inr, ⊎_elim, arith}
+use Rattle.std.proofs.Common.{◌≡◌, ℕ, suc, ◌+◌, ◌<◌, ◌≤◌, Bool, true, false, ◌&&◌, ◌||◌, eqb, leb, ◌⊎◌, List, [], ◌∷◌, length, get_or, take, drop, refl, sym, ap, ◌∙◌, subst, inl, inr, ⊎_elim, arith}
 use Rattle.std.specs.FinSet as set
-use Rattle.std.specs.List.{list_any}
 use Rattle.std.proofs.lemmas.Bool.{or_cases, or_left, or_right, and_parts, and_from, true≢false, eqb-true, eq-eqb, leb-true, le-leb}
 use Rattle.std.proofs.lemmas.List.{drop_more, take_more, take-append-drop}
-use Rattle.dy_dots.specs.Dots.{DotSet, AreDots, IsDot, IsDotBefore}
+use Rattle.dy_dots.specs.Dots.{DotSet, AreDots, IsDotBefore}
 use Rattle.dy_dots.specs.Runs.{AreRunsOf, RiseFrom, in_run, in_runs}
 use Rattle.dy_dots.specs.declared.dots.Dot.{Dot}
 use Rattle.dy_dots.specs.declared.runs.Run.{Run}

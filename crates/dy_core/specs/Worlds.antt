@@ -1,5 +1,5 @@
 -- Worlds: which versions were made, and who holds which of them for whom.
-use Rattle.std.specs.Prelude.{◌≡◌, ℕ, ◌==◌, Bool, ◌&&◌, false, IsTrue, List, [], ◌∷◌}
+use Rattle.std.specs.Prelude.{◌≡◌, ℕ, Bool, ◌&&◌, false, IsTrue, List, []}
 use Rattle.std.specs.List.{list_any, filter, All, Contains}
 use Rattle.dy_dots.specs.Dots.{same_dot}
 use Rattle.dy_siblings.specs.Siblings.{same_key}

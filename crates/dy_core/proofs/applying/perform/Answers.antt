@@ -1,9 +1,8 @@
 use Rattle.std.proofs.Common.{◌≡◌, ◌<◌, ◌+◌, false, sym, ap, ◌∙◌, subst}
 use Rattle.dy_siblings.specs.Siblings.{IsSameRow}
-use Rattle.dy_core.specs.Worlds.{Layout}
 use Rattle.dy_core.specs.Steps.{answer_of}
 use Rattle.dy_core.specs.Logs.{world_after}
-use Rattle.dy_core.specs.Inside.{last_in, named_in, row_in, kept, IsAfter}
+use Rattle.dy_core.specs.Inside.{last_in, named_in, row_in}
 use Rattle.dy_core.specs.Orders.{ack_cmp, put}
 use Rattle.dy_core.proofs.Performing.{room_is, fresh_is, issue_goes, agree_is, hold_goes, release_goes, fetch_goes, fetch_answers, ack_goes}
 use Rattle.dy_core.proofs.applying.perform.Goals as goal

@@ -1,4 +1,4 @@
-use Rattle.std.proofs.Common.{◌≤◌, ap, subst}
+use Rattle.std.proofs.Common.{◌≤◌, subst}
 use Rattle.std.proofs.lemmas.Bool.{leb-true}
 use Rattle.dy_core.proofs.worlds.World.may_ack.Goals as goal
 

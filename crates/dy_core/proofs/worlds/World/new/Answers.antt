@@ -1,5 +1,4 @@
 use Rattle.dy_core.specs.Worlds.{layout_of}
-use Rattle.dy_core.specs.Inside.{IsAfter}
 use Rattle.dy_core.proofs.Meeting.{empty_is_after}
 use Rattle.dy_core.proofs.worlds.World.new.Goals as goal
 

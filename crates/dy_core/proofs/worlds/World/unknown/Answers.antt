@@ -1,4 +1,4 @@
-use Rattle.std.proofs.Common.{◌≡◌, true, MatchOption, sym, ap, ◌∙◌, subst}
+use Rattle.std.proofs.Common.{◌≡◌, true, MatchOption, sym, ◌∙◌, subst}
 use Rattle.std.specs.FinSet as set
 use Rattle.dy_dots.specs.declared.dots.Dot.{Dot}
 use Rattle.dy_core.specs.Worlds.{is_issued}
