@@ -1,3 +1,5 @@
+mod growths;
+
 use crate::HintStore;
 use dy_dots::{Context, Dot, NodeId};
 use dy_siblings::{Key, Row, Version};

@@ -108,7 +108,7 @@ impl RowMap {
         if !row.is_empty() {
             return;
         }
-        self.rows.remove(key);
+        let _emptied = self.rows.remove(key);
     }
 
     /// The rows, in the order of their keys' bytes.

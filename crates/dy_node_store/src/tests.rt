@@ -1,3 +1,5 @@
+mod growths;
+
 use crate::{NodeStore, RowMap};
 use dy_dots::{Context, Dot, Fault, NodeId};
 use dy_siblings::{Key, Row, Version};

@@ -39,7 +39,7 @@ returns-then-not-is_empty c =
 -- none is left: the row goes
 pub invariant_of-self-2 : goal.invariant_of-self-2
 invariant_of-self-2 c =
-    rw (c.remove.ensures.entries, (c.get_mut.follows.holds c.drop_dots.new.row).0, remove_entry-set_value)
+    rw (c.remove-emptied.ensures.entries, (c.get_mut.follows.holds c.drop_dots.new.row).0, remove_entry-set_value)
     (AreRows-remove_entry _ _ c.self.invariant)
 
 pub returns : goal.returns
@@ -48,7 +48,7 @@ returns c =
     let there = found _ _ _ _ _ c.self.view_is refl c.get_mut.ensures.value ∙ ap option_copied_mut c.in-Some.is in
     let present = subst IsSome (sym was) refl in
     let written = ((c.get_mut.follows.holds c.drop_dots.new.row).3 present).0 in
-    removed _ _ _ (answers_again _ _ _ _ _ _ written c.remove.ensures.updates.0)
+    removed _ _ _ (answers_again _ _ _ _ _ _ written c.remove-emptied.ensures.updates.0)
     ∙ ap (λ m. maps.remove m c.args.key.now) c.self.view_is
     ∙ ap (with_versions c.args.self.now c.args.key.now) (sym (c.is_empty.ensures.0 c.if-not-is_empty.false) ∙ c.drop_dots.ensures.versions)
     ∙ sym (ap (λ o. with_versions c.args.self.now c.args.key.now (without_dots (versions_in o) c.args.dots.now)) there)

@@ -1,0 +1,65 @@
+//! Calls whose growth may be refused: the store is as before, and the same call then answers what it
+//! would have. Run with each allocation failing in turn, one a run.
+
+use super::{dot, node};
+use crate::HintStore;
+use dy_dots::{Context, Dot, Fault};
+use dy_siblings::{Key, Row, Version};
+use std::alloc::Global;
+use std::test::Fail;
+
+// The row of the key with a deletion, that follows nothing.
+fn deletion(alloc: Global, key: &[u8], dot: Dot) -> Result<Row, Fault> {
+    let (key, past) = (Key::new(alloc, key)?, Context::new(alloc));
+    if past.contains(dot) {
+        return Ok(Row::new(alloc, key));
+    }
+    Row::of(alloc, Version::new(key, dot, past, None))
+}
+
+// The row of the key, made anew where memory ran out.
+fn made(alloc: Global, key: &[u8]) -> Result<Row, Fail> {
+    let dot = dot(1)?;
+    match deletion(alloc, key, dot) {
+        Ok(row) => Ok(row),
+        Err(_) => Ok(deletion(alloc, key, dot)?),
+    }
+}
+
+// Puts the row for the home, again where memory ran out.
+fn put(rt: &HostRuntime, store: &mut HintStore, home: u8, key: &[u8]) -> Result<(), Fail> {
+    let row = made(rt.alloc(), key)?;
+    let again = made(rt.alloc(), key)?;
+    if let Err(fault) = store.put_row(node(home)?, row) {
+        println!(rt; "refused put_row {fault}")?;
+        if store.row(node(home)?, again.key()).is_some() {
+            return Err("a refused put_row left a hint".into());
+        }
+        store.put_row(node(home)?, again)?;
+    }
+    Ok(())
+}
+
+// How many hints are listed, asked for again where memory ran out.
+fn listed(rt: &HostRuntime, store: &HintStore) -> Result<usize, Fail> {
+    match store.list(rt.alloc()) {
+        Ok(hints) => Ok(hints.len()),
+        Err(fault) => {
+            println!(rt; "refused list {fault}")?;
+            if fault != Fault::OutOfMemory {
+                return Err("a list that fails with memory".into());
+            }
+            Ok(store.list(rt.alloc())?.len())
+        }
+    }
+}
+
+#[test]
+fn survive_a_refused_growth(rt: HostRuntime) -> Result<(), Fail> {
+    let mut store = HintStore::new(rt.alloc());
+    put(&rt, &mut store, 2, b"a".as_slice())?;
+    put(&rt, &mut store, 0, b"a".as_slice())?;
+    put(&rt, &mut store, 2, b"b".as_slice())?;
+    assert_eq!(rt; listed(&rt, &store)?, 3);
+    Ok(())
+}
