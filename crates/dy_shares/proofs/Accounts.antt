@@ -1,0 +1,129 @@
+-- A ledger stays one, and each share that agrees with its row belongs to its log.
+use Rattle.std.proofs.Common.{◌≡◌, ℕ, suc, ◌+◌, ◌<◌, List, [], ◌∷◌, ◌++◌, length, set, Option, None, Some, slice_index_or, refl, sym, ap, ◌∙◌, subst, arith}
+use Rattle.std.specs.List.{All}
+use Rattle.std.proofs.lemmas.List.Elements.{All-append, All-weaker, All-cons, All-nil}
+use mathlib.Core.Option.{some}
+use lib.ListN.{get_elem?}
+use Rattle.dy_core.specs.Worlds.{Layout, empty_world}
+use Rattle.dy_core.specs.Logs.{world_after, IsLegal, IsLegalFrom}
+use Rattle.dy_core.specs.declared.steps.Step.{Step}
+use Rattle.dy_core.specs.declared.steps.Step.TheVariants.{Issue, Hold, Release, Fetch, Ack}
+use Rattle.dy_core.proofs.OverLogs.{legal_join}
+use Rattle.dy_shares.specs.declared.entries.Entry.{Entry}
+use Rattle.dy_shares.specs.declared.entries.Done.{Done}
+use Rattle.dy_shares.specs.Shares.{ack_at, first_parts, with_steps, steps_of, IsOwnedStep, AreOwned, BelongsTo, SessionBelongsTo, NodePart, SessionPart, AreAll, Account, HasNode, HasSession}
+use Rattle.dy_shares.specs.Parts.{entries_of, numbered, done_steps, done_acks, AreOf, IsPartOf, IsRowOf, IsLedger, Held, held, done_from, AgreesAsNode, AgreesAsSession}
+use Rattle.dy_shares.proofs.Rows.{row_free, row_opened, row_means, row_grown}
+use Rattle.std.proofs.lemmas.List.{append-nil}
+use Rattle.dy_shares.proofs.Owners.{place_of_node, place_of_session, steps_of-append, steps_of-entries, done_steps-append, done_steps-numbered, done_acks-append}
+use Rattle.dy_shares.proofs.Showing.{part_belongs}
+
+module _ (nodes : ℕ) (layout : Layout) where
+  -- the stored steps and the legal log, with more steps
+  stored_more : (steps : List Step) (log : List Entry) (told : Option ℕ) (ss : List Step) → steps ≡ steps_of log → steps ++ ss ≡ steps_of (log ++ entries_of told ss)
+  stored_more steps log told ss is = ap (λ xs. xs ++ ss) is ∙ (ap (λ xs. steps_of log ++ xs) (sym (steps_of-entries told ss)) ∙ sym (steps_of-append log (entries_of told ss)))
+
+  legal_more : (log : List Entry) (told : Option ℕ) (ss : List Step) → IsLegal layout (steps_of log) → IsLegalFrom layout (world_after (steps_of log)) ss → IsLegal layout (steps_of (log ++ entries_of told ss))
+  legal_more log told ss legal allowed = subst (IsLegal layout) (stored_more (steps_of log) log told ss refl) (legal_join layout empty_world (steps_of log) ss legal allowed)
+
+  pub ledger_first : (row : List (List Done)) → IsRowOf nodes [] nodes row → IsLedger nodes layout [] 0 [] row
+  ledger_first row r =
+      record {
+        stored = refl;
+        row_is = subst (λ n. IsRowOf nodes [] n row) (omega arith) r;
+        owned = All-nil (λ e. IsOwnedStep nodes 0 e.told e.step);
+        legal = tt;
+      }
+
+  owned_on : (sessions : ℕ) (told : Option ℕ) (s : Step) → IsOwnedStep nodes sessions told s → IsOwnedStep nodes (sessions + 1) told s
+  owned_on sessions told (Issue node key context value) o = o
+  owned_on sessions told (Hold holder home row) o = o
+  owned_on sessions told (Release holder home key d) o = o
+  owned_on sessions told (Fetch holder home key) o = o
+  owned_on sessions told (Ack key d w) o = (o.0, o.1, omega (arith, o.2))
+
+  module _ (steps : List Step) (sessions : ℕ) (log : List Entry) (row : List (List Done)) (is : IsLedger nodes layout steps sessions log row) where
+    pub ledger_opened : IsLedger nodes layout steps (sessions + 1) log (row ++ [] ∷ [])
+    ledger_opened =
+        record {
+          stored = is.stored;
+          row_is = subst (λ n. IsRowOf nodes log n (row ++ [] ∷ [])) (omega arith) (row_opened nodes log (nodes + sessions) row is.row_is);
+          owned = All-weaker (λ e. IsOwnedStep nodes sessions e.told e.step) (λ e. IsOwnedStep nodes (sessions + 1) e.told e.step) (λ e. owned_on sessions e.told e.step) log is.owned;
+          legal = is.legal;
+        }
+
+    pub ledger_free : (told : Option ℕ) (ss : List Step) → AreOf nodes None (entries_of told ss) → AreOwned nodes sessions (entries_of told ss) → IsLegalFrom layout (world_after (steps_of log)) ss
+        → IsLedger nodes layout (steps ++ ss) sessions (log ++ entries_of told ss) row
+    ledger_free told ss free owned allowed =
+        record {
+          stored = stored_more steps log told ss is.stored;
+          row_is = row_free nodes log (entries_of told ss) (nodes + sessions) row free is.row_is;
+          owned = All-append (λ e. IsOwnedStep nodes sessions e.told e.step) log (entries_of told ss) is.owned owned;
+          legal = legal_more log told ss is.legal allowed;
+        }
+
+    pub ledger_grown : (told : Option ℕ) (ss : List Step) (k : ℕ) (own : List Done) → get_elem? row k ≡ some own → AreOf nodes (Some k) (entries_of told ss) → AreOwned nodes sessions (entries_of told ss) → IsLegalFrom layout (world_after (steps_of log)) ss
+        → IsLedger nodes layout (steps ++ ss) sessions (log ++ entries_of told ss) (set row k (own ++ numbered (length log + 1) ss))
+    ledger_grown told ss k own at place owned allowed =
+        record {
+          stored = stored_more steps log told ss is.stored;
+          row_is = row_grown nodes log told ss (nodes + sessions) row k own place is.row_is at;
+          owned = All-append (λ e. IsOwnedStep nodes sessions e.told e.step) log (entries_of told ss) is.owned owned;
+          legal = legal_more log told ss is.legal allowed;
+        }
+
+    -- a share that agrees with its place is as the log has it
+    pub place_part : (k : ℕ) (own : List Done) → get_elem? row k ≡ some own → IsPartOf nodes layout (record { log = log; sessions = sessions }) (held k own)
+    place_part k own at =
+        let m = row_means nodes log (nodes + sessions) row k own is.row_is at in
+        record { is_open = m.0; part_is = m.1; owned = is.owned; legal = is.legal }
+
+    -- a node's share that agrees with its place belongs to the log
+    pub node_belongs : (p : NodePart) → p.node < nodes → AgreesAsNode row p → BelongsTo (steps_of log) p
+    node_belongs p low a =
+        let m = row_means nodes log (nodes + sessions) row p.node a.part is.row_is a.place_has in
+        part_belongs layout p (steps_of log) is.legal (a.steps_are ∙ (ap done_steps m.1 ∙ place_of_node nodes sessions p.node log low is.owned))
+
+    -- a session's share that agrees with its place, and whose gets match, belongs to the log
+    pub session_belongs : (r : ℕ) (s : SessionPart) → AgreesAsSession nodes r row log s → SessionBelongsTo log r s
+    session_belongs r s a =
+        let m = row_means nodes log (nodes + sessions) row (nodes + s.session) a.part is.row_is a.place_has in
+        record { acks_are = a.acks_are ∙ (ap done_acks m.1 ∙ place_of_session nodes sessions s.session log is.owned); gets_match = a.gets_match }
+
+    pub all_are : (r : ℕ) (parts : List NodePart) (tellings : List SessionPart) → All (λ p. p.node < nodes) parts → All (AgreesAsNode row) parts → All (AgreesAsSession nodes r row log) tellings
+        → ((node : ℕ) → node < nodes → HasNode node parts) → ((session : ℕ) → session < sessions → HasSession session tellings)
+        → AreAll nodes r (record { log = log; sessions = sessions }) parts tellings
+    all_are r parts tellings low as_nodes as_sessions each_node each_session =
+        record {
+          nodes_belong = λ k d within. node_belongs (slice_index_or parts k d) (low k d within) (as_nodes k d within);
+          sessions_belong = All-weaker (AgreesAsSession nodes r row log) (SessionBelongsTo log r) (session_belongs r) tellings as_sessions;
+          each_node = each_node;
+          each_session = each_session;
+          each_entry = is.owned;
+        }
+
+-- what all have that are left, and the one that was taken from the end, all had
+pub all_back : {X : Type 0} (P : X → Type 0) (xs rest : List X) (x : X) → xs ≡ rest ++ x ∷ [] → P x → All P rest → All P xs
+all_back P xs rest x is here all = subst (All P) (sym is) (All-append P rest (x ∷ []) all (All-cons P x [] here (All-nil P)))
+
+-- a node's share whose row's share has grown by these steps
+pub node_grown : (p : NodePart) (part new : List Done) (at : ℕ) (ss : List Step) → p.steps ≡ done_steps part → new ≡ part ++ numbered at ss → record { node = p.node; steps = done_steps new } ≡ with_steps p ss
+node_grown p part new at ss is grown =
+    ap (λ xs. record { node = p.node; steps = xs })
+    (ap done_steps grown ∙ (done_steps-append part (numbered at ss) ∙ (ap (λ xs. xs ++ done_steps (numbered at ss)) (sym is) ∙ ap (λ xs. p.steps ++ xs) (done_steps-numbered at ss))))
+
+-- the acks of a session's share whose row's share has grown by an ack
+pub acks_grown : (part new : List Done) (at : ℕ) (s : Step) → new ≡ part ++ numbered at (s ∷ []) → done_acks new ≡ done_acks part ++ ack_at at s
+acks_grown part new at s grown = ap done_acks grown ∙ (done_acks-append part (numbered at (s ∷ [])) ∙ ap (λ xs. done_acks part ++ xs) (append-nil (ack_at at s)))
+
+pub first_more : (n : ℕ) → first_parts (n + 1) ≡ first_parts n ++ record { node = n; steps = [] } ∷ []
+first_more n = ap first_parts (next n)
+  where
+    next : (n : ℕ) → n + 1 ≡ suc n
+    next n = omega arith
+
+-- a node's share that is as the log has it belongs to the log
+pub part_is_nodes : (nodes : ℕ) (layout : Layout) (a : Account) (h : Held) (p : NodePart) → h.index ≡ p.node → p.node < nodes → p.steps ≡ done_steps h.part → IsPartOf nodes layout a h → BelongsTo (steps_of a.log) p
+part_is_nodes nodes layout a h p same low is part =
+    part_belongs layout p (steps_of a.log) part.legal
+    (is ∙ (ap done_steps (part.part_is ∙ ap (λ k. done_from nodes 1 k a.log) same) ∙ place_of_node nodes a.sessions p.node a.log low part.owned))

@@ -1,0 +1,68 @@
+-- What was true of a log stays true of a longer one.
+use Rattle.std.proofs.Common.{◌≡◌, ℕ, zero, suc, ◌-◌, ◌≤◌, List, [], ◌∷◌, ◌++◌, Some, length, slice_get, take, sym, ap, ◌∙◌, subst, arith}
+use Rattle.std.specs.List.{All}
+use Rattle.std.proofs.lemmas.List.{take-append-le}
+use Rattle.std.proofs.lemmas.List.Elements.{All-weaker}
+use Rattle.std.proofs.lemmas.Option.{slice_get_within}
+use mathlib.Core.List.{IsPrefix}
+use Rattle.dy_core.specs.Worlds.{Layout, row_at}
+use Rattle.dy_core.specs.Logs.{world_after, IsLegal, Answer, IsAnswer}
+use Rattle.dy_core.specs.declared.steps.Step.{Step}
+use Rattle.dy_core.specs.declared.steps.Step.TheVariants.{Fetch}
+use Rattle.dy_siblings.specs.Siblings.{IsSameRow}
+use Rattle.dy_core.proofs.OverLogs.{receipt_stays}
+use Rattle.dy_shares.specs.declared.entries.Entry.{Entry}
+use Rattle.dy_shares.specs.Shares.{steps_of, ReceiptParts, IsReceipt, GetTold, GetMatches}
+use Rattle.dy_shares.proofs.Owners.{steps_of-append, steps_of-length}
+
+got_stays : {X : Type 0} (xs ys : List X) (k : ℕ) (x : X) → slice_get xs k ≡ Some x → slice_get (xs ++ ys) k ≡ Some x
+got_stays [] ys k x e = absurd (omega (arith, slice_get_within [] k x e))
+got_stays (y ∷ xs) ys zero x e = e
+got_stays (y ∷ xs) ys (suc k) x e = got_stays xs ys k x e
+
+-- the steps of a front begin those of the log
+steps_begin : (front log : List Entry) → (p : IsPrefix front log) → steps_of front ++ steps_of p.0 ≡ steps_of log
+steps_begin front log p = sym (steps_of-append front p.0) ∙ ap steps_of p.1
+
+-- a receipt that held at a front holds now
+pub receipt_later : (layout : Layout) (front log : List Entry) (r : ReceiptParts) → IsLegal layout (steps_of log) → IsPrefix front log → IsReceipt (steps_of front) r → IsReceipt (steps_of log) r
+receipt_later layout front log r legal p holds =
+    let is = steps_begin front log p in
+    subst (λ ss. IsReceipt ss r) is
+    (receipt_stays layout (steps_of front) (steps_of p.0) (subst (IsLegal layout) (sym is) legal) r.key r.dot r.home r.holder holds)
+
+-- an answer has its number within the log
+pub answer_within : (front : List Entry) (a : Answer) → IsAnswer (steps_of front) a → a.at ≤ length front
+answer_within front a is =
+    let within = slice_get_within (steps_of front) (a.at - 1) (Fetch a.holder a.home a.key) is.is_fetch in
+    omega (arith, within, is.from_one, steps_of-length front)
+
+answer_on : (ss more : List Step) (a : Answer) → IsAnswer ss a → IsAnswer (ss ++ more) a
+answer_on ss more a is =
+    let within = slice_get_within ss (a.at - 1) (Fetch a.holder a.home a.key) is.is_fetch in
+    let before : take (a.at - 1) (ss ++ more) ≡ take (a.at - 1) ss = take-append-le (a.at - 1) ss more (omega (arith, within)) in
+    record {
+      from_one = is.from_one;
+      is_fetch = got_stays ss more (a.at - 1) (Fetch a.holder a.home a.key) is.is_fetch;
+      is_row = subst (λ xs. IsSameRow a.row (row_at (world_after xs) a.holder a.home a.key)) (sym before) is.is_row;
+    }
+
+-- an answer that a front had the log has now
+pub answer_later : (front log : List Entry) (a : Answer) → IsPrefix front log → IsAnswer (steps_of front) a → IsAnswer (steps_of log) a
+answer_later front log a p is = subst (λ ss. IsAnswer ss a) (steps_begin front log p) (answer_on (steps_of front) (steps_of p.0) a is)
+
+-- and so with gets
+pub get_later : (front log : List Entry) (r : ℕ) (g : GetTold) → IsPrefix front log → GetMatches (steps_of front) r g → GetMatches (steps_of log) r g
+get_later front log r g p is = (
+  is.0,
+  record {
+    count_is = is.1.count_is;
+    each_is = All-weaker (IsAnswer (steps_of front)) (IsAnswer (steps_of log)) (λ a. answer_later front log a p) g.answers is.1.each_is;
+    each_later = is.1.each_later;
+    each_key = is.1.each_key;
+    homes_distinct = is.1.homes_distinct;
+  },
+)
+
+pub gets_later : (front log : List Entry) (r : ℕ) (gs : List GetTold) → IsPrefix front log → All (GetMatches (steps_of front) r) gs → All (GetMatches (steps_of log) r) gs
+gets_later front log r gs p all = All-weaker (GetMatches (steps_of front) r) (GetMatches (steps_of log) r) (λ g. get_later front log r g p) gs all

@@ -1,0 +1,11 @@
+pub mod Fronts
+pub mod Batons
+pub mod Seats
+pub mod Rows
+pub mod Owners
+pub mod Showing
+pub mod Later
+pub mod Additions
+pub mod Accounts
+pub mod Sessions
+pub mod Scenes

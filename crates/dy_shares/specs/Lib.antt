@@ -1,0 +1,4 @@
+pub mod Growth
+pub mod Agreeing
+pub mod Parts
+pub mod Shares

@@ -1,0 +1,304 @@
+-- Shares: which part of a log is a node's and which a session's, and what each part shows.
+use Rattle.std.specs.Prelude.{◌≡◌, ℕ, zero, suc, ◌+◌, ◌<◌, ◌⊎◌, ◌==◌, max, Bool, false, Option, None, Some, List, [], ◌∷◌, ◌++◌, map, filter, if◌then◌else◌, refl}
+use Rattle.std.specs.List.{All, Any}
+use Rattle.std.specs.Coded.{Coded, coded×, coded_ℕ, coded_list, code_by}
+use Rattle.dy_dots.specs.Dots.{dot_code}
+use Rattle.dy_dots.specs.declared.dots.Dot.{Dot}
+use Rattle.dy_siblings.specs.Versions.{version_code}
+use Rattle.dy_siblings.specs.Siblings.{Siblings}
+use Rattle.dy_siblings.specs.declared.versions.Version.{Version}
+use Rattle.dy_ring.specs.Rings.{Tokens}
+use Rattle.dy_core.specs.Worlds.{World, empty_world, layout_of}
+use Rattle.dy_core.specs.Steps.{version_made, after_issue, after_hold, after_release}
+use Rattle.dy_core.specs.Covers.{ReceiptHolds}
+use Rattle.dy_core.specs.Logs.{world_after, IsLegalFrom, Answer, MatchesLog}
+use Rattle.dy_core.specs.contracts.steps.Step as step
+use Rattle.dy_core.specs.declared.steps.Step.{Step}
+use Rattle.dy_core.specs.declared.steps.Step.TheVariants.{Issue, Hold, Release, Fetch, Ack}
+use Rattle.dy_shares.specs.contracts.entries.Entry as entry
+use Rattle.dy_shares.specs.declared.entries.Entry.{Entry}
+
+-- what a ledger is seen as: its log, and how many sessions it has opened
+pub record Account : Type 0 where
+  pub log : List Entry
+  pub sessions : ℕ
+
+abbrev pub log_code : Coded (List Entry)
+log_code = coded_list entry.the_row.coded
+
+abbrev pub account_code : Coded Account
+account_code =
+    code_by (List Entry × ℕ) (coded× log_code coded_ℕ)
+    (λ a. (a.log, a.sessions)) (λ p. record { log = p.0; sessions = p.1 }) (λ _. refl)
+
+-- at first nothing is logged, and no session is open
+abbrev pub empty_account : Account
+empty_account = record { log = []; sessions = 0 }
+
+-- the account with these entries at the end of its log
+abbrev pub with_entries : Account → List Entry → Account
+with_entries a entries = record a { log = a.log ++ entries }
+
+-- the account with a session more
+abbrev pub with_session : Account → Account
+with_session a = record a { sessions = a.sessions + 1 }
+
+-- the steps of a log
+abbrev pub steps_of : List Entry → List Step
+steps_of log = map (λ e. e.step) log
+
+-- an entry that no session was told
+abbrev pub untold : Step → Entry
+untold s = record { told = None; step = s }
+
+-- an entry that this session was told
+abbrev pub told_to : ℕ → Step → Entry
+told_to session s = record { told = Some session; step = s }
+
+-- the steps may follow the log: each is allowed where it stands, by the ring and the number of homes
+abbrev pub MayFollow : Tokens → ℕ → List Entry → List Step → Type 0
+MayFollow ring n log steps = IsLegalFrom (layout_of ring n) (world_after (steps_of log)) steps
+
+-- the node whose step it is: the one that makes a version, holds a row or gives up a dot; a fetch
+-- changes nothing, and an ack is a session's
+abbrev pub node_of : Step → Option ℕ
+node_of (Issue node key context value) = Some node
+node_of (Hold holder home row) = Some holder
+node_of (Release holder home key d) = Some holder
+node_of (Fetch holder home key) = None
+node_of (Ack key d w) = None
+
+-- the step is a fetch
+abbrev pub IsFetch : Step → Type 0
+IsFetch (Issue node key context value) = ⊥
+IsFetch (Hold holder home row) = ⊥
+IsFetch (Release holder home key d) = ⊥
+IsFetch (Fetch holder home key) = Unit {0}
+IsFetch (Ack key d w) = ⊥
+
+-- the step is an ack
+abbrev pub IsAck : Step → Type 0
+IsAck (Issue node key context value) = ⊥
+IsAck (Hold holder home row) = ⊥
+IsAck (Release holder home key d) = ⊥
+IsAck (Fetch holder home key) = ⊥
+IsAck (Ack key d w) = Unit {0}
+
+-- whether the one named, if any, is this one
+abbrev pub names : ℕ → Option ℕ → Bool
+names k None = false
+names k (Some j) = j == k
+
+-- what a node's share is seen as: the node, and the steps that it made, in their order
+pub record NodePart : Type 0 where
+  pub node : ℕ
+  pub steps : List Step
+
+abbrev pub node_part_code : Coded NodePart
+node_part_code =
+    code_by (ℕ × List Step) (coded× coded_ℕ (coded_list step.the_row.coded))
+    (λ p. (p.node, p.steps)) (λ p. record { node = p.0; steps = p.1 }) (λ _. refl)
+
+-- the part with these steps at its end
+abbrev pub with_steps : NodePart → List Step → NodePart
+with_steps p steps = record p { steps = p.steps ++ steps }
+
+-- a node's part of a log is the steps that are its own
+abbrev pub node_part : ℕ → List Step → NodePart
+node_part node steps = record { node = node; steps = filter (λ s. names node (node_of s)) steps }
+
+-- the parts of the nodes below this number, where they have made no step
+abbrev pub first_parts : ℕ → List NodePart
+first_parts zero = []
+first_parts (suc n) = first_parts n ++ record { node = n; steps = [] } ∷ []
+
+-- the world as far as one node's own steps show it: an issue counts on, a hold brings its versions
+-- along, a release gives up its dot
+abbrev pub shown_after_step : World → Step → World
+shown_after_step w (Issue node key context value) =
+    record w { counters = (after_issue w (version_made w node key context value)).counters }
+shown_after_step w (Hold holder home row) = after_hold (record w { versions = row.versions ++ w.versions }) holder home row
+shown_after_step w (Release holder home key d) = after_release w holder home key d
+shown_after_step w (Fetch holder home key) = w
+shown_after_step w (Ack key d count) = w
+
+abbrev pub shown_from : World → List Step → World
+shown_from w [] = w
+shown_from w (s ∷ ss) = shown_from (shown_after_step w s) ss
+
+-- whether a part shows that its node holds a dot of a key for a home
+abbrev pub shows_held : NodePart → ℕ → List ℕ → Dot → Bool
+shows_held p home key d = (shown_from empty_world p.steps).holdings p.node home key d
+
+-- the last counter that a part shows its node to have used for a key
+abbrev pub shows_counter : NodePart → List ℕ → ℕ
+shows_counter p key = (shown_from empty_world p.steps).counters p.node key
+
+-- a node's share belongs to a log: it is the node's part, and it shows what the world after the log
+-- holds at the node, with the node's counters
+pub record BelongsTo (steps : List Step) (p : NodePart) : Type 0 where
+  pub part_is : p ≡ node_part p.node steps
+  pub shows_holdings : (home : ℕ) (key : List ℕ) (d : Dot) →
+      shows_held p home key d ≡ (world_after steps).holdings p.node home key d
+  pub shows_counters : (key : List ℕ) → shows_counter p key ≡ (world_after steps).counters p.node key
+
+-- what a receipt is seen as: a key and a dot, the home that is covered, and who held it
+pub record ReceiptParts : Type 0 where
+  pub key : List ℕ
+  pub dot : Dot
+  pub home : ℕ
+  pub holder : ℕ
+
+abbrev pub receipt_parts_code : Coded ReceiptParts
+receipt_parts_code =
+    code_by (List ℕ × (Dot × (ℕ × ℕ))) (coded× (coded_list coded_ℕ) (coded× dot_code (coded× coded_ℕ coded_ℕ)))
+    (λ r. (r.key, (r.dot, (r.home, r.holder)))) (λ p. record { key = p.0; dot = p.1.0; home = p.1.1.0; holder = p.1.1.1 }) (λ _. refl)
+
+abbrev pub receipt_parts : List ℕ → Dot → ℕ → ℕ → ReceiptParts
+receipt_parts key dot home holder = record { key = key; dot = dot; home = home; holder = holder }
+
+-- the receipt holds in the world after the log
+abbrev pub IsReceipt : List Step → ReceiptParts → Type 0
+IsReceipt steps r = ReceiptHolds (world_after steps) r.key r.dot r.home r.holder
+
+-- an ack as a session was told it: the number of its step, from 1, and what it acknowledges
+pub record AckTold : Type 0 where
+  pub at : ℕ
+  pub key : List ℕ
+  pub dot : Dot
+  pub w : ℕ
+
+-- a get as a session was told it: the session's since before it, and its answers
+pub record GetTold : Type 0 where
+  pub since : ℕ
+  pub answers : List Answer
+
+-- what a session's share is seen as: the session, and the acks and the gets that it was told
+pub record SessionPart : Type 0 where
+  pub session : ℕ
+  pub acks : List AckTold
+  pub gets : List GetTold
+
+abbrev pub ack_told_code : Coded AckTold
+ack_told_code =
+    code_by (ℕ × (List ℕ × (Dot × ℕ))) (coded× coded_ℕ (coded× (coded_list coded_ℕ) (coded× dot_code coded_ℕ)))
+    (λ a. (a.at, (a.key, (a.dot, a.w)))) (λ p. record { at = p.0; key = p.1.0; dot = p.1.1.0; w = p.1.1.1 }) (λ _. refl)
+
+abbrev pub answer_code : Coded Answer
+answer_code =
+    code_by (ℕ × (ℕ × (ℕ × (List ℕ × List Version))))
+    (coded× coded_ℕ (coded× coded_ℕ (coded× coded_ℕ (coded× (coded_list coded_ℕ) (coded_list version_code)))))
+    (λ a. (a.at, (a.holder, (a.home, (a.key, a.row)))))
+    (λ p. record { at = p.0; holder = p.1.0; home = p.1.1.0; key = p.1.1.1.0; row = p.1.1.1.1 })
+    (λ _. refl)
+
+abbrev pub get_told_code : Coded GetTold
+get_told_code =
+    code_by (ℕ × List Answer) (coded× coded_ℕ (coded_list answer_code))
+    (λ g. (g.since, g.answers)) (λ p. record { since = p.0; answers = p.1 }) (λ _. refl)
+
+abbrev pub session_part_code : Coded SessionPart
+session_part_code =
+    code_by (ℕ × (List AckTold × List GetTold))
+    (coded× coded_ℕ (coded× (coded_list ack_told_code) (coded_list get_told_code)))
+    (λ s. (s.session, (s.acks, s.gets))) (λ p. record { session = p.0; acks = p.1.0; gets = p.1.1 }) (λ _. refl)
+
+abbrev pub answer_of : ℕ → ℕ → ℕ → List ℕ → Siblings → Answer
+answer_of at holder home key row = record { at = at; holder = holder; home = home; key = key; row = row.versions }
+
+-- the part of a session that was told nothing
+abbrev pub first_session : ℕ → SessionPart
+first_session session = record { session = session; acks = []; gets = [] }
+
+-- the step of this number as an ack, where it is one
+abbrev pub ack_at : ℕ → Step → List AckTold
+ack_at at (Issue node key context value) = []
+ack_at at (Hold holder home row) = []
+ack_at at (Release holder home key d) = []
+ack_at at (Fetch holder home key) = []
+ack_at at (Ack key d w) = record { at = at; key = key; dot = d; w = w } ∷ []
+
+-- the acks that a session was told by these entries, which are numbered from `at`
+abbrev pub acks_from : ℕ → ℕ → List Entry → List AckTold
+acks_from at session [] = []
+acks_from at session (e ∷ es) = (if names session e.told then ack_at at e.step else []) ++ acks_from (at + 1) session es
+
+-- the acks that a log tells a session
+abbrev pub session_acks : ℕ → List Entry → List AckTold
+session_acks session log = acks_from 1 session log
+
+-- the session was told this ack too
+abbrev pub with_ack : SessionPart → ℕ → Step → SessionPart
+with_ack s at step = record s { acks = s.acks ++ ack_at at step }
+
+-- the session was told this get too
+abbrev pub with_get : SessionPart → ℕ → List Answer → SessionPart
+with_get s since answers = record s { gets = s.gets ++ record { since = since; answers = answers } ∷ [] }
+
+-- the greatest of some numbers, and 0 of none
+abbrev pub greatest : List ℕ → ℕ
+greatest [] = 0
+greatest (n ∷ ns) = max n (greatest ns)
+
+-- the numbers of the answers of some gets
+abbrev pub answer_numbers : List GetTold → List ℕ
+answer_numbers [] = []
+answer_numbers (g ∷ gs) = map (λ a. a.at) g.answers ++ answer_numbers gs
+
+-- a session's since: the greatest step number that it was told, 0 where it was told none
+abbrev pub since_of : SessionPart → ℕ
+since_of s = max (greatest (map (λ a. a.at) s.acks)) (greatest (answer_numbers s.gets))
+
+-- the get matches the log: r answers of one key and distinct homes, each a fetch of the log, after
+-- the session's since (Dynamo, section 4.5)
+abbrev pub GetMatches : List Step → ℕ → GetTold → Type 0
+GetMatches steps r g = (key : List ℕ) × MatchesLog steps key r g.since g.answers
+
+-- a session's share belongs to a log: its acks are those that the log told the session, and each of
+-- its gets matches the log
+pub record SessionBelongsTo (log : List Entry) (r : ℕ) (s : SessionPart) : Type 0 where
+  pub acks_are : s.acks ≡ session_acks s.session log
+  pub gets_match : All (GetMatches (steps_of log) r) s.gets
+
+-- the node's part is the same in both logs
+abbrev pub NodeStays : List Entry → List Entry → ℕ → Type 0
+NodeStays old new node = node_part node (steps_of new) ≡ node_part node (steps_of old)
+
+-- the session was told the same acks by both logs
+abbrev pub SessionStays : List Entry → List Entry → ℕ → Type 0
+SessionStays old new session = session_acks session new ≡ session_acks session old
+
+-- the step, with whom it was told, is of a node or a session below these numbers, or it is a fetch
+abbrev pub IsOwnedStep : ℕ → ℕ → Option ℕ → Step → Type 0
+IsOwnedStep nodes sessions told (Issue node key context value) = (told ≡ None) × (node < nodes)
+IsOwnedStep nodes sessions told (Hold holder home row) = (told ≡ None) × (holder < nodes)
+IsOwnedStep nodes sessions told (Release holder home key d) = (told ≡ None) × (holder < nodes)
+IsOwnedStep nodes sessions told (Fetch holder home key) = told ≡ None
+IsOwnedStep nodes sessions told (Ack key d w) = (session : ℕ) × (told ≡ Some session) × (session < sessions)
+
+-- each entry is a step of one of the nodes, an ack told to one of the sessions, or a fetch
+abbrev pub AreOwned : ℕ → ℕ → List Entry → Type 0
+AreOwned nodes sessions log = All (λ e. IsOwnedStep nodes sessions e.told e.step) log
+
+-- some part is this node's
+abbrev pub HasNode : ℕ → List NodePart → Type 0
+HasNode node parts = Any (λ p. p.node ≡ node) parts
+
+-- some part is this session's
+abbrev pub HasSession : ℕ → List SessionPart → Type 0
+HasSession session parts = Any (λ s. s.session ≡ session) parts
+
+-- the shares are all that were given out, and what they show is all that the log has: each belongs
+-- to the log, each node and session has its own, and each entry is one of theirs, or a fetch
+pub record AreAll (nodes r : ℕ) (a : Account) (parts : List NodePart) (tellings : List SessionPart) : Type 0 where
+  pub nodes_belong : All (BelongsTo (steps_of a.log)) parts
+  pub sessions_belong : All (SessionBelongsTo a.log r) tellings
+  pub each_node : (node : ℕ) → node < nodes → HasNode node parts
+  pub each_session : (session : ℕ) → session < a.sessions → HasSession session tellings
+  pub each_entry : AreOwned nodes a.sessions a.log
+
+-- the share of a node or of a session is missing
+abbrev pub IsMissing : ℕ → ℕ → List NodePart → List SessionPart → Type 0
+IsMissing nodes sessions parts tellings =
+    ((node : ℕ) × (node < nodes) × ¬ (HasNode node parts))
+    ⊎ ((session : ℕ) × (session < sessions) × ¬ (HasSession session tellings))

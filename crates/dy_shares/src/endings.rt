@@ -1,0 +1,119 @@
+// How a ledger ends: who is missing, and every share comes back.
+ghost use Rattle.std.specs.Prelude.{◌≡◌, ℕ, ◌+◌, ◌<◌, Decides, IfSome, IfNone};
+ghost use Rattle.std.specs.List.{All};
+ghost use Rattle.dy_shares.specs.Parts.{AgreesAsNode, AgreesAsSession};
+ghost use Rattle.dy_shares.specs.Shares.{HasNode, HasSession};
+
+use crate::chronicles::Chronicle;
+use crate::ledgers::Ledger;
+use crate::names::Naming;
+use crate::node_shares::NodeShare;
+use crate::parts::Row;
+use crate::session_shares::SessionShare;
+
+/// A share is missing. The ledger and all the shares come back, each list in its order.
+pub struct EndRefused<J: Naming> {
+    pub ledger: Ledger<J>,
+    pub nodes: Vec<NodeShare<J>>,
+    pub sessions: Vec<SessionShare<J>>,
+}
+
+impl<J: Naming> EndRefused<J> {
+    /// Ends the ledger without its shares that are missing.
+    pub fn abandon(self) {
+        let EndRefused {
+            ledger,
+            nodes,
+            sessions,
+        } = self;
+        ledger.abandon(nodes, sessions);
+    }
+}
+
+fn has_node<J: Naming>(shares: &[NodeShare<J>], node: usize) -> bool
+    ensures { Decides result (HasNode node shares.now) }
+{
+    shares
+        .iter()
+        .any(|share| share.node().number() as usize == node)
+}
+
+// The least node below this number that has no share among these.
+pub(crate) fn missing_node<J: Naming>(shares: &[NodeShare<J>], nodes: usize) -> Option<usize>
+    ensures some { IfSome result (λ node. (node < nodes) × ¬ (HasNode node shares.now)) }
+    ensures none { IfNone result ((node : ℕ) → node < nodes → HasNode node shares.now) }
+{
+    for node in 0..nodes {
+        if !has_node(shares, node) {
+            return Some(node);
+        }
+    }
+    None
+}
+
+fn has_session<J: Naming>(shares: &[SessionShare<J>], session: usize) -> bool
+    ensures { Decides result (HasSession session shares.now) }
+{
+    shares.iter().any(|share| share.session() == session)
+}
+
+// The least session below this number that has no share among these.
+pub(crate) fn missing_session<J: Naming>(
+    shares: &[SessionShare<J>],
+    sessions: usize,
+) -> Option<usize>
+    ensures some { IfSome result (λ session. (session < sessions) × ¬ (HasSession session shares.now)) }
+    ensures none { IfNone result ((session : ℕ) → session < sessions → HasSession session shares.now) }
+{
+    for session in 0..sessions {
+        if !has_session(shares, session) {
+            return Some(session);
+        }
+    }
+    None
+}
+
+// Compares each node's share with its place of the row, for the last time.
+pub(crate) fn end_nodes<J: Naming>(row: &mut Row<J>, mut shares: Vec<NodeShare<J>>)
+    ensures same { row.new ≡ row.old }
+    ensures low { All (λ p. p.node < J.ring.nodes) shares.items }
+    ensures agree { All (AgreesAsNode row.old) shares.items }
+{
+    while let Some(share) = shares.pop() {
+        share.end(row);
+    }
+    shares.destroy_empty();
+}
+
+// Compares each session's share with its place of the row, for the last time, and its gets with the
+// log.
+pub(crate) fn end_sessions<J: Naming>(
+    row: &mut Row<J>,
+    chronicle: &mut Chronicle<J>,
+    mut shares: Vec<SessionShare<J>>,
+)
+    ensures row { row.new ≡ row.old }
+    ensures chronicle { chronicle.new ≡ chronicle.old }
+    ensures agree { All (AgreesAsSession J.ring.nodes J.r row.old chronicle.old) shares.items }
+{
+    while let Some(share) = shares.pop() {
+        share.end(row, chronicle);
+    }
+    shares.destroy_empty();
+}
+
+// Lets the nodes' shares go, where the ledger goes too.
+pub(crate) fn drop_nodes<J: Naming>(mut shares: Vec<NodeShare<J>>) {
+    while let Some(share) = shares.pop() {
+        share.abandon();
+    }
+    shares.destroy_empty();
+}
+
+// Lets the sessions' shares go, where the ledger goes too.
+pub(crate) fn drop_sessions<J: Naming>(mut shares: Vec<SessionShare<J>>) {
+    while let Some(share) = shares.pop() {
+        share.abandon();
+    }
+    shares.destroy_empty();
+}

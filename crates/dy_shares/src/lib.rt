@@ -1,0 +1,24 @@
+//! What may be said of one log across threads: shares that must be handed in, and witnesses that
+//! stay true.
+#![tactic(auto)]
+
+mod chronicles;
+mod endings;
+mod entries;
+mod ledgers;
+mod names;
+mod node_shares;
+mod parts;
+mod session_shares;
+#[cfg(test)]
+mod tests;
+mod witnesses;
+
+pub use chronicles::Front;
+pub use endings::EndRefused;
+pub use entries::Entry;
+pub use ledgers::{Ledger, MAX_SESSIONS};
+pub use names::{Blank, Naming};
+pub use node_shares::NodeShare;
+pub use session_shares::SessionShare;
+pub use witnesses::{Receipt, Seen, Since};

@@ -1,0 +1,63 @@
+ghost use Rattle.std.specs.Prelude.{◌≡◌, ◌<◌};
+ghost use Rattle.dy_shares.specs.Parts.{AgreesAsNode, done_steps};
+
+use crate::names::Naming;
+use crate::parts::{Row, Share};
+use dy_dots::NodeId;
+use std::marker::Model;
+
+/// A node's share of a book: what the node holds, and its greatest counters, as its own steps show
+/// them. It can't be dropped or copied, and must be handed in.
+pub struct NodeShare<J: Naming> {
+    node: NodeId,
+    pub(crate) share: Share<J>,
+}
+
+impl<J: Naming> Model for NodeShare<J> {
+    ghost use Rattle.std.specs.Prelude.{◌≡◌, ◌<◌};
+    ghost use Rattle.dy_shares.specs.Parts.{done_steps};
+    ghost use Rattle.dy_shares.specs.Shares.{NodePart, node_part_code};
+
+    ghost Value = { NodePart };
+
+    ghost coded = { node_part_code };
+
+    ghost view = { λ s. record { node = s.node; steps = done_steps s.share.part } };
+
+    ghost invariant = { λ s. (s.share.index ≡ s.node) × (s.node < J.ring.nodes) };
+}
+
+impl<J: Naming> NodeShare<J> {
+    // The share of a place as its node's.
+    pub(crate) fn new(node: NodeId, share: Share<J>) -> NodeShare<J>
+        requires place { share.index ≡ node }
+        requires valid { node < J.ring.nodes }
+        ensures { result ≡ record { node = node; steps = done_steps share.part } }
+    {
+        NodeShare { node, share }
+    }
+
+    /// The node whose share it is. Takes no memory.
+    pub fn node(&self) -> NodeId
+        ensures value { result ≡ self.now.node }
+        ensures valid { result < J.ring.nodes }
+    {
+        self.node
+    }
+
+    // Compares the share with its place of the row, for the last time.
+    pub(crate) fn end(self, row: &mut Row<J>)
+        ensures same { row.new ≡ row.old }
+        ensures low { self.node < J.ring.nodes }
+        ensures agrees { AgreesAsNode row.old self }
+    {
+        let NodeShare { node: _, share } = self;
+        row.end(share);
+    }
+
+    // Only a ledger that ends lets a share go.
+    pub(crate) fn abandon(self) {
+        let NodeShare { node: _, share } = self;
+        share.abandon();
+    }
+}

@@ -1,0 +1,239 @@
+// A row of shares, each of which agrees with its place in the row.
+ghost use Rattle.std.specs.Prelude.{◌≡◌, ◌<◌, ◌++◌, ◌∷◌, [], length, slice_set};
+ghost use mathlib.Core.Option.{some};
+ghost use lib.ListN.{get_elem?};
+ghost use Rattle.dy_shares.specs.Agreeing.{knower};
+ghost use Rattle.dy_shares.specs.Parts.{held, with_done};
+
+use crate::entries::{Batch, Done};
+use crate::names::Naming;
+use atomic_table::{Badge, Join, Play, Seat, Split, Table, TableRule};
+use std::alloc::{AllocError, Global};
+use std::collections::LinkedList;
+use std::marker::{Model, PhantomData};
+use std::mem;
+
+/// What a seat knows: the keeper of the row all parts, and a share its index and its own part. No
+/// value of it is made.
+pub struct View {
+    pub keeps: bool,
+    pub parts: LinkedList<LinkedList<Done>>,
+    pub shares: bool,
+    pub index: u64,
+    pub own: LinkedList<Done>,
+}
+
+/// The rule of the row.
+pub struct Agreement;
+
+impl TableRule<Batch, View, ()> for Agreement {
+    ghost use Rattle.std.specs.Prelude.{[]};
+    ghost use Rattle.dy_shares.specs.Agreeing.{Agree, knower};
+
+    ghost holds = { λ key s. Agree s.views };
+
+    ghost first = { λ key. knower [] };
+}
+
+/// The keeper compares the share that it holds.
+pub struct Compare;
+
+impl Play<Batch, View> for Compare {
+    ghost use Rattle.dy_shares.specs.Agreeing.{Compares};
+
+    ghost then = { Compares };
+}
+
+/// The keeper changes the share that it holds, and its place in the row.
+pub struct Grow;
+
+impl Play<Batch, View> for Grow {
+    ghost use Rattle.dy_shares.specs.Agreeing.{Grows};
+    ghost use Rattle.dy_shares.specs.Parts.{numbered};
+
+    ghost then = { Grows (λ batch. numbered batch.first batch.steps.items) };
+}
+
+/// A new place, and its share.
+pub struct Opens;
+
+impl Split<View> for Opens {
+    ghost use Rattle.dy_shares.specs.Agreeing.{opened, newest};
+
+    ghost left = { opened };
+
+    ghost right = { newest };
+}
+
+/// The keeper takes a share in, and gives it out again.
+pub struct Lends;
+
+impl Split<View> for Lends {
+    ghost use Rattle.dy_shares.specs.Agreeing.{alone, lent};
+
+    ghost left = { alone };
+
+    ghost right = { lent };
+}
+
+impl Join<View> for Lends {
+    ghost use Rattle.dy_shares.specs.Agreeing.{holding, nobody};
+
+    ghost both = { holding };
+
+    ghost spent = { nobody };
+}
+
+type Desk = Table<Batch, View, (), Agreement, Global>;
+
+/// A row with no place, not named yet.
+#[derive(Drop)]
+pub struct BlankRow {
+    pub table: Desk,
+    seat: Seat<Batch, View>,
+    pub ghost words: { 0 < table.shared.table_id.words },
+    pub ghost fits: { seat.table_id ≡ table.shared.table_id },
+    pub ghost empty: { seat.me ≡ (knower [], []) },
+}
+
+/// All parts. To a contract it is the list of them.
+#[derive(Drop)]
+pub struct Row<J: Naming> {
+    table: Desk,
+    seat: Seat<Batch, View>,
+    of: PhantomData<J>,
+}
+
+impl<J: Naming> Model for Row<J> {
+    ghost use Rattle.std.specs.Prelude.{◌≡◌, ◌<◌, List, []};
+    ghost use Rattle.dy_shares.specs.Agreeing.{knower};
+    ghost use Rattle.dy_shares.specs.declared.entries.Done.{Done};
+    ghost use Rattle.dy_shares.specs.Parts.{parts_code};
+
+    ghost Value = { List (List Done) };
+
+    ghost coded = { parts_code };
+
+    ghost view = { λ r. r.seat.me.0.parts };
+
+    ghost invariant = { λ r.
+        (r.table.shared.table_id ≡ J.table) × (r.seat.table_id ≡ J.table)
+        × (0 < r.table.shared.table_id.words) × (r.seat.me ≡ (knower r.seat.me.0.parts, [])) };
+}
+
+/// A share of one place. It must be handed in. To a contract it is its index and its part.
+pub struct Share<J: Naming> {
+    index: usize,
+    badge: Badge<View>,
+    of: PhantomData<J>,
+}
+
+impl<J: Naming> Model for Share<J> {
+    ghost use Rattle.std.specs.Prelude.{◌≡◌, [], ◌∷◌};
+    ghost use Rattle.dy_shares.specs.Agreeing.{share_of, part_of};
+    ghost use Rattle.dy_shares.specs.Parts.{Held, held, held_code};
+
+    ghost Value = { Held };
+
+    ghost coded = { held_code };
+
+    ghost view = { λ s. held s.index (part_of s.badge.views) };
+
+    ghost invariant = { λ s.
+        (s.badge.table_id ≡ J.table)
+        × (s.badge.views ≡ share_of s.index (part_of s.badge.views) ∷ []) };
+}
+
+impl BlankRow {
+    pub fn new(alloc: Global) -> Result<BlankRow, AllocError> {
+        let (table, seat) = Table::of_words(alloc, &[0], &())?;
+        Ok(BlankRow { table, seat })
+    }
+
+    pub fn named<J: Naming>(self) -> Row<J>
+        requires { self.table.shared.table_id ≡ J.table }
+        ensures { result ≡ [] }
+    {
+        let BlankRow { table, seat } = self;
+        Row {
+            table,
+            seat,
+            of: PhantomData,
+        }
+    }
+}
+
+impl<J: Naming> Share<J> {
+    pub fn index(&self) -> usize
+        ensures { result ≡ self.now.index }
+    {
+        self.index
+    }
+
+    pub fn abandon(self) {
+        let Share {
+            index: _,
+            badge: _,
+            of: _,
+        } = self;
+    }
+}
+
+impl<J: Naming> Row<J> {
+    /// A new place at the end, and its share. `index` is how many there are.
+    pub fn open(&mut self, index: usize) -> Share<J>
+        requires { index ≡ length self.old }
+        ensures row { self.new ≡ self.old ++ [] ∷ [] }
+        ensures share { result ≡ held index [] }
+    {
+        let table = &self.table;
+        let seat = table.shared.split_seat::<Opens>(&mut self.seat);
+        Share {
+            index,
+            badge: seat.into_badge(),
+            of: PhantomData,
+        }
+    }
+
+    /// The share agrees with its place.
+    pub fn compare(&mut self, share: &mut Share<J>)
+        ensures same { (self.new ≡ self.old) × (share.new ≡ share.old) }
+        ensures agree { get_elem? self.old share.old.index ≡ some share.old.part }
+    {
+        let seat = mem::replace(&mut share.badge, Badge::blank()).into_seat::<Batch>();
+        let table = &self.table;
+        table.shared.join_seat::<Lends>(&mut self.seat, seat);
+        table.shared.load::<Compare>(&mut self.seat, 0);
+        let seat = table.shared.split_seat::<Lends>(&mut self.seat);
+        share.badge = seat.into_badge();
+    }
+
+    /// The steps go to the share and to its place.
+    pub fn grow(&mut self, share: &mut Share<J>, batch: &Batch)
+        ensures row { self.new ≡ slice_set self.old share.old.index
+            (with_done share.old batch.now.first batch.now.steps.items).part }
+        ensures share { share.new ≡ with_done share.old batch.now.first batch.now.steps.items }
+    {
+        let seat = mem::replace(&mut share.badge, Badge::blank()).into_seat::<Batch>();
+        let table = &self.table;
+        table.shared.join_seat::<Lends>(&mut self.seat, seat);
+        table
+            .shared
+            .compare_exchange_with::<Grow>(&mut self.seat, 0, 0, 0, batch);
+        let seat = table.shared.split_seat::<Lends>(&mut self.seat);
+        share.badge = seat.into_badge();
+    }
+
+    /// The share comes back for good.
+    pub fn end(&mut self, mut share: Share<J>)
+        ensures same { self.new ≡ self.old }
+        ensures agree { get_elem? self.old share.index ≡ some share.part }
+    {
+        self.compare(&mut share);
+        let Share {
+            index: _,
+            badge: _,
+            of: _,
+        } = share;
+    }
+}

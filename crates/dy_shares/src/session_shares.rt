@@ -1,0 +1,171 @@
+ghost use Rattle.std.specs.Prelude.{◌≡◌, ℕ, ◌+◌, ◌<◌, ◌≤◌, max, nat_eq, map, length, List, [], OnOk, OnErr, IsOkUnless};
+ghost use Rattle.std.specs.List.{All, IsDistinct};
+ghost use mathlib.Core.List.{IsPrefix};
+ghost use Rattle.dy_core.specs.Logs.{Answer, IsAnswer};
+ghost use Rattle.dy_shares.specs.Parts.{AgreesAsSession, held};
+ghost use Rattle.dy_shares.specs.Shares.{first_session, greatest, since_of, steps_of, with_get};
+
+use crate::chronicles::{Chronicle, Front};
+use crate::names::Naming;
+use crate::parts::{Row, Share};
+use crate::witnesses::{Seen, Since};
+use dy_dots::Fault;
+use std::alloc::Global;
+use std::marker::Model;
+
+// A get as the session was told it.
+#[derive(Drop)]
+pub struct Get<J: Naming> {
+    since: usize,
+    seens: Vec<Seen<J>>,
+}
+
+impl<J: Naming> Model for Get<J> {
+    ghost use Rattle.dy_shares.specs.Shares.{GetTold, get_told_code};
+
+    ghost Value = { GetTold };
+
+    ghost coded = { get_told_code };
+
+    ghost view = { λ g. record { since = g.since; answers = g.seens.items } };
+}
+
+/// A session's share of a book: the acks and the gets that the session was told, each with its step
+/// numbers. It can't be dropped or copied, and must be handed in.
+pub struct SessionShare<J: Naming> {
+    pub(crate) number: usize,
+    pub(crate) share: Share<J>,
+    gets: Vec<Get<J>>,
+    pub(crate) since: usize,
+    // A front at which each get was seen to match the log.
+    pub(crate) front: Front<J>,
+}
+
+impl<J: Naming> Model for SessionShare<J> {
+    ghost use Rattle.dy_shares.specs.Parts.{IsSessionShare, told_parts};
+    ghost use Rattle.dy_shares.specs.Shares.{SessionPart, session_part_code};
+
+    ghost Value = { SessionPart };
+
+    ghost coded = { session_part_code };
+
+    ghost view = { λ s. told_parts s.number s.share.part s.gets.items };
+
+    ghost invariant = { λ s.
+        IsSessionShare J.ring.nodes J.r s.share.index s.since s.front
+        (told_parts s.number s.share.part s.gets.items) };
+}
+
+impl<J: Naming> SessionShare<J> {
+    ghost use Rattle.dy_shares.specs.Shares.{GetMatches};
+
+    // The share of a place as its session's, which was told nothing yet.
+    pub(crate) fn new(
+        alloc: Global,
+        number: usize,
+        share: Share<J>,
+        front: Front<J>,
+    ) -> SessionShare<J>
+        requires { share ≡ held (J.ring.nodes + number) [] }
+        ensures { result ≡ first_session number }
+    {
+        SessionShare {
+            number,
+            share,
+            gets: Vec::new(alloc),
+            since: 0,
+            front,
+        }
+    }
+
+    /// The greatest step number that the session was told. Takes no memory.
+    pub fn since(&self) -> Since<J>
+        ensures { result ≡ since_of self.now }
+    {
+        Since::new(self.since, self.front.copied())
+    }
+
+    /// The number of the session, from 0. Takes no memory.
+    pub fn session(&self) -> usize
+        ensures { result ≡ self.now.session }
+    {
+        self.number
+    }
+
+    /// How many gets the session was told. Takes no memory.
+    pub fn gets(&self) -> usize
+        ensures { result ≡ length self.now.gets }
+    {
+        self.gets.len()
+    }
+
+    /// Tells the session a get: its answers, as many as a get needs, of one key and distinct homes,
+    /// each later than what the session was told before.
+    pub fn note_get(&mut self, seens: Vec<Seen<J>>) -> Result<(), Fault>
+        requires count { length seens.items ≡ J.r }
+        requires one_key { (key : List ℕ) × All (λ a. a.key ≡ key) seens.items }
+        requires homes { IsDistinct nat_eq (map (λ a. a.home) seens.items) }
+        requires later { All (λ a. since_of self.old < a.at) seens.items }
+        ensures ok { OnOk result (self.new ≡ with_get self.old (since_of self.old) seens.items) }
+        ensures err { OnErr result (self.new ≡ self.old) }
+        ensures memory { IsOkUnless result Fault.OutOfMemory }
+    {
+        self.gets.reserve(1)?;
+        let since = self.since;
+        self.since = learn_all(&mut self.front, since, seens.as_slice());
+        self.gets.push_reserved(Get { since, seens });
+        Ok(())
+    }
+
+    // The log as it stood, at which each get matches it.
+    pub(crate) fn front(&self) -> &Front<J>
+        ensures { All (GetMatches (steps_of result.now) J.r) self.now.gets }
+    {
+        &self.front
+    }
+
+    // Compares the share with its place of the row, for the last time, and its gets with the log.
+    pub(crate) fn end(self, row: &mut Row<J>, chronicle: &mut Chronicle<J>)
+        ensures row { row.new ≡ row.old }
+        ensures chronicle { chronicle.new ≡ chronicle.old }
+        ensures agrees { AgreesAsSession J.ring.nodes J.r row.old chronicle.old self }
+    {
+        let SessionShare {
+            number: _,
+            share,
+            gets: _,
+            since: _,
+            front,
+        } = self;
+        row.end(share);
+        chronicle.learn(&front);
+    }
+
+    // Only a ledger that ends lets a share go.
+    pub(crate) fn abandon(self) {
+        let SessionShare {
+            number: _,
+            share,
+            gets: _,
+            since: _,
+            front: _,
+        } = self;
+        share.abandon();
+    }
+}
+
+// Makes the front one at which all of the answers hold, and gives the greatest number.
+fn learn_all<J: Naming>(front: &mut Front<J>, since: usize, seens: &[Seen<J>]) -> usize
+    requires { since ≤ length front.old }
+    ensures front { IsPrefix front.old front.new }
+    ensures are { All (IsAnswer (steps_of front.new)) seens.now }
+    ensures since { result ≡ max since (greatest (map (λ a. a.at) seens.now)) }
+    ensures reached { result ≤ length front.new }
+{
+    let mut latest = since;
+    for seen in seens {
+        front.join(seen.front());
+        latest = latest.max(seen.at());
+    }
+    latest
+}
