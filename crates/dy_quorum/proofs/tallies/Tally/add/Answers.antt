@@ -1,0 +1,33 @@
+use Rattle.std.proofs.Common.{length-append, ◌≡◌, ◌<◌, ◌≤◌, ◌+◌, ◌++◌, ◌∷◌, [], ℕ, arith, refl, sym, ◌∙◌, ap, subst, length, map, get_or, true, false}
+use Rattle.std.proofs.lemmas.List.{length-map}
+use Rattle.dy_shares.specs.Shares.{ReceiptParts}
+use Rattle.dy_quorum.specs.Tallies.{Counted, FitsAll, firsts, receipt_homes}
+use Rattle.dy_quorum.proofs.TallyLemmas.{count_push, homes_same, homes_more, choice_ready, choice_lacks, choice_taken, few_firsts, chosen_more, chosen_same}
+use Rattle.dy_quorum.proofs.tallies.Tally.add.Goals as goal
+use Rattle.dy_quorum.proofs.tallies.Tally.add.Goals.{then-not-contains, else-not-contains}
+
+pub push_reserved-requires : goal.push_reserved-requires
+push_reserved-requires g c =
+    let n : length c.self.inside.homes.items ≡ length (firsts c.self.inside.added.items) = ap length c.self.invariant.0 ∙ length-map (firsts c.self.inside.added.items) (λ (r : ReceiptParts). r.home) in
+    let i = c.self.invariant.1 in
+    let few = i.few in
+    let cap = c.self.invariant.4 in
+    let P : Counted → Type 0 = λ t. length t.added < 64 in
+    let room : length c.self.inside.added.items < 64 = subst P (sym c.self.view_is) c.requires.room in
+    omega (arith, c.self.inside.homes.ok)
+
+pub invariant_of-self : goal.invariant_of-self
+invariant_of-self g c =
+    let inv = c.self.invariant in
+    let P : Counted → Type 0 = λ t. length t.added < 64 in
+    let room : length c.self.inside.added.items < 64 = subst P (sym c.self.view_is) c.requires.room in
+    let Q : Counted → Type 0 = λ t. FitsAll t.added c.args.receipt in
+    let fits : FitsAll c.self.inside.added.items c.args.receipt = subst Q (sym c.self.view_is) c.requires.fits in
+    let tested = rw (c.deref.ensures.value, c.home-home.ensures) at c.contains.ensures.value in
+    let more : length (c.self.inside.added.items ++ c.args.receipt ∷ []) ≡ length c.self.inside.added.items + 1 = length-append c.self.inside.added.items (c.args.receipt ∷ []) in
+    rw (c.push_reserved-2.ensures.items, c.push_reserved-2.ensures.capacity) (elim c.if-not-contains.branch [
+      | then-not-contains w ↦ rw (w.self-inside-is)
+          (rw (w.push_reserved.ensures.items, c.home-home.ensures) (homes_more c.self.inside.added.items c.args.receipt _ inv.0 (sym tested ∙ w.if-not-contains.true)), count_push _ _ inv.1 fits, omega arith, inv.3, rw w.push_reserved.ensures.capacity inv.4, inv.5, inv.6)
+      | else-not-contains w ↦ rw (w.self-inside-is)
+          (homes_same c.self.inside.added.items c.args.receipt _ inv.0 (sym tested ∙ w.if-not-contains.false), count_push _ _ inv.1 fits, omega arith, inv.3, inv.4, inv.5, inv.6)
+    ])

@@ -1,0 +1,35 @@
+use Rattle.std.proofs.Common.{◌≡◌, ◌++◌, ◌∷◌, [], ℕ, arith, refl, sym, ◌∙◌, subst, List, take}
+use Rattle.dy_shares.specs.Shares.{ReceiptParts}
+use Rattle.dy_quorum.specs.Tallies.{Counted, IsChoice, CanChoose}
+use Rattle.dy_quorum.proofs.TallyLemmas.{homes_same, homes_more, choice_taken, few_firsts, chosen_more, chosen_same}
+use Rattle.dy_quorum.proofs.tallies.first_of_each.Goals as goal
+
+pub loop-receipt-preserved-then-not-contains : goal.loop-receipt-preserved-then-not-contains
+loop-receipt-preserved-then-not-contains g c =
+    let inv = c.loop-receipt.invariant in
+    let xs = c.loop-receipt.yielded in
+    let x = c.in-Some.receipt in
+    let tested = rw (c.deref.ensures.value, c.home-home.ensures) at c.contains.ensures.value in
+    let lacks = sym tested ∙ c.if-not-contains.true in
+    record {
+      chosen = rw c.push_reserved-then-not-contains.ensures.items (chosen_more xs _ x _ inv.homes inv.chosen lacks);
+      homes = rw (c.push_reserved.ensures.items, c.home-home.ensures) (homes_more xs x _ inv.homes lacks);
+      few = few_firsts xs x inv.few;
+      homes_room = rw c.push_reserved.ensures.capacity inv.homes_room;
+      chosen_room = rw c.push_reserved-then-not-contains.ensures.capacity inv.chosen_room;
+    }
+
+pub loop-receipt-preserved : goal.loop-receipt-preserved
+loop-receipt-preserved g c =
+    let inv = c.loop-receipt.invariant in
+    let xs = c.loop-receipt.yielded in
+    let x = c.in-Some.receipt in
+    let tested = rw (c.deref.ensures.value, c.home-home.ensures) at c.contains.ensures.value in
+    let has = sym tested ∙ c.if-not-contains.false in
+    record {
+      chosen = chosen_same xs _ x _ inv.homes inv.chosen has;
+      homes = homes_same xs x _ inv.homes has;
+      few = few_firsts xs x inv.few;
+      homes_room = inv.homes_room;
+      chosen_room = inv.chosen_room;
+    }

@@ -1,0 +1,12 @@
+use Rattle.std.proofs.Common.{◌≡◌, ◌≤◌, length, vec_capacity, vec_len}
+use Rattle.dy_quorum.specs.Tallies.{firsts, receipt_homes}
+use Rattle.dy_quorum.proofs.tallies.first_of_each.Given as goal
+
+abbrev pub invariant-loop-receipt : goal.invariant-loop-receipt
+invariant-loop-receipt g l = record {
+  chosen : l.chosen.items ≡ firsts l.yielded;
+  homes : l.homes.items ≡ receipt_homes (firsts l.yielded);
+  few : length (firsts l.yielded) ≤ length l.yielded;
+  homes_room : 64 ≤ vec_capacity l.homes;
+  chosen_room : 64 ≤ vec_capacity l.chosen;
+}

@@ -1,0 +1,146 @@
+ghost use Rattle.std.specs.Prelude.{◌≡◌, ◌<◌, ◌≤◌, ◌++◌, ◌∷◌, [], ◌↔◌, ℕ, length, IsTrue, IfOk, IsOkUnless, vec_capacity};
+ghost use Rattle.dy_quorum.specs.Tallies.{Counted, Agrees, FitsAll, IsChoice, CanChoose, firsts};
+
+use dy_dots::{Fault, NodeId};
+use dy_shares::{Naming, Receipt};
+use std::alloc::Global;
+use std::marker::Model;
+
+/// How many receipts a tally has room for.
+pub const TALLY_ROOM: usize = 64;
+
+/// The receipts of one put, and the homes among them. Among receipts that fit, a holder holds for one
+/// home, so receipts of distinct homes have distinct holders, and it is enough to count the homes.
+#[derive(Drop)]
+pub struct Tally<J: Naming> {
+    w: usize,
+    added: Vec<Receipt<J>>,
+    homes: Vec<NodeId>,
+    chosen: Vec<Receipt<J>>,
+}
+
+impl<J: Naming> Model for Tally<J> {
+    ghost use Rattle.std.specs.Prelude.{◌≡◌, ◌≤◌, [], length, map, vec_capacity};
+    ghost use Rattle.dy_quorum.specs.Tallies.{Counted, IsCount, firsts};
+
+    ghost Value = { Counted };
+
+    ghost view = { λ t. record { w = t.w; added = t.added.items } };
+
+    ghost invariant = { λ t.
+        (t.homes.items ≡ map (λ r. r.home) (firsts t.added.items))
+        × IsCount t.added.items (firsts t.added.items)
+        × (length t.added.items ≤ 64)
+        × (64 ≤ vec_capacity t.added)
+        × (64 ≤ vec_capacity t.homes)
+        × (64 ≤ vec_capacity t.chosen)
+        × (t.chosen.items ≡ []) };
+}
+
+fn agrees<J: Naming>(one: &Receipt<J>, other: &Receipt<J>) -> bool
+    ensures { IsTrue result ↔ Agrees one.now other.now }
+{
+    one.key() == other.key()
+        && one.dot() == other.dot()
+        && (one.holder() != other.holder() || one.home() == other.home())
+}
+
+fn all_agree<J: Naming>(list: &[Receipt<J>], receipt: &Receipt<J>) -> bool
+    ensures { IsTrue result ↔ FitsAll list.now receipt.now }
+{
+    for one in list {
+        if !agrees(one, receipt) {
+            return false;
+        }
+    }
+    true
+}
+
+// The first receipt of each home, in their order.
+fn first_of_each<J: Naming>(
+    added: Vec<Receipt<J>>,
+    mut homes: Vec<NodeId>,
+    mut chosen: Vec<Receipt<J>>,
+) -> Vec<Receipt<J>>
+    requires few { length added.items ≤ 64 }
+    requires homes { 64 ≤ vec_capacity homes }
+    requires chosen { 64 ≤ vec_capacity chosen }
+    requires empty { chosen.items ≡ [] }
+    ensures { result.items ≡ firsts added.items }
+{
+    homes.clear();
+    for receipt in added {
+        let home = receipt.home();
+        if !homes.contains(&home) {
+            homes.push_reserved(home);
+            chosen.push_reserved(receipt);
+        }
+    }
+    chosen
+}
+
+impl<J: Naming> Tally<J> {
+    /// No receipts yet, of a put that needs w homes.
+    pub fn new(alloc: Global, w: usize) -> Result<Tally<J>, Fault>
+        ensures memory { IsOkUnless result Fault.OutOfMemory }
+        ensures value { IfOk result (λ t. t ≡ record { w = w; added = [] }) }
+    {
+        let added = Vec::with_capacity(alloc, TALLY_ROOM)?;
+        let homes = Vec::with_capacity(alloc, TALLY_ROOM)?;
+        let chosen = Vec::with_capacity(alloc, TALLY_ROOM)?;
+        Ok(Tally {
+            w,
+            added,
+            homes,
+            chosen,
+        })
+    }
+
+    /// Whether each receipt added has this one's key and dot, and none has its holder with another
+    /// home. Takes no memory.
+    pub fn fits(&self, receipt: &Receipt<J>) -> bool
+        ensures { IsTrue result ↔ FitsAll self.now.added receipt.now }
+    {
+        all_agree(&self.added, receipt)
+    }
+
+    /// Adds the receipt. Takes no memory.
+    pub fn add(&mut self, receipt: Receipt<J>)
+        requires fits { FitsAll self.old.added receipt }
+        requires room { length self.old.added < 64 }
+        ensures { self.new ≡ record { w = self.old.w; added = self.old.added ++ receipt ∷ [] } }
+    {
+        let home = receipt.home();
+        if !self.homes.contains(&home) {
+            self.homes.push_reserved(home);
+        }
+        self.added.push_reserved(receipt);
+    }
+
+    /// Whether w receipts of distinct homes and distinct holders can be chosen from those added. Takes
+    /// no memory.
+    pub fn ready(&self) -> bool
+        ensures { IsTrue result ↔ CanChoose self.now.w self.now.added }
+    {
+        if self.w <= self.homes.len() {
+            return true;
+        }
+        false
+    }
+
+    /// Such w receipts. Takes no memory.
+    pub fn into_receipts(self) -> Vec<Receipt<J>>
+        requires { CanChoose self.w self.added }
+        ensures { IsChoice self.w self.added result.items }
+    {
+        let Tally {
+            w,
+            added,
+            homes,
+            chosen,
+        } = self;
+        let mut first = first_of_each(added, homes, chosen);
+        first.truncate(w);
+        first
+    }
+}
