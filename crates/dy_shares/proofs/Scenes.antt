@@ -42,23 +42,29 @@ no_row w h o key none (v ∷ vs) = rw (and_no (same_key v.key key) (w.holdings h
 holds_nothing : (ss : List Step) (p : NodePart) → p.steps ≡ [] → BelongsTo ss p → (home : ℕ) (key : List ℕ) (d : Dot) → (world_after ss).holdings p.node home key d ≡ false
 holds_nothing ss p none b home key d = sym (b.shows_holdings home key d) ∙ ap (λ own. (shown_from empty_world own).holdings p.node home key d) none
 
+-- the answer to a fetch is the row that is held there, and the fetch is the last step
+pub answers_last : (log : List Entry) (holder home : ℕ) (key : List ℕ) (row : List Version) → IsSameRow row (row_at (world_after (steps_of log)) holder home key)
+    → IsAnswer (steps_of (log ++ untold (Fetch holder home key) ∷ [])) (record { at = length log + 1; holder = holder; home = home; key = key; row = row })
+answers_last log holder home key row is =
+    let ss = steps_of log in
+    let f = Fetch holder home key in
+    let all : steps_of (log ++ untold f ∷ []) ≡ ss ++ f ∷ [] = steps_of-append log (untold f ∷ []) in
+    let number : length log + 1 - 1 ≡ length ss = omega (arith, steps_of-length log) in
+    let before : take (length log + 1 - 1) (ss ++ f ∷ []) ≡ ss = ap (λ n. take n (ss ++ f ∷ [])) number ∙ (take-append-le (length ss) ss (f ∷ []) (omega arith) ∙ taken_all ss) in
+    subst (λ xs. IsAnswer xs (record { at = length log + 1; holder = holder; home = home; key = key; row = row })) (sym all)
+    (record {
+      from_one = omega arith;
+      is_fetch = ap (slice_get (ss ++ f ∷ [])) number ∙ got_last ss f;
+      is_row = subst (λ xs. IsSameRow row (row_at (world_after xs) holder home key)) (sym before) is;
+    })
+
 -- such a node answers the empty row
 pub answers_nothing : (log : List Entry) (p : NodePart) (key : List ℕ) → p.steps ≡ [] → BelongsTo (steps_of log) p
     → IsAnswer (steps_of (log ++ untold (Fetch p.node p.node key) ∷ [])) (record { at = length log + 1; holder = p.node; home = p.node; key = key; row = [] })
 answers_nothing log p key none b =
     let ss = steps_of log in
-    let f = Fetch p.node p.node key in
-    let all : steps_of (log ++ untold f ∷ []) ≡ ss ++ f ∷ [] = steps_of-append log (untold f ∷ []) in
-    let number : length log + 1 - 1 ≡ length ss = omega (arith, steps_of-length log) in
-    let before : take (length log + 1 - 1) (ss ++ f ∷ []) ≡ ss = ap (λ n. take n (ss ++ f ∷ [])) number ∙ (take-append-le (length ss) ss (f ∷ []) (omega arith) ∙ taken_all ss) in
     let empty : row_at (world_after ss) p.node p.node key ≡ [] = no_row (world_after ss) p.node p.node key (holds_nothing ss p none b p.node key) (world_after ss).versions in
-    subst (λ xs. IsAnswer xs (record { at = length log + 1; holder = p.node; home = p.node; key = key; row = [] })) (sym all)
-    (record {
-      from_one = omega arith;
-      is_fetch = ap (slice_get (ss ++ f ∷ [])) number ∙ got_last ss f;
-      is_row = subst (λ xs. IsSameRow [] (row_at (world_after xs) p.node p.node key)) (sym before)
-          (subst (IsSameRow []) (sym empty) (λ v. ((λ h. h), (λ h. h))));
-    })
+    answers_last log p.node p.node key [] (subst (IsSameRow []) (sym empty) (λ v. ((λ h. h), (λ h. h))))
 
 -- such a node may make its first version
 pub may_issue : (ring : Tokens) (n : ℕ) (log : List Entry) (p : NodePart) (asked key : List ℕ) (value : Option (List ℕ)) → p.steps ≡ [] → BelongsTo (steps_of log) p
@@ -75,3 +81,7 @@ may_issue ring n log p asked key value none b =
 pub none_twice : IsDistinct nat_eq []
 unfolding IsDistinct
 none_twice = tt
+
+pub one_alone : (n : ℕ) → IsDistinct nat_eq (n ∷ [])
+unfolding IsDistinct
+one_alone n = (tt, tt)

@@ -9,10 +9,12 @@ mod ledgers;
 mod names;
 mod node_shares;
 mod parts;
+mod receipts;
+mod seens;
 mod session_shares;
+mod sinces;
 #[cfg(test)]
 mod tests;
-mod witnesses;
 
 pub use chronicles::Front;
 pub use endings::EndRefused;
@@ -20,5 +22,7 @@ pub use entries::Entry;
 pub use ledgers::{Ledger, MAX_SESSIONS};
 pub use names::{Blank, Naming};
 pub use node_shares::NodeShare;
+pub use receipts::Receipt;
+pub use seens::Seen;
 pub use session_shares::SessionShare;
-pub use witnesses::{Receipt, Seen, Since};
+pub use sinces::Since;

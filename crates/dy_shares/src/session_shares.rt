@@ -8,7 +8,8 @@ ghost use Rattle.dy_shares.specs.Shares.{first_session, greatest, since_of, step
 use crate::chronicles::{Chronicle, Front};
 use crate::names::Naming;
 use crate::parts::{Row, Share};
-use crate::witnesses::{Seen, Since};
+use crate::seens::Seen;
+use crate::sinces::Since;
 use dy_dots::Fault;
 use std::alloc::Global;
 use std::marker::Model;

@@ -1,6 +1,9 @@
 ghost use Rattle.std.specs.Prelude.{◌≡◌, []};
 ghost use Rattle.std.specs.List.{All};
 
+mod scenes;
+mod watched;
+
 use crate::{Blank, EndRefused, Ledger, Naming, NodeShare, Seen};
 use dy_core::Step;
 use dy_dots::{Context, Fault};

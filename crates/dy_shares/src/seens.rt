@@ -1,0 +1,121 @@
+ghost use Rattle.std.specs.Prelude.{◌≡◌, ◌≤◌, length, IfOk, IsOkUnless};
+ghost use Rattle.dy_core.specs.Logs.{IsAnswer};
+ghost use Rattle.dy_shares.specs.Shares.{answer_of, steps_of};
+
+use crate::chronicles::Front;
+use crate::names::Naming;
+use dy_dots::{Fault, NodeId};
+use dy_siblings::{Key, Row};
+use std::alloc::Global;
+use std::marker::Model;
+
+/// An answer to a get: the step of this number is a fetch at the holder for the home and the key,
+/// with this row. It stays true, whatever steps come, and may be dropped.
+#[derive(Drop)]
+pub struct Seen<J: Naming> {
+    at: usize,
+    holder: NodeId,
+    home: NodeId,
+    key: Key,
+    row: Row,
+    front: Front<J>,
+}
+
+impl<J: Naming> Model for Seen<J> {
+    ghost use Rattle.std.specs.Prelude.{◌≡◌};
+    ghost use Rattle.dy_core.specs.Logs.{Answer, IsAnswer};
+    ghost use Rattle.dy_shares.specs.Shares.{answer_code, answer_of, steps_of};
+
+    ghost Value = { Answer };
+
+    ghost coded = { answer_code };
+
+    ghost view = { λ s. answer_of s.at s.holder s.home s.key s.row };
+
+    ghost invariant = { λ s.
+        IsAnswer (steps_of s.front) (answer_of s.at s.holder s.home s.key s.row)
+        × (s.row.key ≡ s.key) };
+}
+
+impl<J: Naming> Seen<J> {
+    // What the log has at this number as it stood at the front.
+    pub(crate) fn new(
+        at: usize,
+        holder: NodeId,
+        home: NodeId,
+        key: Key,
+        row: Row,
+        front: Front<J>,
+    ) -> Seen<J>
+        requires is { IsAnswer (steps_of front) (answer_of at holder home key row) }
+        requires of_key { row.key ≡ key }
+        ensures { result ≡ answer_of at holder home key row }
+    {
+        Seen {
+            at,
+            holder,
+            home,
+            key,
+            row,
+            front,
+        }
+    }
+
+    /// The number of the step, from 1. Takes no memory.
+    pub fn at(&self) -> usize
+        ensures { result ≡ self.now.at }
+    {
+        self.at
+    }
+
+    /// The node that answered. Takes no memory.
+    pub fn holder(&self) -> NodeId
+        ensures { result ≡ self.now.holder }
+    {
+        self.holder
+    }
+
+    /// The home that it answered for. Takes no memory.
+    pub fn home(&self) -> NodeId
+        ensures { result ≡ self.now.home }
+    {
+        self.home
+    }
+
+    /// The key that was asked for. Takes no memory.
+    pub fn key(&self) -> &Key
+        ensures { result.now ≡ self.now.key }
+    {
+        &self.key
+    }
+
+    /// The row that was held there. Takes no memory.
+    pub fn row(&self) -> &Row
+        ensures { result.now ≡ record { key = self.now.key; versions = self.now.row } }
+    {
+        &self.row
+    }
+
+    /// A copy, as true as the answer.
+    pub fn try_clone(&self, alloc: Global) -> Result<Seen<J>, Fault>
+        ensures value { IfOk result (λ seen. seen ≡ self.now) }
+        ensures memory { IsOkUnless result Fault.OutOfMemory }
+    {
+        Ok(Seen {
+            at: self.at,
+            holder: self.holder,
+            home: self.home,
+            key: self.key.try_clone(alloc)?,
+            row: self.row.try_clone(alloc)?,
+            front: self.front.copied(),
+        })
+    }
+
+    // The log as it stood, at which it was made.
+    pub(crate) fn front(&self) -> &Front<J>
+        ensures is { IsAnswer (steps_of result.now) self.now }
+        ensures reached { self.now.at ≤ length result.now }
+    {
+        &self.front
+    }
+}
