@@ -2,6 +2,8 @@
 #![tactic(auto)]
 
 mod givens;
+#[cfg(test)]
+mod growths;
 mod rings;
 #[cfg(test)]
 mod tests;
