@@ -1,5 +1,5 @@
 -- A token's bytes as they stand in room for 16.
-use Rattle.std.proofs.Common.{◌≡◌, ℕ, ◌-◌, ◌*◌, ◌/◌, ◌%◌, ◌≤◌, ◌==◌, ◌&&◌, nat_le, true, List, ◌++◌, length, take, drop, replicate, Option, Some, None, Result, Ok, Err, MatchResult, refl, sym, ap, ◌∙◌, arith, tests, rules}
+use Rattle.std.proofs.Common.{◌≡◌, ◌⊎◌, inl, inr, ℕ, ◌-◌, ◌*◌, ◌/◌, ◌%◌, ◌<◌, ◌≤◌, ◌==◌, ◌&&◌, nat_le, true, false, List, ◌++◌, length, take, drop, replicate, Option, Some, None, Result, Ok, Err, MatchResult, refl, sym, ap, ◌∙◌, arith, tests, rules}
 use Rattle.std.proofs.lemmas.Bool.Decides.{nat_tests}
 use Rattle.std.proofs.lemmas.List.{drop-replicate, length-take-le}
 use Rattle.std.specs.Int.{w128, from_be_bytes}
@@ -28,19 +28,28 @@ sized_half text n e = grind (arith, nat_tests)
 fits : (n : ℕ) → 2 ≤ n → n ≤ 32 → (nat_le 2 n && nat_le n 32) ≡ true
 fits n low high = grind (arith, nat_tests)
 
+misfits : (n : ℕ) → (n / 2 ≡ 0) ⊎ ((n / 2 ≡ 0 → ⊥) × (32 < n)) → (nat_le 2 n && nat_le n 32) ≡ false
+misfits n (inl h) = grind (arith, nat_tests)
+misfits n (inr h) = let l = h.1 in grind (arith, nat_tests)
+
+-- a text of another length names no position
+pub token_misfit : (text : List ℕ) → (length text / 2 ≡ 0) ⊎ ((length text / 2 ≡ 0 → ⊥) × (32 < length text)) → token_of text ≡ None
+token_misfit text h = rw (misfits (length text) h) refl
+
 -- what decoding answers is what the token is read from
 read_within : (text : List ℕ) → 2 ≤ length text → length text ≤ 32 → token_of text ≡ position_read (decode_of text)
 read_within text low high = rw (fits (length text) low high) refl
 
 -- the decoded bytes before what was left of sixteen zeros are the position
-pub token_good : (text out : List ℕ) (n : ℕ) → n ≡ length text / 2 → 2 ≤ length text → length text ≤ 32 → decode_sized text n ≡ Ok out
-    → token_of text ≡ Some (from_be_bytes w128 (out ++ drop (length text / 2) (replicate 16 0)))
-token_good text out n e low high h =
+pub token_good : (text bytes out : List ℕ) (n position : ℕ) → position ≡ from_be_bytes w128 bytes → bytes ≡ out ++ drop (length text / 2) (replicate 16 0)
+    → n ≡ length text / 2 → 2 ≤ length text → length text ≤ 32 → decode_sized text n ≡ Ok out → Some position ≡ token_of text
+token_good text bytes out n position p b e low high h =
     let d = sym (sized_half text n e) ∙ h in
     let l : length text ≡ 2 * length out = (decode_of-ok text out d).2 in
     let m : 16 - length text / 2 ≡ 16 - length out = omega arith in
     let z = drop-replicate (length text / 2) 16 0 ∙ ap (λ k. replicate k 0) m in
-    read_within text low high ∙ ap position_read d ∙ ap (λ zs. Some (from_be_bytes w128 (out ++ zs))) (sym z)
+    let t = read_within text low high ∙ ap position_read d in
+    sym (t ∙ sym (ap Some (p ∙ ap (from_be_bytes w128) (b ∙ ap (λ zs. out ++ zs) z))))
 
 -- digits that don't decode name no position
 pub token_bad : (text : List ℕ) (n : ℕ) (e : FromHexError) → n ≡ length text / 2 → 2 ≤ length text → length text ≤ 32 → decode_sized text n ≡ Err e

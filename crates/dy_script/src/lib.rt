@@ -25,7 +25,7 @@ pub use places::{At, Places, StoredAt};
 pub use printed::{Hex, Nodes, Position};
 pub use reading::read;
 pub use rings::{KeyLine, TokenLine};
-pub use runners::{MAX_STEPS, MAX_VERSIONS, Runner};
+pub use runners::{MAX_STEPS, MAX_VERSIONS};
 pub use scripts::{Layout, Limits, MAX_COMMANDS, MAX_SCRIPT_SESSIONS, Script};
 pub use stops::Stopped;
 pub use tokens::token;

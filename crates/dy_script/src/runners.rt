@@ -1,3 +1,5 @@
+ghost use Rattle.std.specs.Prelude.{IsOkUnless};
+
 use crate::commands::{Command, Write};
 use crate::outcomes::{Outcome, Word};
 use crate::scripts::{Layout, Script};
@@ -16,7 +18,7 @@ pub const MAX_STEPS: u64 = 1_000_000;
 
 /// A cluster whose nodes are all up, as one world, and what a script asks of it.
 #[derive(Debug, Drop)]
-pub struct Runner {
+pub(crate) struct Runner {
     world: World,
     r: u8,
     w: u8,
@@ -30,7 +32,7 @@ pub struct Runner {
 impl Runner {
     /// The empty cluster that the script asks for. A command that only nodes which go down or answer
     /// late make use of is refused here, for now.
-    pub fn open(alloc: Global, script: &Script) -> Result<Runner, Fault> {
+    pub(crate) fn open(alloc: Global, script: &Script) -> Result<Runner, Fault> {
         if let Some(command) = first_unready(script.run.as_slice()) {
             return Err(Fault::UnknownCommand { command });
         }
@@ -56,7 +58,9 @@ impl Runner {
     }
 
     /// Runs the command. Want of memory alone is an error; any other refusal is the outcome.
-    pub fn run(&mut self, alloc: Global, command: &Command) -> Result<Outcome, Fault> {
+    pub(crate) fn run(&mut self, alloc: Global, command: &Command) -> Result<Outcome, Fault>
+        ensures memory { IsOkUnless result Fault.OutOfMemory }
+    {
         let (word, outcome) = match command {
             Command::Put { write, value } => (Word::Put, self.put(alloc, write, value.as_slice())),
             Command::Delete { write } => (Word::Delete, self.delete(alloc, write)),
@@ -76,17 +80,17 @@ impl Runner {
     }
 
     /// How many gets were answered. Takes no memory.
-    pub fn gets(&self) -> usize {
+    pub(crate) fn gets(&self) -> usize {
         self.gets
     }
 
     /// The world that the commands made. Takes no memory.
-    pub fn world(&self) -> &World {
+    pub(crate) fn world(&self) -> &World {
         &self.world
     }
 
     /// The number of homes that a put is acknowledged by, where it names none itself. Takes no memory.
-    pub fn w(&self) -> u8 {
+    pub(crate) fn w(&self) -> u8 {
         self.w
     }
 

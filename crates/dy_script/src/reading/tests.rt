@@ -30,6 +30,15 @@ fn with_command(alloc: Global, members: &str) -> Result<String, Fault> {
     with(alloc, run.as_str())
 }
 
+/// A command whose member `x`, which it does not have, is so many nines.
+fn nines(alloc: Global, count: u32) -> Result<String, Fault> {
+    let mut members = String::from_str(alloc, r#""do":"get","key":"a","x":"#)?;
+    for _ in 0..count {
+        members.push_str("9")?;
+    }
+    with_command(alloc, members.as_str())
+}
+
 /// A command whose member `x`, which it does not have, is so many lists in one another.
 fn nested(alloc: Global, lists: u32) -> Result<String, Fault> {
     let mut members = String::from_str(alloc, r#""do":"get","key":"a","x":"#)?;
@@ -135,6 +144,14 @@ fn judges_members_of_scripts(rt: HostRuntime) -> Result<(), Fail> {
         (r#","keys":[""]"#, SCRIPT),
         (r#","keys":"a""#, SCRIPT),
         (r#","keys":[1]"#, SCRIPT),
+        (
+            r#","keys":["0123456789abcdef0123456789abcdef0123456789abcdef0123456789abcdef"]"#,
+            None,
+        ),
+        (
+            r#","keys":["0123456789abcdef0123456789abcdef0123456789abcdef0123456789abcdef0"]"#,
+            SCRIPT,
+        ),
         (r#","tokens":[["20"]]"#, SCRIPT),
         (r#","derived":{"nodes":1}"#, SCRIPT),
         (r#","derived":{"nodes":1,"per_node":0}"#, None),
@@ -142,6 +159,15 @@ fn judges_members_of_scripts(rt: HostRuntime) -> Result<(), Fail> {
         (r#","run":[]"#, None),
         (r#","run":{}"#, SCRIPT),
         (r#","run":null"#, SCRIPT),
+        // The nodes are counted before the ring is made, which would refuse so many.
+        (
+            r#","derived":{"nodes":255,"per_node":1},"run":[{"do":"up","node":254}]"#,
+            None,
+        ),
+        (
+            r#","derived":{"nodes":255,"per_node":1},"run":[{"do":"up","node":255}]"#,
+            FIRST,
+        ),
         // A script's own members come before its commands, wherever they stand.
         (r#","run":[{}],"x":1"#, SCRIPT),
         (r#","run":[{}],"settled":1"#, SCRIPT),
@@ -163,6 +189,8 @@ fn judges_tokens(rt: HostRuntime) -> Result<(), Fail> {
     let alloc = rt.alloc();
     for (tokens, wanted) in [
         (r#"[["20"],["60","A0"]]"#, None),
+        (r#"[["20","2000"]]"#, None),
+        (r#"[["20",null]]"#, SCRIPT),
         ("[]", None),
         ("[[]]", None),
         (r#"["20"]"#, SCRIPT),
@@ -198,6 +226,7 @@ fn judges_commands(rt: HostRuntime) -> Result<(), Fail> {
         (r#""do":"put","key":"a","value":"","session":31"#, None),
         (r#""do":"put","key":"a","value":"","session":32"#, FIRST),
         (r#""do":"put","key":"a","value":"","session":1.0"#, FIRST),
+        (r#""do":"put","key":"a","value":"","session":null"#, FIRST),
         (r#""do":"put","key":"a","value":"","w":255"#, None),
         (r#""do":"put","key":"a","value":"","w":256"#, FIRST),
         (r#""do":"put","key":"a","value":"","w":-1"#, FIRST),
@@ -218,6 +247,7 @@ fn judges_commands(rt: HostRuntime) -> Result<(), Fail> {
         (r#""do":"fault","node":0,"mode":"Mute""#, FIRST),
         (r#""do":"fault","node":1,"mode":"mute""#, FIRST),
         (r#""do":1"#, FIRST),
+        (r#""do":"gett","do":"get","key":"a""#, None),
         (r#""key":"a""#, FIRST),
         // A word that names no command comes before what else is wrong.
         (r#""do":"Put""#, Some(Fault::UnknownCommand { command: 1 })),
@@ -245,6 +275,8 @@ fn judges_commands(rt: HostRuntime) -> Result<(), Fail> {
         let text = with_command(alloc, members)?;
         assert_eq!(rt; refusal(alloc, text.as_bytes()), wanted, "{members}");
     }
+    assert_eq!(rt; refusal(alloc, nines(alloc, 308)?.as_bytes()), FIRST);
+    assert_eq!(rt; refusal(alloc, nines(alloc, 309)?.as_bytes()), SCRIPT);
     assert_eq!(rt; refusal(alloc, nested(alloc, 124)?.as_bytes()), FIRST);
     assert_eq!(rt; refusal(alloc, nested(alloc, 125)?.as_bytes()), SCRIPT);
     Ok(())
