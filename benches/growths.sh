@@ -1,15 +1,27 @@
 #!/bin/sh
-# Runs the test of refused growths with each allocation failing in turn, and counts the runs that passed.
+# Runs a crate's test of refused growths with each allocation refused in turn, until a turn comes in which none was,
+# and counts the turns by the call that was refused. A turn takes about 20 seconds.
+# usage: growths.sh [CRATE [FIRST TURN]]
 set -eu
-cd "$(dirname "$0")/../crates/dy_dots"
-last=${1:-30}
-passed=0
-for turn in $(seq 1 "$last"); do
-    if rt try --test --fail-alloc "$turn" -- growths 2>&1 | grep -q 'survive_a_refused_growth \.\.\. ok'; then
-        passed=$((passed + 1))
-    else
-        echo "with allocation $turn refused the test failed"
+crate=${1:-dy_dots}
+turn=${2:-1}
+cd "$(dirname "$0")/../crates/$crate"
+refused=""
+while true; do
+    answer=$(rt try --test --fail-alloc "$turn" -- growths 2>&1) || true
+    if ! echo "$answer" | grep -q 'survive_a_refused_growth \.\.\. ok'; then
+        echo "with allocation $turn refused the test failed:"
+        echo "$answer"
+        exit 1
     fi
+    call=$(echo "$answer" | sed -n 's/^ *refused //p')
+    if [ -z "$call" ]; then
+        break
+    fi
+    echo "allocation $turn: $call"
+    refused="$refused$call
+"
+    turn=$((turn + 1))
 done
-echo "$passed of $last"
-[ "$passed" -eq "$last" ]
+echo "as before, and right when asked again; the turns of each call:"
+printf '%s' "$refused" | sort | uniq -c

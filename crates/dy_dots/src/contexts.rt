@@ -1,8 +1,10 @@
-ghost use Rattle.std.specs.Prelude.{◌≡◌, ◌↔◌, ◌++◌, true, Some, OnOk, OnErr, IfOk, IfErr, IsOkUnless, string_bytes};
+ghost use Rattle.std.specs.Prelude.{◌≡◌, ◌↔◌, true, Some, OnOk, OnErr, IfOk, IfErr, IsOkUnless};
+ghost use Rattle.std.specs.Prelude.{string_bytes};
 ghost use Rattle.std.specs.FinSet as set;
 ghost use Rattle.dy_dots.specs.Dots.{DotSet, dot_set_code, AreDots};
 ghost use Rattle.dy_dots.specs.Runs.{AreKept, AreRunsOf, set_of};
-ghost use Rattle.dy_dots.specs.Spelling.{HasText, IsFound, IsRefused, OneSet, OneSpelling, ReadsBack, Spells, SpellingIsText, context_text};
+ghost use Rattle.dy_dots.specs.Spelling.{HasText, IsFound, IsRefused, OneSet, OneSpelling};
+ghost use Rattle.dy_dots.specs.Spelling.{ReadsBack, Spells, SpellingIsText, context_text};
 
 use crate::dots::Dot;
 use crate::faults::Fault;

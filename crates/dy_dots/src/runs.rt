@@ -1,8 +1,11 @@
-ghost use Rattle.std.specs.Prelude.{◌≡◌, ◌+◌, ◌<◌, ◌≤◌, ◌≢◌, ◌⊎◌, ◌||◌, ℕ, true, false, max, length, slice_index_or, IfOk, IfSome, IfNone, Some, OnOk, OnErr, [], ◌∷◌};
-ghost use Rattle.dy_dots.specs.Dots.{DotSet, IsDot};
+ghost use Rattle.std.specs.Prelude.{◌≡◌, ◌≤◌, true, false, length, IfOk, IfSome, IfNone, Some};
+ghost use Rattle.std.specs.Prelude.{OnOk, OnErr, []};
+ghost use Rattle.dy_dots.specs.Dots.{IsDot};
 ghost use Rattle.dy_dots.specs.declared.dots.Dot.{Dot};
-ghost use Rattle.dy_dots.specs.Runs.{AreApart, AreKept, HasAll, count_of, StartsFrom, RiseFrom, in_run, in_runs};
-ghost use Rattle.dy_dots.specs.Kinds.{single, joined, covers_run, IsBelow, IsReached, IsNext, AreBelow, IsPlace, HaveBoth, Added};
+ghost use Rattle.dy_dots.specs.Runs.{AreApart, AreKept, HasAll, count_of, StartsFrom, in_run};
+ghost use Rattle.dy_dots.specs.Runs.{in_runs};
+ghost use Rattle.dy_dots.specs.Kinds.{single, joined, covers_run, IsBelow, IsReached, IsNext};
+ghost use Rattle.dy_dots.specs.Kinds.{AreBelow, IsPlace, HaveBoth, Added};
 ghost use Rattle.dy_dots.specs.Spelling.{run_text};
 ghost use Rattle.dy_dots.specs.Reading.{run_to};
 

@@ -1,6 +1,6 @@
-ghost use Rattle.std.specs.Prelude.{◌≡◌, ◌⊎◌, ◌++◌, Some, None, OnOk, IfOk, IfErr, string_bytes};
+ghost use Rattle.std.specs.Prelude.{◌≡◌, Some, None, IfOk, IfErr, string_bytes};
 ghost use Rattle.std.specs.Fmt.{DisplaysOnOk};
-ghost use Rattle.dy_dots.specs.Spelling.{run_text, runs_text};
+ghost use Rattle.dy_dots.specs.Spelling.{runs_text};
 ghost use Rattle.dy_dots.specs.Reading.{all_allowed, allowed, read_runs, IsUnread};
 
 use crate::dots::MAX_COUNTER;

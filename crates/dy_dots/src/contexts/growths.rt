@@ -5,14 +5,22 @@ use super::*;
 use crate::nodes::NodeId;
 use std::test::Fail;
 
+const EARLY: &str = "n0:1,3,5,7,9 n1:1,3,5";
+
+const INSERTED: &str = "n0:1,3,5,7,9 n1:1,3,5,7";
+
+const UNITED: &str = "n0:1-3,5,7,9,11 n1:1,3,5,7 n2:1";
+
 /// The text of the context, asked for again where memory ran out.
-fn written(alloc: Global, context: &Context) -> Result<String, Fault> {
+fn written(rt: &HostRuntime, context: &Context) -> Result<String, Fail> {
+    let alloc = rt.alloc();
     let mut text = String::new(alloc);
     match context.write_text(alloc, &mut text) {
         Ok(()) => {}
-        Err(_fault) => {
+        Err(fault) => {
+            println!(rt; "refused write_text {fault}")?;
             if !text.is_empty() {
-                return Err(Fault::ContextSyntax);
+                return Err("a refused write_text changed the text".into());
             }
             context.write_text(alloc, &mut text)?;
         }
@@ -21,43 +29,40 @@ fn written(alloc: Global, context: &Context) -> Result<String, Fault> {
 }
 
 /// The context of the text, asked for again where memory ran out.
-fn read(alloc: Global, text: &str) -> Result<Context, Fault> {
-    match Context::read_text(alloc, text) {
+fn read(rt: &HostRuntime, text: &str) -> Result<Context, Fail> {
+    match Context::read_text(rt.alloc(), text) {
         Ok(context) => Ok(context),
-        Err(Fault::OutOfMemory) => Context::read_text(alloc, text),
-        Err(fault) => Err(fault),
+        Err(fault) => {
+            println!(rt; "refused read_text {fault}")?;
+            if fault != Fault::OutOfMemory {
+                return Err("a refused growth was taken for a wrong text".into());
+            }
+            Ok(Context::read_text(rt.alloc(), text)?)
+        }
     }
 }
 
 #[test]
 fn survive_a_refused_growth(rt: HostRuntime) -> Result<(), Fail> {
     let alloc = rt.alloc();
-    let before = "n0:1,3,5,7,9 n1:1,3,5";
-    let mut context = read(alloc, before)?;
-    assert_eq!(rt; written(alloc, &context)?.as_str(), before);
+    let mut context = read(&rt, EARLY)?;
+    assert_eq!(rt; written(&rt, &context)?.as_str(), EARLY);
 
     let node = NodeId::new(1).ok_or("a node")?;
     let dot = Dot::new(node, 7).ok_or("a dot")?;
-    if context.insert(dot).is_err() {
-        assert_eq!(rt; written(alloc, &context)?.as_str(), before);
+    if let Err(fault) = context.insert(dot) {
+        println!(rt; "refused insert {fault}")?;
+        assert_eq!(rt; written(&rt, &context)?.as_str(), EARLY);
         context.insert(dot)?;
     }
-    assert_eq!(rt;
-        written(alloc, &context)?.as_str(),
-        "n0:1,3,5,7,9 n1:1,3,5,7"
-    );
+    assert_eq!(rt; written(&rt, &context)?.as_str(), INSERTED);
 
-    let other = read(alloc, "n0:2,11 n2:1")?;
-    if context.union(alloc, &other).is_err() {
-        assert_eq!(rt;
-            written(alloc, &context)?.as_str(),
-            "n0:1,3,5,7,9 n1:1,3,5,7"
-        );
+    let other = read(&rt, "n0:2,11 n2:1")?;
+    if let Err(fault) = context.union(alloc, &other) {
+        println!(rt; "refused union {fault}")?;
+        assert_eq!(rt; written(&rt, &context)?.as_str(), INSERTED);
         context.union(alloc, &other)?;
     }
-    assert_eq!(rt;
-        written(alloc, &context)?.as_str(),
-        "n0:1-3,5,7,9,11 n1:1,3,5,7 n2:1"
-    );
+    assert_eq!(rt; written(&rt, &context)?.as_str(), UNITED);
     Ok(())
 }
