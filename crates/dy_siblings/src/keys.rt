@@ -1,4 +1,5 @@
-ghost use Rattle.std.specs.Prelude.{◌≡◌, ◌<◌, ◌==◌, ◌⊎◌, ◌↔◌, ℕ, List, length, IfOk, IfErr, IsErrOf, IsOkUnless};
+ghost use Rattle.std.specs.Prelude.{◌≡◌, ◌<◌, ◌==◌, ◌⊎◌, ◌↔◌, ℕ, List, length, IfOk, IfErr};
+ghost use Rattle.std.specs.Prelude.{IsErrOf, IsOkUnless};
 ghost use Rattle.std.specs.Cmp.{partial_order_from_own_ties};
 ghost use Rattle.std.specs.Cmp.Lexicographic.{pointwise, slice_cmp};
 ghost use Rattle.std.specs.Cmp.Rules.{comparing};
@@ -33,9 +34,11 @@ impl Key {
 
     /// A key of these bytes; KeySize where they are none or more than 64.
     pub fn new(alloc: Global, bytes: &[u8]) -> Result<Key, Fault>
-        ensures size { IsErrOf result Fault.KeySize ↔ ((length bytes.now ≡ 0) ⊎ (64 < length bytes.now)) }
+        ensures size { IsErrOf result Fault.KeySize ↔
+            ((length bytes.now ≡ 0) ⊎ (64 < length bytes.now)) }
         ensures value { IfOk result (λ key. key ≡ bytes.now) }
-        ensures errors { IfErr result (λ fault. (fault ≡ Fault.KeySize) ⊎ (fault ≡ Fault.OutOfMemory)) }
+        ensures errors { IfErr result (λ fault.
+            (fault ≡ Fault.KeySize) ⊎ (fault ≡ Fault.OutOfMemory)) }
     {
         if bytes.is_empty() || bytes.len() > Self::MAX_BYTES {
             return Err(Fault::KeySize);
@@ -95,7 +98,8 @@ impl Ord for Key {
 impl PartialOrd for Key {
     ghost partial_cmp = { as_partial_cmp (slice_cmp nat_cmp) };
 
-    ghost laws = { partial_order_from_own_ties (Prim.search (comparing, rules)) (Prim.search (comparing, rules)) };
+    ghost laws = { partial_order_from_own_ties
+        (Prim.search (comparing, rules)) (Prim.search (comparing, rules)) };
 
     fn partial_cmp(&self, other: &Key) -> Option<Ordering> {
         Some(self.cmp(other))

@@ -1,8 +1,9 @@
-ghost use Rattle.std.specs.Prelude.{◌≡◌, ℕ, ◌++◌, ◌||◌, List, Option, map, All, true, false};
+ghost use Rattle.std.specs.Prelude.{◌≡◌, ℕ, ◌++◌, ◌||◌, List, Option, map, All, false};
 ghost use Rattle.std.specs.FinSet as set;
 ghost use Rattle.dy_dots.specs.Dots.{DotNumbers};
 ghost use Rattle.dy_siblings.specs.Versions.{VersionParts, IsVersion, with_value};
-ghost use Rattle.dy_siblings.specs.Siblings.{AreClosed, IsSameRow, Rise, context_of, covers, is_past, merge, newest};
+ghost use Rattle.dy_siblings.specs.Siblings.{AreClosed, IsSameRow, Rise, context_of, covers};
+ghost use Rattle.dy_siblings.specs.Siblings.{is_past, merge, newest};
 
 /// It does not matter which of two rows is merged into which.
 pub fn merging_commutes()
@@ -11,12 +12,14 @@ pub fn merging_commutes()
 
 /// A row merged with itself is that row, since none of its versions is past.
 pub fn merging_is_idempotent()
-    ensures { (s : List VersionParts) → All (λ v. is_past s v.dot ≡ false) s → IsSameRow (merge s s) s }
+    ensures { (s : List VersionParts) →
+        All (λ v. is_past s v.dot ≡ false) s → IsSameRow (merge s s) s }
 {}
 
 /// Where pasts are closed, it does not matter in which order three rows are merged.
 pub fn merging_associates()
-    ensures { (r s t : List VersionParts) → All IsVersion (r ++ (s ++ t)) → AreClosed (r ++ (s ++ t)) →
+    ensures { (r s t : List VersionParts) →
+        All IsVersion (r ++ (s ++ t)) → AreClosed (r ++ (s ++ t)) →
         IsSameRow (merge (merge r s) t) (merge r (merge s t)) }
 {}
 
@@ -38,12 +41,14 @@ pub fn merging_keeps_what_is_covered()
 /// is a version like any other.
 pub fn merging_ignores_values()
     ensures { (value_of : VersionParts → Option (List ℕ)) (s t : List VersionParts) →
-        map (with_value value_of) (merge s t) ≡ merge (map (with_value value_of) s) (map (with_value value_of) t) }
+        map (with_value value_of) (merge s t) ≡
+        merge (map (with_value value_of) s) (map (with_value value_of) t) }
 {}
 
 /// A context has the dots that its row covers.
 pub fn contexts_have_what_rows_cover()
-    ensures { (s : List VersionParts) (d : DotNumbers) → set.contains (context_of s) d ≡ covers s d }
+    ensures { (s : List VersionParts) (d : DotNumbers) →
+        set.contains (context_of s) d ≡ covers s d }
 {}
 
 /// Rows that have the same versions, in the order of their dots, are one row.

@@ -1,8 +1,9 @@
-ghost use Rattle.std.specs.Prelude.{◌≡◌, ◌||◌, ◌++◌, map, IfOk, IfSome, IfNone, OnOk, IsOkUnless, []};
+ghost use Rattle.std.specs.Prelude.{◌≡◌, ◌++◌, map, IfOk, IfSome, IfNone, OnOk, IsOkUnless, []};
 ghost use Rattle.std.specs.FinSet as set;
 ghost use Rattle.std.specs.List.{list_any};
 ghost use Rattle.dy_siblings.specs.Versions.{do_conflict};
-ghost use Rattle.dy_siblings.specs.Merging.{do_lists_conflict, IsMerge, IsNext, IsUnionOutside, with_pasts, with_histories, with_dots};
+ghost use Rattle.dy_siblings.specs.Merging.{do_lists_conflict, IsMerge, IsNext, IsUnionOutside};
+ghost use Rattle.dy_siblings.specs.Merging.{with_pasts, with_histories, with_dots};
 ghost use Rattle.dy_siblings.specs.Siblings.{AreOneByDot, Rise, present_values};
 
 use crate::values::Value;
@@ -142,7 +143,8 @@ pub(crate) fn present_values(
     alloc: Global,
     versions: &[Version],
 ) -> Result<Vec<(Dot, &Value)>, Fault>
-    ensures ok { IfOk result (λ values. map (λ p. (p.0, p.1.now)) values.items ≡ present_values versions.now) }
+    ensures ok { IfOk result (λ values.
+        map (λ p. (p.0, p.1.now)) values.items ≡ present_values versions.now) }
     ensures memory { IsOkUnless result Fault.OutOfMemory }
 {
     let mut values = Vec::new(alloc);

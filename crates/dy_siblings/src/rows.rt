@@ -1,4 +1,5 @@
-ghost use Rattle.std.specs.Prelude.{◌≡◌, ◌++◌, ◌↔◌, map, [], ◌∷◌, IfOk, OnOk, OnErr, IsOkUnless, IsTrue};
+ghost use Rattle.std.specs.Prelude.{◌≡◌, ◌++◌, ◌↔◌, map, [], ◌∷◌, IfOk, OnOk, OnErr, IsOkUnless};
+ghost use Rattle.std.specs.Prelude.{IsTrue};
 
 use crate::keys::Key;
 use crate::merging;
@@ -29,7 +30,9 @@ impl Model for Row {
 }
 
 impl Row {
-    ghost use Rattle.dy_siblings.specs.Siblings.{AreOneByDot, IsSameRow, IsSiblingSet, covers, merge, context_of, dots_of, without, present_values};
+    ghost use Rattle.dy_siblings.specs.Siblings.{AreOneByDot, IsSameRow, IsSiblingSet, covers};
+    ghost use Rattle.dy_siblings.specs.Siblings.{merge, context_of, dots_of, without};
+    ghost use Rattle.dy_siblings.specs.Siblings.{present_values};
 
     /// The row of the key that has no version. Takes no memory.
     pub fn new(alloc: Global, key: Key) -> Row
@@ -43,7 +46,8 @@ impl Row {
 
     /// The row of the version's key that has this version alone.
     pub fn of(alloc: Global, version: Version) -> Result<Row, Fault>
-        ensures ok { IfOk result (λ row. row ≡ record { key = version.key; versions = version ∷ [] }) }
+        ensures ok { IfOk result (λ row.
+            row ≡ record { key = version.key; versions = version ∷ [] }) }
         ensures memory { IsOkUnless result Fault.OutOfMemory }
     {
         let key = version.key().try_clone(alloc)?;
@@ -84,7 +88,8 @@ impl Row {
     /// Whether the rows are of one key, and versions of both with one dot are one version. Compares
     /// each pair. Takes no memory.
     pub fn agrees(&self, other: &Row) -> bool
-        ensures { IsTrue result ↔ ((self.now.key ≡ other.now.key) × AreOneByDot (self.now.versions ++ other.now.versions)) }
+        ensures { IsTrue result ↔ ((self.now.key ≡ other.now.key) ×
+            AreOneByDot (self.now.versions ++ other.now.versions)) }
     {
         self.key == other.key
             && !merging::lists_conflict(self.versions.as_slice(), other.versions.as_slice())
@@ -94,7 +99,8 @@ impl Row {
     pub fn merge(&mut self, alloc: Global, other: &Row) -> Result<(), Fault>
         requires one_key { self.old.key ≡ other.now.key }
         requires agree { AreOneByDot (self.old.versions ++ other.now.versions) }
-        ensures ok { OnOk result (IsSameRow self.new.versions (merge self.old.versions other.now.versions)) }
+        ensures ok { OnOk result
+            (IsSameRow self.new.versions (merge self.old.versions other.now.versions)) }
         ensures valid { IsSiblingSet self.new.key self.new.versions }
         ensures key { self.new.key ≡ self.old.key }
         ensures err { OnErr result (self.new ≡ self.old) }
@@ -134,7 +140,8 @@ impl Row {
 
     /// The values that are present, each with its dot, in the order of the dots.
     pub fn values(&self, alloc: Global) -> Result<Vec<(Dot, &Value)>, Fault>
-        ensures ok { IfOk result (λ values. map (λ p. (p.0, p.1.now)) values.items ≡ present_values self.now.versions) }
+        ensures ok { IfOk result (λ values.
+            map (λ p. (p.0, p.1.now)) values.items ≡ present_values self.now.versions) }
         ensures memory { IsOkUnless result Fault.OutOfMemory }
     {
         merging::present_values(alloc, self.versions.as_slice())

@@ -1,4 +1,5 @@
-ghost use Rattle.std.specs.Prelude.{◌≡◌, ◌<◌, ◌==◌, ◌⊎◌, ◌↔◌, ℕ, List, length, IfOk, IfErr, IsErrOf, IsOkUnless};
+ghost use Rattle.std.specs.Prelude.{◌≡◌, ◌<◌, ◌==◌, ◌⊎◌, ◌↔◌, ℕ, List, length, IfOk, IfErr};
+ghost use Rattle.std.specs.Prelude.{IsErrOf, IsOkUnless};
 ghost use Rattle.std.specs.Cmp.Lexicographic.{pointwise};
 ghost use Rattle.std.specs.Cmp.Rules.{comparing};
 ghost use Rattle.std.proofs.Common.{rules};
@@ -32,7 +33,8 @@ impl Value {
     pub fn new(alloc: Global, bytes: &[u8]) -> Result<Value, Fault>
         ensures size { IsErrOf result Fault.ValueSize ↔ (4096 < length bytes.now) }
         ensures value { IfOk result (λ value. value ≡ bytes.now) }
-        ensures errors { IfErr result (λ fault. (fault ≡ Fault.ValueSize) ⊎ (fault ≡ Fault.OutOfMemory)) }
+        ensures errors { IfErr result (λ fault.
+            (fault ≡ Fault.ValueSize) ⊎ (fault ≡ Fault.OutOfMemory)) }
     {
         if bytes.len() > Self::MAX_BYTES {
             return Err(Fault::ValueSize);

@@ -1,4 +1,5 @@
-ghost use Rattle.std.specs.Prelude.{◌≡◌, ◌⊎◌, ◌↔◌, IsTrue, IfOk, IsOkUnless, option_copied, true, false};
+ghost use Rattle.std.specs.Prelude.{◌≡◌, ◌⊎◌, ◌↔◌, IsTrue, IfOk, IsOkUnless, option_copied, true};
+ghost use Rattle.std.specs.Prelude.{false};
 ghost use Rattle.dy_dots.specs.Dots.{IsDotBefore, same_dot};
 ghost use Rattle.std.specs.FinSet as set;
 
@@ -28,11 +29,13 @@ impl Model for Version {
 
     ghost view = { λ v. record { key = v.key; dot = v.dot; past = v.past; value = v.value } };
 
-    ghost invariant = { λ v. IsVersion (record { key = v.key; dot = v.dot; past = v.past; value = v.value }) };
+    ghost invariant = { λ v. IsVersion
+        (record { key = v.key; dot = v.dot; past = v.past; value = v.value }) };
 }
 
 impl Version {
-    ghost use Rattle.dy_siblings.specs.Versions.{IsVersion, in_history, precedes, are_concurrent, same_version, do_conflict};
+    ghost use Rattle.dy_siblings.specs.Versions.{IsVersion, in_history, precedes, are_concurrent};
+    ghost use Rattle.dy_siblings.specs.Versions.{same_version, do_conflict};
 
     /// The version of these parts. Takes no memory.
     pub fn new(key: Key, dot: Dot, past: Context, value: Option<Value>) -> Version
@@ -132,7 +135,8 @@ impl Version {
     // Whether its dot comes before that of the other.
     pub(crate) fn comes_before(&self, other: &Version) -> bool
         ensures yes { result ≡ true → IsDotBefore self.now.dot other.now.dot }
-        ensures no { result ≡ false → IsDotBefore other.now.dot self.now.dot ⊎ (other.now.dot ≡ self.now.dot) }
+        ensures no { result ≡ false →
+            IsDotBefore other.now.dot self.now.dot ⊎ (other.now.dot ≡ self.now.dot) }
     {
         let (dot, later) = (self.dot, other.dot);
         dot.node() < later.node() || dot.node() == later.node() && dot.counter() < later.counter()
