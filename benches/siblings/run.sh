@@ -1,5 +1,5 @@
 #!/bin/sh
-# Proves, builds and runs the benchmark of rows with many siblings, in a folder of its own.
+# Proves, builds and runs the benchmark of rows with many siblings, in a folder of its own: times, and the most memory.
 # usage: benches/siblings/run.sh [FOLDER]
 set -eu
 here=$(cd "$(dirname "$0")" && pwd)
@@ -20,3 +20,6 @@ LINES
 cp "$top/HANDLES" "$folder/HANDLES"
 cd "$folder/crates/bench_siblings"
 rt run
+python3 -c 'import resource, subprocess, sys
+subprocess.run(sys.argv[1:], check=True)
+print(resource.getrusage(resource.RUSAGE_CHILDREN).ru_maxrss // 1024, "MB at most")' out/bench_siblings

@@ -4,3 +4,4 @@ pub mod Rising
 pub mod Walking
 pub mod Merges
 pub mod Agreeing
+pub mod Conflicts

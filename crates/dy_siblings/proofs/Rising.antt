@@ -96,7 +96,7 @@ filter_siblings p key vs s = record {
 }
 
 -- each version of a list that rises after a dot comes after it
-after_all : (d : DotNumbers) (vs : List VersionParts) → RiseAfter d vs → (v : VersionParts) → Contains vs v → IsDotBefore d v.dot
+pub after_all : (d : DotNumbers) (vs : List VersionParts) → RiseAfter d vs → (v : VersionParts) → Contains vs v → IsDotBefore d v.dot
 after_all d [] rise v h = absurd (not_in_nil v h)
 after_all d (x ∷ xs) rise v h =
     ⊎_elim

@@ -1,7 +1,5 @@
 ghost use Rattle.std.specs.Prelude.{◌≡◌, ◌++◌, map, IfOk, IfSome, IfNone, OnOk, IsOkUnless, []};
 ghost use Rattle.std.specs.FinSet as set;
-ghost use Rattle.std.specs.List.{list_any};
-ghost use Rattle.dy_siblings.specs.Versions.{do_conflict};
 ghost use Rattle.dy_siblings.specs.Merging.{do_lists_conflict, IsMerge, IsNext, IsUnionOutside};
 ghost use Rattle.dy_siblings.specs.Merging.{with_pasts, with_histories, with_dots};
 ghost use Rattle.dy_siblings.specs.Siblings.{AreOneByDot, Rise, present_values};
@@ -72,18 +70,30 @@ fn union_outside(
     Ok(kept)
 }
 
-/// Whether the version conflicts with one of these.
-fn conflicts_with(version: &Version, others: &[Version]) -> bool
-    ensures { result ≡ list_any (λ v. do_conflict version.now v) others.now }
-{
-    others.iter().any(|other| version.conflicts(other))
-}
-
-/// Whether a version of the one list conflicts with one of the other.
+/// Whether a version of the one list conflicts with one of the other, in one pass over both.
 pub(crate) fn lists_conflict(a: &[Version], b: &[Version]) -> bool
+    requires a_rises { Rise a.now }
+    requires b_rises { Rise b.now }
     ensures { result ≡ do_lists_conflict a.now b.now }
 {
-    a.iter().any(|version| conflicts_with(version, b))
+    let mut left = a;
+    let mut right = b;
+    while let Some((mine, rest)) = left.split_first() {
+        let Some((theirs, others)) = right.split_first() else {
+            return false;
+        };
+        if mine.comes_before(theirs) {
+            left = rest;
+        } else if theirs.comes_before(mine) {
+            right = others;
+        } else if mine.conflicts(theirs) {
+            return true;
+        } else {
+            left = rest;
+            right = others;
+        }
+    }
+    false
 }
 
 /// Copies of the versions of both lists whose dot lies in the past of none, in the order of their

@@ -85,8 +85,8 @@ impl Row {
         self.versions.iter().any(|version| version.covers(dot))
     }
 
-    /// Whether the rows are of one key, and versions of both with one dot are one version. Compares
-    /// each pair. Takes no memory.
+    /// Whether the rows are of one key, and versions of both with one dot are one version, in one
+    /// pass over both. Takes no memory.
     pub fn agrees(&self, other: &Row) -> bool
         ensures { IsTrue result ↔ ((self.now.key ≡ other.now.key) ×
             AreOneByDot (self.now.versions ++ other.now.versions)) }
