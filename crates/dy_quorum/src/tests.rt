@@ -1,3 +1,6 @@
+mod scenes;
+mod watched;
+
 use crate::Tally;
 use std::marker::Brand;
 use std::test::Fail;

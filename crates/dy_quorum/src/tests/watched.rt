@@ -1,0 +1,153 @@
+ghost use Rattle.std.specs.Prelude.{◌≡◌, [], None, Some, IfOk, IfSome};
+ghost use Rattle.std.specs.FinSet as set;
+ghost use Rattle.dy_core.specs.declared.steps.Step.TheVariants.{Hold, Issue};
+ghost use Rattle.dy_shares.specs.Shares.{empty_account, node_of, receipt_parts};
+
+use dy_core::{Step, World};
+use dy_dots::{Context, Dot, Fault, NodeId};
+use dy_shares::{Ledger, Naming, NodeShare, Receipt};
+use dy_siblings::{Key, Row};
+use std::alloc::Global;
+use std::marker::Model;
+
+// A ledger beside the world of its steps, which says what is allowed and covered.
+pub struct Watched<J: Naming> {
+    ledger: Ledger<J>,
+    world: World,
+    // Whether the world has each step of the ledger. It lacks one where memory ran out between them.
+    is_whole: bool,
+}
+
+impl<J: Naming> Model for Watched<J> {
+    ghost use Rattle.std.specs.Prelude.{◌≡◌, IsTrue};
+    ghost use Rattle.dy_shares.specs.Shares.{Account, account_code, steps_of};
+
+    ghost Value = { Account };
+
+    ghost coded = { account_code };
+
+    ghost view = { λ w. w.ledger };
+
+    ghost invariant = { λ w. IsTrue w.is_whole
+        → w.world ≡ record { ring = J.ring; n = J.n; steps = steps_of w.ledger.log } };
+}
+
+// The node makes a version of the key, which follows none.
+fn making(alloc: Global, node: NodeId, key: &Key) -> Result<Step, Fault>
+    ensures { IfOk result (λ step. step ≡ Issue node key.now set.empty None) }
+{
+    Ok(Step::Issue {
+        node,
+        key: key.try_clone(alloc)?,
+        context: Context::new(alloc),
+        value: None,
+    })
+}
+
+// The holder holds the row for the home.
+fn holding(alloc: Global, holder: NodeId, home: NodeId, row: &Row) -> Result<Step, Fault>
+    ensures { IfOk result (λ step. step ≡ Hold holder home row.now) }
+{
+    Ok(Step::Hold {
+        holder,
+        home,
+        row: row.try_clone(alloc)?,
+    })
+}
+
+impl<J: Naming> Watched<J> {
+    pub fn new(ledger: Ledger<J>, world: World) -> Watched<J>
+        requires ledger { ledger ≡ empty_account }
+        requires world { world ≡ record { ring = J.ring; n = J.n; steps = [] } }
+    {
+        Watched {
+            ledger,
+            world,
+            is_whole: true,
+        }
+    }
+
+    pub fn into_ledger(self) -> Ledger<J> {
+        let Watched {
+            ledger,
+            world: _,
+            is_whole: _,
+        } = self;
+        ledger
+    }
+
+    // Whether the step, which is given twice, was allowed and came to the log.
+    fn node_step(
+        &mut self,
+        alloc: Global,
+        share: &mut NodeShare<J>,
+        step: Step,
+        same: Step,
+    ) -> Result<bool, Fault>
+        requires own { node_of step ≡ Some share.old.node }
+        requires same { same ≡ step }
+    {
+        if !self.is_whole || !self.world.allows(alloc, &step)? {
+            return Ok(false);
+        }
+        let mut steps = Vec::with_capacity(alloc, 1)?;
+        steps.push_reserved(step);
+        self.is_whole = false;
+        let _row = self.world.apply(alloc, same)?;
+        self.ledger.node_steps(share, steps)?;
+        self.is_whole = true;
+        Ok(true)
+    }
+
+    // The share's node makes its first version of the key.
+    pub fn issue(
+        &mut self,
+        alloc: Global,
+        share: &mut NodeShare<J>,
+        key: &Key,
+    ) -> Result<Option<Dot>, Fault> {
+        let node = share.node();
+        let step = making(alloc, node, key)?;
+        let same = making(alloc, node, key)?;
+        if !self.node_step(alloc, share, step, same)? {
+            return Ok(None);
+        }
+        Ok(Dot::new(node, 1))
+    }
+
+    // The share's node holds the one version for the home, and gives a receipt.
+    pub fn hold(
+        &mut self,
+        alloc: Global,
+        share: &mut NodeShare<J>,
+        home: NodeId,
+        key: &Key,
+        dot: Dot,
+    ) -> Result<Option<Receipt<J>>, Fault> {
+        let Some(version) = self.world.version(key, dot) else {
+            return Ok(None);
+        };
+        let holder = share.node();
+        let row = Row::of(alloc, version.try_clone(alloc)?)?;
+        let step = holding(alloc, holder, home, &row)?;
+        let same = holding(alloc, holder, home, &row)?;
+        let _held = self.node_step(alloc, share, step, same)?;
+        Ok(self.receipt(key.try_clone(alloc)?, dot, home, holder))
+    }
+
+    // A receipt, where the holder covers the dot for the home now.
+    fn receipt(
+        &self,
+        key: Key,
+        dot: Dot,
+        home: NodeId,
+        holder: NodeId,
+    ) -> Option<Receipt<J>>
+        ensures { IfSome result (λ receipt. receipt ≡ receipt_parts key dot home holder) }
+    {
+        if !self.is_whole || !self.world.place_covers(holder, home, &key, dot) {
+            return None;
+        }
+        Some(self.ledger.receipt(key, dot, home, holder))
+    }
+}
