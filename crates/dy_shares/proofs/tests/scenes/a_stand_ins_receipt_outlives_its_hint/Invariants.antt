@@ -1,5 +1,0 @@
-use Rattle.dy_shares.proofs.tests.scenes.a_stand_ins_receipt_outlives_its_hint.Given as goal
-
--- the log and the row that were just made, and the ring of the world
-abbrev pub ghosts-handed_over : goal.ghosts-handed_over
-ghosts-handed_over g a = record { ring = a.world.ring; n = a.world.n; r = 1; book = a.blank.book; table = a.blank.table }
