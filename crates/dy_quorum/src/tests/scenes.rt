@@ -55,8 +55,7 @@ fn receipts<J: Naming>(
     };
     for _ in 0..times {
         for &(holder, home) in places {
-            let (Some(share), Some(home)) =
-                (shares.get_mut(holder as usize), NodeId::new(home))
+            let (Some(share), Some(home)) = (shares.get_mut(holder as usize), NodeId::new(home))
             else {
                 return Ok(receipts);
             };

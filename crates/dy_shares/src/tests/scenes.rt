@@ -265,11 +265,17 @@ fn receipts_are_spent_by_other_threads(rt: HostRuntime) -> Result<(), Fault> {
     let blank = Blank::new(rt.alloc())?;
     let world = three_nodes(rt.alloc(), 3)?;
     let steps = three::<Brand, _>(&rt, rt.alloc(), blank, world)?;
-    let issues = steps.iter().filter(|step| matches!(step, Step::Issue { .. }));
+    let issues = steps
+        .iter()
+        .filter(|step| matches!(step, Step::Issue { .. }));
     assert!(&rt; issues.count() == 3);
-    let holds = steps.iter().filter(|step| matches!(step, Step::Hold { .. }));
+    let holds = steps
+        .iter()
+        .filter(|step| matches!(step, Step::Hold { .. }));
     assert!(&rt; holds.count() == 3);
-    let fetches = steps.iter().filter(|step| matches!(step, Step::Fetch { .. }));
+    let fetches = steps
+        .iter()
+        .filter(|step| matches!(step, Step::Fetch { .. }));
     assert!(&rt; fetches.count() == 3);
     assert!(&rt; steps.len() == 9);
     Ok(())

@@ -192,13 +192,7 @@ impl<J: Naming> Watched<J> {
     }
 
     // A receipt, where the holder covers the dot for the home now.
-    pub fn receipt(
-        &self,
-        key: Key,
-        dot: Dot,
-        home: NodeId,
-        holder: NodeId,
-    ) -> Option<Receipt<J>>
+    pub fn receipt(&self, key: Key, dot: Dot, home: NodeId, holder: NodeId) -> Option<Receipt<J>>
         ensures { IfSome result (λ receipt. receipt ≡ receipt_parts key dot home holder) }
     {
         if !self.is_whole || !self.world.place_covers(holder, home, &key, dot) {
