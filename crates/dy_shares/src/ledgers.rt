@@ -3,7 +3,7 @@ ghost use Rattle.std.specs.List.{All};
 ghost use mathlib.Core.List.{IsPrefix};
 ghost use Rattle.dy_dots.specs.declared.nodes.TheConstants.{MAX_NODES};
 ghost use Rattle.dy_core.specs.Worlds.{layout_of};
-ghost use Rattle.dy_core.specs.Logs.{IsAnswer};
+ghost use Rattle.dy_core.specs.Logs.{IsAnswer, IsLegal};
 ghost use Rattle.dy_shares.specs.Parts.{AreOf, IsPartOf, IsRowOf, entries_of, with_done};
 ghost use Rattle.dy_shares.specs.Shares.{AreAll, AreOwned, BelongsTo, IsAck, IsFetch, IsMissing, IsReceipt, MayFollow, NodeStays, SessionBelongsTo, SessionStays, answer_of, empty_account, first_parts, first_session, node_of, receipt_parts, steps_of, told_to, untold, with_ack, with_entries, with_session, with_steps};
 ghost use Rattle.dy_shares.specs.declared.ledgers.TheConstants.{MAX_SESSIONS};
@@ -112,7 +112,8 @@ impl<J: Naming> Ledger<J> {
 
     /// The steps of the log, in their order. Takes no memory.
     pub fn steps(&self) -> &[Step]
-        ensures { result.now ≡ steps_of self.now.log }
+        ensures value { result.now ≡ steps_of self.now.log }
+        ensures legal { IsLegal (layout_of J.ring J.n) (steps_of self.now.log) }
     {
         self.steps.as_slice()
     }

@@ -29,7 +29,7 @@ seen-requires-clause-is g c =
     subst (λ (ss : List Step). IsSameRow row.versions (row_at (world_after ss) holder home key)) same
     (subst (λ (s : Step). IsSameRow row.versions (answered (world_after world.steps) s)) asked c.in_ok-row.ensures.row) in
     let new : c.fetch_step.new.self.log ≡ l.log ++ e ∷ [] = search rules in
-    let at : length l.log + 1 ≡ length c.steps-at.result.now = sym (ap length c.steps-at.ensures ∙ (steps_of-length c.fetch_step.new.self.log ∙ (ap length new ∙ length-append l.log (e ∷ [])))) in
+    let at : length l.log + 1 ≡ length c.steps-at.result.now = sym (ap length c.steps-at.ensures.value ∙ (steps_of-length c.fetch_step.new.self.log ∙ (ap length new ∙ length-append l.log (e ∷ [])))) in
     let here = answers_last l.log holder home key row.versions is in
     subst (λ (xs : List Entry). IsAnswer (steps_of xs) (answer_of (length c.steps-at.result.now) holder home c.in_ok-of_seen.of_seen row)) (sym new)
     (subst (λ n. IsAnswer (steps_of (l.log ++ e ∷ [])) (record { at = n; holder = holder; home = home; key = c.in_ok-of_seen.of_seen; row = row.versions })) at
