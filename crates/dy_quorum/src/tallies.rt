@@ -9,8 +9,8 @@ use std::marker::Model;
 /// How many receipts a tally has room for.
 pub const TALLY_ROOM: usize = 64;
 
-/// The receipts of one put, and the homes among them. Among receipts that fit, a holder holds for one
-/// home, so receipts of distinct homes have distinct holders, and it is enough to count the homes.
+/// The receipts of one put, and the homes among them. Among receipts that fit, a holder holds for
+/// one home, so receipts of distinct homes have distinct holders, and it is enough to count homes.
 #[derive(Drop)]
 pub struct Tally<J: Naming> {
     w: usize,
@@ -117,8 +117,8 @@ impl<J: Naming> Tally<J> {
         self.added.push_reserved(receipt);
     }
 
-    /// Whether w receipts of distinct homes and distinct holders can be chosen from those added. Takes
-    /// no memory.
+    /// Whether w receipts of distinct homes and distinct holders can be chosen from those added.
+    /// Takes no memory.
     pub fn ready(&self) -> bool
         ensures { IsTrue result ↔ CanChoose self.now.w self.now.added }
     {

@@ -19,9 +19,11 @@ nobody = record { keeps = false; parts = []; shares = false; index = 0; own = []
 
 -- the keeper with a share that it holds
 abbrev pub knower_with : List (List Done) → ℕ → List Done → View
-knower_with parts index own = record { keeps = true; parts = parts; shares = true; index = index; own = own }
+knower_with parts index own =
+    record { keeps = true; parts = parts; shares = true; index = index; own = own }
 
--- One seat at most knows all parts. One seat at most has the share of an index, and its part is that of the row
+-- One seat at most knows all parts. One seat at most has the share of an index, and its part is that
+-- of the row
 abbrev pub Fits : ℕ → List (List Done) → (ℕ → ℕ) → ℕ → View → Type 0
 Fits seat parts owner id v =
     (v.keeps ≡ true → (id ≡ seat) × (v.parts ≡ parts))
@@ -34,13 +36,15 @@ Agree views =
 
 -- a new place, with an empty part
 abbrev pub opened : View → View
-opened v = record { keeps = v.keeps; parts = v.parts ++ [] ∷ []; shares = v.shares; index = v.index; own = v.own }
+opened v =
+    record { keeps = v.keeps; parts = v.parts ++ [] ∷ []; shares = v.shares; index = v.index; own = v.own }
 
 abbrev pub newest : View → View
 newest v = share_of (length v.parts) []
 
 abbrev pub holding : View → View → View
-holding v w = record { keeps = v.keeps; parts = v.parts; shares = w.shares; index = w.index; own = w.own }
+holding v w =
+    record { keeps = v.keeps; parts = v.parts; shares = w.shares; index = w.index; own = w.own }
 
 abbrev pub alone : View → View
 alone v = knower v.parts
@@ -65,4 +69,5 @@ part_of (v ∷ vs) = v.own
 
 -- the name of no table
 abbrev pub no_table : TableId
-no_table = record { words = 0; slots = 0; views_name = 0; atom = 0; block = 0; offset = 0; slot_names = [] }
+no_table =
+    record { words = 0; slots = 0; views_name = 0; atom = 0; block = 0; offset = 0; slot_names = [] }

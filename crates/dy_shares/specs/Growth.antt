@@ -7,9 +7,11 @@ use Rattle.atomic_table.specs.Seated.{TableId}
 abbrev pub batons : ℕ → ℕ → List Cell
 batons home away = replicate home (0, true) ++ replicate away (0, false)
 
--- The first word counts the batons, the second is not used. Only who has the first baton that is away can append
+-- The first word counts the batons, the second is not used. Only who has the first baton that is
+-- away can append
 abbrev pub IsKept : {E : Type 0} → List Cell → List E → Type 0
-IsKept cells log = (away : ℕ) × (cells ≡ (length log + away, true) ∷ (0, true) ∷ batons (length log) away)
+IsKept cells log =
+    (away : ℕ) × (cells ≡ (length log + away, true) ∷ (0, true) ∷ batons (length log) away)
 
 abbrev pub head_of : Book → Named
 head_of b = record { tracked = true; key = 0; book = b }

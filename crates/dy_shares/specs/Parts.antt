@@ -56,7 +56,9 @@ entries_of told ss = map (λ s. record { told = told; step = s }) ss
 abbrev pub done_from : ℕ → ℕ → ℕ → List Entry → List Done
 done_from nodes at k [] = []
 done_from nodes at k (e ∷ es) =
-    if names k (place_of nodes e) then record { at = at; step = e.step } ∷ done_from nodes (at + 1) k es else done_from nodes (at + 1) k es
+    if names k (place_of nodes e)
+    then record { at = at; step = e.step } ∷ done_from nodes (at + 1) k es
+    else done_from nodes (at + 1) k es
 
 -- all of the entries are of this place
 abbrev pub AreOf : ℕ → Option ℕ → List Entry → Type 0

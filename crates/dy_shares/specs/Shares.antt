@@ -55,7 +55,8 @@ untold s = record { told = None; step = s }
 abbrev pub told_to : ℕ → Step → Entry
 told_to session s = record { told = Some session; step = s }
 
--- the steps may follow the log: each is allowed where it stands, by the ring and the number of homes
+-- the steps may follow the log: each is allowed where it stands, by the ring and the number of
+-- homes
 abbrev pub MayFollow : Tokens → ℕ → List Entry → List Step → Type 0
 MayFollow ring n log steps = IsLegalFrom (layout_of ring n) (world_after (steps_of log)) steps
 
@@ -117,7 +118,8 @@ first_parts (suc n) = first_parts n ++ record { node = n; steps = [] } ∷ []
 abbrev pub shown_after_step : World → Step → World
 shown_after_step w (Issue node key context value) =
     record w { counters = (after_issue w (version_made w node key context value)).counters }
-shown_after_step w (Hold holder home row) = after_hold (record w { versions = row.versions ++ w.versions }) holder home row
+shown_after_step w (Hold holder home row) =
+    after_hold (record w { versions = row.versions ++ w.versions }) holder home row
 shown_after_step w (Release holder home key d) = after_release w holder home key d
 shown_after_step w (Fetch holder home key) = w
 shown_after_step w (Ack key d count) = w
@@ -140,7 +142,8 @@ pub record BelongsTo (steps : List Step) (p : NodePart) : Type 0 where
   pub part_is : p ≡ node_part p.node steps
   pub shows_holdings : (home : ℕ) (key : List ℕ) (d : Dot) →
       shows_held p home key d ≡ (world_after steps).holdings p.node home key d
-  pub shows_counters : (key : List ℕ) → shows_counter p key ≡ (world_after steps).counters p.node key
+  pub shows_counters : (key : List ℕ) →
+      shows_counter p key ≡ (world_after steps).counters p.node key
 
 -- what a receipt is seen as: a key and a dot, the home that is covered, and who held it
 pub record ReceiptParts : Type 0 where
@@ -151,8 +154,10 @@ pub record ReceiptParts : Type 0 where
 
 abbrev pub receipt_parts_code : Coded ReceiptParts
 receipt_parts_code =
-    code_by (List ℕ × (Dot × (ℕ × ℕ))) (coded× (coded_list coded_ℕ) (coded× dot_code (coded× coded_ℕ coded_ℕ)))
-    (λ r. (r.key, (r.dot, (r.home, r.holder)))) (λ p. record { key = p.0; dot = p.1.0; home = p.1.1.0; holder = p.1.1.1 }) (λ _. refl)
+    code_by (List ℕ × (Dot × (ℕ × ℕ)))
+    (coded× (coded_list coded_ℕ) (coded× dot_code (coded× coded_ℕ coded_ℕ)))
+    (λ r. (r.key, (r.dot, (r.home, r.holder))))
+    (λ p. record { key = p.0; dot = p.1.0; home = p.1.1.0; holder = p.1.1.1 }) (λ _. refl)
 
 abbrev pub receipt_parts : List ℕ → Dot → ℕ → ℕ → ReceiptParts
 receipt_parts key dot home holder = record { key = key; dot = dot; home = home; holder = holder }
@@ -181,13 +186,16 @@ pub record SessionPart : Type 0 where
 
 abbrev pub ack_told_code : Coded AckTold
 ack_told_code =
-    code_by (ℕ × (List ℕ × (Dot × ℕ))) (coded× coded_ℕ (coded× (coded_list coded_ℕ) (coded× dot_code coded_ℕ)))
-    (λ a. (a.at, (a.key, (a.dot, a.w)))) (λ p. record { at = p.0; key = p.1.0; dot = p.1.1.0; w = p.1.1.1 }) (λ _. refl)
+    code_by (ℕ × (List ℕ × (Dot × ℕ)))
+    (coded× coded_ℕ (coded× (coded_list coded_ℕ) (coded× dot_code coded_ℕ)))
+    (λ a. (a.at, (a.key, (a.dot, a.w))))
+    (λ p. record { at = p.0; key = p.1.0; dot = p.1.1.0; w = p.1.1.1 }) (λ _. refl)
 
 abbrev pub answer_code : Coded Answer
 answer_code =
     code_by (ℕ × (ℕ × (ℕ × (List ℕ × List Version))))
-    (coded× coded_ℕ (coded× coded_ℕ (coded× coded_ℕ (coded× (coded_list coded_ℕ) (coded_list version_code)))))
+    (coded× coded_ℕ (coded× coded_ℕ (coded× coded_ℕ
+      (coded× (coded_list coded_ℕ) (coded_list version_code)))))
     (λ a. (a.at, (a.holder, (a.home, (a.key, a.row)))))
     (λ p. record { at = p.0; holder = p.1.0; home = p.1.1.0; key = p.1.1.1.0; row = p.1.1.1.1 })
     (λ _. refl)
@@ -201,10 +209,12 @@ abbrev pub session_part_code : Coded SessionPart
 session_part_code =
     code_by (ℕ × (List AckTold × List GetTold))
     (coded× coded_ℕ (coded× (coded_list ack_told_code) (coded_list get_told_code)))
-    (λ s. (s.session, (s.acks, s.gets))) (λ p. record { session = p.0; acks = p.1.0; gets = p.1.1 }) (λ _. refl)
+    (λ s. (s.session, (s.acks, s.gets)))
+    (λ p. record { session = p.0; acks = p.1.0; gets = p.1.1 }) (λ _. refl)
 
 abbrev pub answer_of : ℕ → ℕ → ℕ → List ℕ → Siblings → Answer
-answer_of at holder home key row = record { at = at; holder = holder; home = home; key = key; row = row.versions }
+answer_of at holder home key row =
+    record { at = at; holder = holder; home = home; key = key; row = row.versions }
 
 -- the part of a session that was told nothing
 abbrev pub first_session : ℕ → SessionPart
@@ -221,7 +231,8 @@ ack_at at (Ack key d w) = record { at = at; key = key; dot = d; w = w } ∷ []
 -- the acks that a session was told by these entries, which are numbered from `at`
 abbrev pub acks_from : ℕ → ℕ → List Entry → List AckTold
 acks_from at session [] = []
-acks_from at session (e ∷ es) = (if names session e.told then ack_at at e.step else []) ++ acks_from (at + 1) session es
+acks_from at session (e ∷ es) =
+    (if names session e.told then ack_at at e.step else []) ++ acks_from (at + 1) session es
 
 -- the acks that a log tells a session
 abbrev pub session_acks : ℕ → List Entry → List AckTold
@@ -233,7 +244,8 @@ with_ack s at step = record s { acks = s.acks ++ ack_at at step }
 
 -- the session was told this get too
 abbrev pub with_get : SessionPart → ℕ → List Answer → SessionPart
-with_get s since answers = record s { gets = s.gets ++ record { since = since; answers = answers } ∷ [] }
+with_get s since answers =
+    record s { gets = s.gets ++ record { since = since; answers = answers } ∷ [] }
 
 -- the greatest of some numbers, and 0 of none
 abbrev pub greatest : List ℕ → ℕ
@@ -274,7 +286,8 @@ IsOwnedStep nodes sessions told (Issue node key context value) = (told ≡ None)
 IsOwnedStep nodes sessions told (Hold holder home row) = (told ≡ None) × (holder < nodes)
 IsOwnedStep nodes sessions told (Release holder home key d) = (told ≡ None) × (holder < nodes)
 IsOwnedStep nodes sessions told (Fetch holder home key) = told ≡ None
-IsOwnedStep nodes sessions told (Ack key d w) = (session : ℕ) × (told ≡ Some session) × (session < sessions)
+IsOwnedStep nodes sessions told (Ack key d w) =
+    (session : ℕ) × (told ≡ Some session) × (session < sessions)
 
 -- each entry is a step of one of the nodes, an ack told to one of the sessions, or a fetch
 abbrev pub AreOwned : ℕ → ℕ → List Entry → Type 0

@@ -184,8 +184,8 @@ impl<J: Naming> Model for Chronicle<J> {
         × (c.batches ≡ length c.seen.log) };
 }
 
-/// A beginning of the log. It takes no bytes, and may be copied and dropped. To a contract it is its
-/// entries.
+/// A beginning of the log. It takes no bytes, and may be copied and dropped. To a contract it is
+/// its entries.
 #[derive(Drop)]
 pub struct Front<J: Naming> {
     seen: Seen<Entries, u64, Law>,

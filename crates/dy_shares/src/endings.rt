@@ -62,8 +62,10 @@ pub(crate) fn missing_session<J: Naming>(
     shares: &[SessionShare<J>],
     sessions: usize,
 ) -> Option<usize>
-    ensures some { IfSome result (λ session. (session < sessions) × ¬ (HasSession session shares.now)) }
-    ensures none { IfNone result ((session : ℕ) → session < sessions → HasSession session shares.now) }
+    ensures some { IfSome result (λ session.
+        (session < sessions) × ¬ (HasSession session shares.now)) }
+    ensures none { IfNone result ((session : ℕ) →
+        session < sessions → HasSession session shares.now) }
 {
     for session in 0..sessions {
         if !has_session(shares, session) {

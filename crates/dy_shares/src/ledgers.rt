@@ -146,7 +146,8 @@ impl<J: Naming> Ledger<J> {
         ensures err { OnErr result ((self.new ≡ self.old) × (share.new ≡ share.old)) }
         ensures memory { IsOkUnless result Fault.OutOfMemory }
         ensures belongs { BelongsTo (steps_of self.old.log) share.old }
-        ensures nodes { (node : ℕ) → node ≢ share.old.node → NodeStays self.old.log self.new.log node }
+        ensures nodes { (node : ℕ) → node ≢ share.old.node →
+            NodeStays self.old.log self.new.log node }
         ensures sessions { (session : ℕ) → SessionStays self.old.log self.new.log session }
     {
         self.append(&mut share.share, None, steps)?;
@@ -157,8 +158,10 @@ impl<J: Naming> Ledger<J> {
     pub fn ack_step(&mut self, share: &mut SessionShare<J>, step: Step) -> Result<(), Fault>
         requires ack { IsAck step }
         requires allowed { MayFollow J.ring J.n self.old.log (step ∷ []) }
-        ensures log { OnOk result (self.new ≡ with_entries self.old (told_to share.old.session step ∷ [])) }
-        ensures share { OnOk result (share.new ≡ with_ack share.old (length self.old.log + 1) step) }
+        ensures log { OnOk result
+            (self.new ≡ with_entries self.old (told_to share.old.session step ∷ [])) }
+        ensures share { OnOk result
+            (share.new ≡ with_ack share.old (length self.old.log + 1) step) }
         ensures err { OnErr result ((self.new ≡ self.old) × (share.new ≡ share.old)) }
         ensures memory { IsOkUnless result Fault.OutOfMemory }
         ensures belongs { SessionBelongsTo self.old.log J.r share.old }
@@ -212,7 +215,8 @@ impl<J: Naming> Ledger<J> {
             AreOwned J.ring.nodes self.old.sessions (entries_of told steps.items) }
         requires allowed { MayFollow J.ring J.n self.old.log steps.items }
         ensures log { OnOk result (self.new ≡ with_entries self.old (entries_of told steps.items)) }
-        ensures share { OnOk result (share.new ≡ with_done share.old (length self.old.log + 1) steps.items) }
+        ensures share { OnOk result
+            (share.new ≡ with_done share.old (length self.old.log + 1) steps.items) }
         ensures err { OnErr result ((self.new ≡ self.old) × (share.new ≡ share.old)) }
         ensures memory { IsOkUnless result Fault.OutOfMemory }
         ensures belongs { IsPartOf J.ring.nodes (layout_of J.ring J.n) self.old share.old }
@@ -308,7 +312,8 @@ impl<J: Naming> Ledger<J> {
     ) -> Result<Vec<Step>, EndRefused<J>>
         ensures log { IfOk result (λ steps. steps.items ≡ steps_of self.log) }
         ensures exact { IfOk result (λ _. AreAll J.ring.nodes J.r self nodes.items sessions.items) }
-        ensures shares_missing { IfErr result (λ _. IsMissing J.ring.nodes self.sessions nodes.items sessions.items) }
+        ensures shares_missing { IfErr result (λ _.
+            IsMissing J.ring.nodes self.sessions nodes.items sessions.items) }
         ensures ledger_back { IfErr result (λ refused. refused.ledger ≡ self) }
         ensures nodes_back { IfErr result (λ refused. refused.nodes.items ≡ nodes.items) }
         ensures sessions_back { IfErr result (λ refused. refused.sessions.items ≡ sessions.items) }

@@ -10,8 +10,8 @@ use dy_siblings::Key;
 use std::alloc::Global;
 use std::marker::Brand;
 
-// A ring of five nodes. The key `a` lies at 0cc1.. (RFC 1321, A.5), so its nodes are 0 to 4, in this
-// order, and the first n are its homes.
+// A ring of five nodes. The key `a` lies at 0cc1.. (RFC 1321, A.5), so its nodes are 0 to 4, in
+// this order, and the first n are its homes.
 fn five_nodes(alloc: Global, n: u8) -> Result<World, Fault>
     ensures nodes { IfOk result (λ world. world.ring.nodes ≡ 5) }
     ensures steps { IfOk result (λ world. world.steps ≡ []) }
@@ -35,8 +35,8 @@ fn five_nodes(alloc: Global, n: u8) -> Result<World, Fault>
     World::new(alloc, ring, n)
 }
 
-// Node 0 makes a version. Then each of these holders, the first of a pair, holds it for its home and
-// gives a receipt, as many times.
+// Node 0 makes a version. Then each of these holders, the first of a pair, holds it for its home
+// and gives a receipt, as many times.
 fn receipts<J: Naming>(
     alloc: Global,
     watched: &mut Watched<J>,

@@ -12,7 +12,8 @@ use std::marker::Model;
 pub struct Watched<J: Naming> {
     ledger: Ledger<J>,
     world: World,
-    // Whether the world has each step of the ledger. It lacks one where memory ran out between them.
+    // Whether the world has each step of the ledger. It lacks one where memory ran out between
+    // them.
     is_whole: bool,
 }
 
