@@ -195,7 +195,7 @@ abbrev pub answer_code : Coded Answer
 answer_code =
     code_by (ℕ × (ℕ × (ℕ × (List ℕ × List Version))))
     (coded× coded_ℕ (coded× coded_ℕ (coded× coded_ℕ
-      (coded× (coded_list coded_ℕ) (coded_list version_code)))))
+    (coded× (coded_list coded_ℕ) (coded_list version_code)))))
     (λ a. (a.at, (a.holder, (a.home, (a.key, a.row)))))
     (λ p. record { at = p.0; holder = p.1.0; home = p.1.1.0; key = p.1.1.1.0; row = p.1.1.1.1 })
     (λ _. refl)
