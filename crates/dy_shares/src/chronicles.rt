@@ -133,14 +133,14 @@ fn new_baton(
 }
 
 impl BlankChronicle {
-    pub fn new() -> Option<BlankChronicle> {
+    pub(crate) fn new() -> Option<BlankChronicle> {
         let (seen, mut first, _second) = Seen::open(Start::alone(), 0, 0);
         let head = Word::tracked(0, &mut first);
         let baton = new_baton(&head, &seen, 0)?;
         Some(BlankChronicle { head, seen, baton })
     }
 
-    pub fn named<J: Naming>(self) -> Chronicle<J>
+    pub(crate) fn named<J: Naming>(self) -> Chronicle<J>
         requires { self.seen.book ≡ J.book }
         ensures { result ≡ [] }
     {
@@ -228,8 +228,8 @@ impl<J: Naming> Front<J> {
 }
 
 impl<J: Naming> Chronicle<J> {
-    /// The log as it stands.
-    pub fn front(&self) -> Front<J>
+    // The log as it stands.
+    pub(crate) fn front(&self) -> Front<J>
         ensures { result ≡ self.now }
     {
         Front {
@@ -238,8 +238,8 @@ impl<J: Naming> Chronicle<J> {
         }
     }
 
-    /// The log begins with the front, whatever came between.
-    pub fn learn(&mut self, front: &Front<J>)
+    // The log begins with the front, whatever came between.
+    pub(crate) fn learn(&mut self, front: &Front<J>)
         ensures same { self.new ≡ self.old }
         ensures begins { IsPrefix front.now self.old }
     {
@@ -250,8 +250,8 @@ impl<J: Naming> Chronicle<J> {
             .compare_exchange::<Look, Nothing>(0, 0, &mut both, &mut offer, &mut self.baton);
     }
 
-    /// Appends the entries, all or none, and says whether it did.
-    pub fn append(&mut self, batch: &Batch) -> bool
+    // Appends the entries, all or none, and says whether it did.
+    pub(crate) fn append(&mut self, batch: &Batch) -> bool
         ensures { MatchBool result
             (self.new ≡ self.old ++ entries_of batch.now.told batch.now.steps.items)
             (self.new ≡ self.old) }

@@ -145,12 +145,12 @@ impl<J: Naming> Model for Share<J> {
 }
 
 impl BlankRow {
-    pub fn new(alloc: Global) -> Result<BlankRow, AllocError> {
+    pub(crate) fn new(alloc: Global) -> Result<BlankRow, AllocError> {
         let (table, seat) = Table::of_words(alloc, &[0], &())?;
         Ok(BlankRow { table, seat })
     }
 
-    pub fn named<J: Naming>(self) -> Row<J>
+    pub(crate) fn named<J: Naming>(self) -> Row<J>
         requires { self.table.shared.table_id ≡ J.table }
         ensures { result ≡ [] }
     {
@@ -164,13 +164,13 @@ impl BlankRow {
 }
 
 impl<J: Naming> Share<J> {
-    pub fn index(&self) -> usize
+    pub(crate) fn index(&self) -> usize
         ensures { result ≡ self.now.index }
     {
         self.index
     }
 
-    pub fn abandon(self) {
+    pub(crate) fn abandon(self) {
         let Share {
             index: _,
             badge: _,
@@ -180,8 +180,8 @@ impl<J: Naming> Share<J> {
 }
 
 impl<J: Naming> Row<J> {
-    /// A new place at the end, and its share. `index` is how many there are.
-    pub fn open(&mut self, index: usize) -> Share<J>
+    // A new place at the end, and its share. `index` is how many there are.
+    pub(crate) fn open(&mut self, index: usize) -> Share<J>
         requires { index ≡ length self.old }
         ensures row { self.new ≡ self.old ++ [] ∷ [] }
         ensures share { result ≡ held index [] }
@@ -195,8 +195,8 @@ impl<J: Naming> Row<J> {
         }
     }
 
-    /// The share agrees with its place.
-    pub fn compare(&mut self, share: &mut Share<J>)
+    // The share agrees with its place.
+    pub(crate) fn compare(&mut self, share: &mut Share<J>)
         ensures same { (self.new ≡ self.old) × (share.new ≡ share.old) }
         ensures agree { get_elem? self.old share.old.index ≡ some share.old.part }
     {
@@ -208,8 +208,8 @@ impl<J: Naming> Row<J> {
         share.badge = seat.into_badge();
     }
 
-    /// The steps go to the share and to its place.
-    pub fn grow(&mut self, share: &mut Share<J>, batch: &Batch)
+    // The steps go to the share and to its place.
+    pub(crate) fn grow(&mut self, share: &mut Share<J>, batch: &Batch)
         ensures row { self.new ≡ slice_set self.old share.old.index
             (with_done share.old batch.now.first batch.now.steps.items).part }
         ensures share { share.new ≡ with_done share.old batch.now.first batch.now.steps.items }
@@ -224,8 +224,8 @@ impl<J: Naming> Row<J> {
         share.badge = seat.into_badge();
     }
 
-    /// The share comes back for good.
-    pub fn end(&mut self, mut share: Share<J>)
+    // The share comes back for good.
+    pub(crate) fn end(&mut self, mut share: Share<J>)
         ensures same { self.new ≡ self.old }
         ensures agree { get_elem? self.old share.index ≡ some share.part }
     {

@@ -6,7 +6,7 @@ use Rattle.dy_core.specs.declared.steps.Step.{Step}
 use Rattle.dy_core.specs.declared.steps.Step.TheVariants.{Fetch}
 use Rattle.dy_core.specs.Steps.{answer_of as answered}
 use Rattle.dy_shares.specs.declared.entries.Entry.{Entry}
-use Rattle.dy_shares.specs.Shares.{Account, answer_of, steps_of, untold}
+use Rattle.dy_shares.specs.Shares.{answer_of, steps_of, untold}
 use Rattle.dy_shares.proofs.Owners.{steps_of-length}
 use Rattle.dy_shares.proofs.Scenes.{answers_last}
 use Rattle.dy_shares.proofs.tests.watched.Watched.fetch.Goals as goal
