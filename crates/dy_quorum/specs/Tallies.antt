@@ -1,5 +1,5 @@
 -- Which receipts of a put make a quorum.
-use Rattle.std.specs.Prelude.{◌≡◌, ◌≤◌, ◌++◌, ◌∷◌, [], List, ℕ, Bool, length, map, nat_eq, if◌then◌else◌}
+use Rattle.std.specs.Prelude.{◌≡◌, ◌≤◌, ◌++◌, ◌∷◌, [], List, ℕ, length, map, nat_eq, if◌then◌else◌}
 use Rattle.std.specs.List.{All, AllPairs, Contains, list_any, fold}
 use Rattle.dy_shares.specs.Shares.{ReceiptParts}
 

@@ -1,7 +1,5 @@
-use Rattle.std.proofs.Common.{◌≡◌, ◌++◌, ◌∷◌, [], ℕ, arith, refl, sym, ◌∙◌, subst, List, take}
-use Rattle.dy_shares.specs.Shares.{ReceiptParts}
-use Rattle.dy_quorum.specs.Tallies.{Counted, IsChoice, CanChoose}
-use Rattle.dy_quorum.proofs.TallyLemmas.{homes_same, homes_more, choice_taken, few_firsts, chosen_more, chosen_same}
+use Rattle.std.proofs.Common.{sym, ◌∙◌}
+use Rattle.dy_quorum.proofs.TallyLemmas.{homes_same, homes_more, few_firsts, chosen_more, chosen_same}
 use Rattle.dy_quorum.proofs.tallies.first_of_each.Goals as goal
 
 pub loop-receipt-preserved-then-not-contains : goal.loop-receipt-preserved-then-not-contains

@@ -1,4 +1,4 @@
-use Rattle.std.proofs.Common.{◌≡◌, ◌≤◌, length, vec_capacity, vec_len}
+use Rattle.std.proofs.Common.{◌≡◌, ◌≤◌, length, vec_capacity}
 use Rattle.dy_quorum.specs.Tallies.{firsts, receipt_homes}
 use Rattle.dy_quorum.proofs.tallies.first_of_each.Given as goal
 

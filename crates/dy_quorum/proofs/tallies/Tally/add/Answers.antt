@@ -1,8 +1,8 @@
-use Rattle.std.proofs.Common.{length-append, ◌≡◌, ◌<◌, ◌≤◌, ◌+◌, ◌++◌, ◌∷◌, [], ℕ, arith, refl, sym, ◌∙◌, ap, subst, length, map, get_or, true, false}
+use Rattle.std.proofs.Common.{length-append, ◌≡◌, ◌<◌, ◌+◌, ◌++◌, ◌∷◌, [], arith, sym, ◌∙◌, ap, subst, length}
 use Rattle.std.proofs.lemmas.List.{length-map}
 use Rattle.dy_shares.specs.Shares.{ReceiptParts}
-use Rattle.dy_quorum.specs.Tallies.{Counted, FitsAll, firsts, receipt_homes}
-use Rattle.dy_quorum.proofs.TallyLemmas.{count_push, homes_same, homes_more, choice_ready, choice_lacks, choice_taken, few_firsts, chosen_more, chosen_same}
+use Rattle.dy_quorum.specs.Tallies.{Counted, FitsAll, firsts}
+use Rattle.dy_quorum.proofs.TallyLemmas.{count_push, homes_same, homes_more}
 use Rattle.dy_quorum.proofs.tallies.Tally.add.Goals as goal
 use Rattle.dy_quorum.proofs.tallies.Tally.add.Goals.{then-not-contains, else-not-contains}
 

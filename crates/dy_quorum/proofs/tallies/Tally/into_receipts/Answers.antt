@@ -1,7 +1,6 @@
-use Rattle.std.proofs.Common.{◌≡◌, ◌++◌, ◌∷◌, [], ℕ, arith, refl, sym, ◌∙◌, subst, List, take}
-use Rattle.dy_shares.specs.Shares.{ReceiptParts}
+use Rattle.std.proofs.Common.{sym, subst}
 use Rattle.dy_quorum.specs.Tallies.{Counted, IsChoice, CanChoose}
-use Rattle.dy_quorum.proofs.TallyLemmas.{homes_same, homes_more, choice_taken, few_firsts, chosen_more, chosen_same}
+use Rattle.dy_quorum.proofs.TallyLemmas.{choice_taken}
 use Rattle.dy_quorum.proofs.tallies.Tally.into_receipts.Goals as goal
 
 pub returns : goal.returns

@@ -1,8 +1,6 @@
-use Rattle.std.proofs.Common.{◌↔◌, IsTrue, ◌≡◌, ◌<◌, ◌≤◌, ◌+◌, ◌++◌, ◌∷◌, [], ℕ, arith, refl, sym, ◌∙◌, ap, subst, length, map, get_or, true, false}
-use Rattle.std.proofs.lemmas.List.{length-map}
-use Rattle.dy_shares.specs.Shares.{ReceiptParts}
-use Rattle.dy_quorum.specs.Tallies.{Counted, CanChoose, firsts, receipt_homes}
-use Rattle.dy_quorum.proofs.TallyLemmas.{count_push, homes_same, homes_more, choice_ready, choice_lacks, choice_taken, few_firsts, chosen_more, chosen_same}
+use Rattle.std.proofs.Common.{◌↔◌, IsTrue, arith, refl, subst, true, false}
+use Rattle.dy_quorum.specs.Tallies.{Counted, CanChoose}
+use Rattle.dy_quorum.proofs.TallyLemmas.{choice_ready, choice_lacks}
 use Rattle.dy_quorum.proofs.tallies.Tally.ready.Goals as goal
 
 pub returns : goal.returns
