@@ -2,6 +2,8 @@
 #![tactic(auto)]
 
 mod assigns;
+#[cfg(test)]
+mod growths;
 mod lists;
 mod orders;
 #[cfg(test)]
