@@ -1,11 +1,10 @@
 -- What command a JSON value says, on a ring of so many nodes, and the first fault of one that says
 -- none.
-use Rattle.std.specs.Prelude.{ℕ, nat_lt, List, [], ◌∷◌, codes, string_bytes, if◌then◌else◌, Option, Some, None, option_map, option_and_then, Result, Ok, Err, bytes_eq, unwrap_or}
+use Rattle.std.specs.Prelude.{ℕ, nat_lt, List, [], ◌∷◌, codes, string_bytes, if◌then◌else◌, Option, Some, None, option_map, option_and_then, Result, Ok, Err, bytes_eq}
 use Rattle.std.specs.Result.{result_ok}
 use Rattle.hex.specs.Hex.{decode_of}
-use Rattle.hex.specs.declared.error.FromHexError.{FromHexError}
 use Rattle.serde_json.specs.Data.{Data}
-use Rattle.serde_json.specs.Find.{get as member_of, as_str}
+use Rattle.serde_json.specs.Find.{get as member_of}
 use Rattle.dy_dots.specs.declared.faults.Fault.{Fault}
 use Rattle.dy_dots.specs.declared.faults.Fault.TheVariants.{ScriptSyntax, UnknownCommand}
 use Rattle.dy_script.specs.declared.commands.Command.{Command}
@@ -13,7 +12,7 @@ use Rattle.dy_script.specs.declared.commands.Command.TheVariants as command
 use Rattle.dy_script.specs.declared.commands.Mode.{Mode}
 use Rattle.dy_script.specs.declared.commands.Mode.TheVariants as mode
 use Rattle.dy_script.specs.declared.commands.Write.{Write}
-use Rattle.dy_script.specs.Members.{◌>>=◌, need, allow_only, text, optional_text, optional_whole, optional_small, as_whole}
+use Rattle.dy_script.specs.Members.{◌>>=◌, need, allow_only, text, optional_text, optional_small, as_whole}
 
 -- what a put and a delete say beside the value: key, context, session, w
 pub data WriteParts : Type 0 where

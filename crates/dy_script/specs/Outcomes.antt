@@ -1,5 +1,5 @@
 -- The lines that tell what came of commands.
-use Rattle.std.specs.Prelude.{ℕ, List, [], ◌∷◌, ◌++◌, codes, decimal, Option, Some, None, option_map, is_some, Bool, if◌then◌else◌}
+use Rattle.std.specs.Prelude.{ℕ, List, [], ◌++◌, codes, decimal, Option, Some, None, option_map, is_some, Bool, if◌then◌else◌}
 use Rattle.std.specs.List.{flat_map, list_any}
 use Rattle.dy_dots.specs.Dots.{dot_text}
 use Rattle.dy_dots.specs.Spelling.{context_text}

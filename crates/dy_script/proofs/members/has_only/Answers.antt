@@ -1,4 +1,4 @@
-use Rattle.std.proofs.Common.{String, Global, string_bytes, rules, tests}
+use Rattle.std.proofs.Common.{string_bytes, rules, tests}
 use Rattle.std.proofs.lemmas.Iterator.Consumers.{YieldsList-from_rest}
 use Rattle.std.proofs.lemmas.Iterator.Search.{all_from_yields_List}
 use Rattle.std.specs.Map.{keys_of}

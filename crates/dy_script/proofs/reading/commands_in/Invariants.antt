@@ -1,4 +1,4 @@
-use Rattle.std.proofs.Common.{◌≡◌, ◌≤◌, length, map}
+use Rattle.std.proofs.Common.{◌≡◌, map}
 use Rattle.dy_script.specs.Orders.{command_parts}
 use Rattle.dy_script.specs.Reading.{command_at}
 use Rattle.dy_script.proofs.Lists.{HasRead}

@@ -1,4 +1,3 @@
-use Rattle.std.proofs.Common.{map, vec_items}
 use Rattle.dy_script.specs.Reading.{token_at}
 use Rattle.dy_script.proofs.Lists.{HasRead}
 use Rattle.dy_script.proofs.reading.token_list.Given as goal

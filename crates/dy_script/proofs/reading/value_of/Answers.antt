@@ -1,4 +1,4 @@
-use Rattle.std.proofs.Common.{refl, inr, sym, ◌∙◌}
+use Rattle.std.proofs.Common.{refl, inr}
 use Rattle.dy_script.proofs.Texts.{data_read, data_unread, data_has_bytes}
 use Rattle.dy_script.proofs.reading.value_of.Goals as goal
 

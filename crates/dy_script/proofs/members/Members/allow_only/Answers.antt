@@ -1,8 +1,6 @@
-use Rattle.std.proofs.Common.{◌≡◌, ℕ, Bool, true, false, List, String, Global, Option, Some, None, Result, Ok, Err, option_map, Bor, sym, ap, ◌∙◌, refl, rules}
-use Rattle.std.proofs.lemmas.Grind.{common_steps}
+use Rattle.std.proofs.Common.{◌≡◌, ℕ, true, false, List, Some, Ok, Err, sym, ap, ◌∙◌, refl}
 use Rattle.serde_json.specs.Data.{Data, Members}
 use Rattle.serde_json.specs.Find.{as_object}
-use Rattle.dy_dots.specs.declared.faults.Fault.{Fault}
 use Rattle.dy_dots.specs.declared.faults.Fault.TheVariants.{ScriptSyntax}
 use Rattle.dy_script.specs.Members.{allow_only, knows}
 use Rattle.dy_script.proofs.Keys.{knows_keys}
