@@ -16,22 +16,45 @@ fn listed(alloc: Global, ring: &Ring, key: &Key) -> Result<Preference, Fault> {
     preference(alloc, ring, key, 1)
 }
 
+/// The preference list, made again where memory ran out.
+fn listed_again(rt: &HostRuntime, ring: &Ring, key: &Key) -> Result<Preference, Fail> {
+    match listed(rt.alloc(), ring, key) {
+        Ok(list) => Ok(list),
+        Err(fault) => {
+            println!(rt; "refused preference {fault}")?;
+            if fault != Fault::OutOfMemory {
+                return Err("a list that fails with memory".into());
+            }
+            Ok(listed(rt.alloc(), ring, key)?)
+        }
+    }
+}
+
+/// A ring of six nodes, made again where memory ran out.
+fn six_nodes(rt: &HostRuntime) -> Result<Ring, Fail> {
+    match Ring::derived(rt.alloc(), 6, 1) {
+        Ok(ring) => Ok(ring),
+        Err(fault) => {
+            println!(rt; "refused derived {fault}")?;
+            Ok(Ring::derived(rt.alloc(), 6, 1)?)
+        }
+    }
+}
+
+/// The key `abc`, made again where memory ran out.
+fn abc(rt: &HostRuntime) -> Result<Key, Fail> {
+    match Key::new(rt.alloc(), b"abc".as_slice()) {
+        Ok(key) => Ok(key),
+        Err(fault) => {
+            println!(rt; "refused key {fault}")?;
+            Ok(Key::new(rt.alloc(), b"abc".as_slice())?)
+        }
+    }
+}
+
 #[test]
 fn survive_a_refused_growth(rt: HostRuntime) -> Result<(), Fail> {
-    let alloc = rt.alloc();
-    let ring = match Ring::derived(alloc, 6, 1) {
-        Ok(ring) => ring,
-        Err(_fault) => Ring::derived(alloc, 6, 1)?,
-    };
-    let key = match Key::new(alloc, b"abc".as_slice()) {
-        Ok(key) => key,
-        Err(_fault) => Key::new(alloc, b"abc".as_slice())?,
-    };
-    let list = match listed(alloc, &ring, &key) {
-        Ok(list) => list,
-        Err(Fault::OutOfMemory) => listed(alloc, &ring, &key)?,
-        Err(fault) => return Err(Fail::from(fault)),
-    };
+    let list = listed_again(&rt, &six_nodes(&rt)?, &abc(&rt)?)?;
     assert_eq!(rt; list.nodes().len(), 6);
     // No growth at all is left.
     let coordinator = match list.homes().first() {

@@ -6,28 +6,52 @@ use dy_dots::Fault;
 use std::alloc::Global;
 use std::test::Fail;
 
-/// The ring of two nodes with these tokens.
-fn given(alloc: Global) -> Result<Ring, Fault> {
+/// The tokens of two nodes.
+fn two_lists(alloc: Global) -> Result<Vec<Vec<u128>>, Fault> {
     let mut lists = Vec::new(alloc);
     lists.push(Vec::from_slice(alloc, &[7u128, 3])?)?;
     lists.push(Vec::from_slice(alloc, &[5u128])?)?;
-    Ring::from_tokens(alloc, lists.as_slice())
+    Ok(lists)
+}
+
+/// The ring of these tokens, made again where memory ran out.
+fn given(rt: &HostRuntime, lists: &[Vec<u128>]) -> Result<Ring, Fail> {
+    match Ring::from_tokens(rt.alloc(), lists) {
+        Ok(ring) => Ok(ring),
+        Err(fault) => {
+            println!(rt; "refused from_tokens {fault}")?;
+            if fault != Fault::OutOfMemory {
+                return Err("a refused growth was taken for wrong tokens".into());
+            }
+            Ok(Ring::from_tokens(rt.alloc(), lists)?)
+        }
+    }
+}
+
+/// The ring of derived tokens, made again where memory ran out.
+fn derived(rt: &HostRuntime) -> Result<Ring, Fail> {
+    match Ring::derived(rt.alloc(), 2, 2) {
+        Ok(ring) => Ok(ring),
+        Err(fault) => {
+            println!(rt; "refused derived {fault}")?;
+            if fault != Fault::OutOfMemory {
+                return Err("a refused growth was taken for wrong numbers".into());
+            }
+            Ok(Ring::derived(rt.alloc(), 2, 2)?)
+        }
+    }
 }
 
 #[test]
 fn survive_a_refused_growth(rt: HostRuntime) -> Result<(), Fail> {
-    let alloc = rt.alloc();
-    let ring = match given(alloc) {
-        Ok(ring) => ring,
-        Err(Fault::OutOfMemory) => given(alloc)?,
-        Err(fault) => return Err(Fail::from(fault)),
+    let lists = match two_lists(rt.alloc()) {
+        Ok(lists) => lists,
+        Err(fault) => {
+            println!(rt; "refused lists {fault}")?;
+            two_lists(rt.alloc())?
+        }
     };
-    assert_eq!(rt; ring.tokens().len(), 3);
-    let ring = match Ring::derived(alloc, 2, 2) {
-        Ok(ring) => ring,
-        Err(Fault::OutOfMemory) => Ring::derived(alloc, 2, 2)?,
-        Err(fault) => return Err(Fail::from(fault)),
-    };
-    assert_eq!(rt; ring.tokens().len(), 4);
+    assert_eq!(rt; given(&rt, lists.as_slice())?.tokens().len(), 3);
+    assert_eq!(rt; derived(&rt)?.tokens().len(), 4);
     Ok(())
 }
