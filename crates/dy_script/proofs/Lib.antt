@@ -1,4 +1,5 @@
 pub mod Keys
 pub mod Lists
 pub mod Positions
+pub mod RingLines
 pub mod Texts

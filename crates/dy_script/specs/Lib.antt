@@ -5,5 +5,6 @@ pub mod Orders
 pub mod Outcomes
 pub mod Places
 pub mod Reading
+pub mod RingLines
 pub mod Texts
 pub mod Tokens

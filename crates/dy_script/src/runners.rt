@@ -1,4 +1,6 @@
-ghost use Rattle.std.specs.Prelude.{IsOkUnless};
+ghost use Rattle.std.specs.Prelude.{IfOk, IsOkUnless};
+ghost use Rattle.dy_script.specs.Reading.{layout_parts};
+ghost use Rattle.dy_script.specs.RingLines.{IsLaidOut};
 
 use crate::commands::{Command, Write};
 use crate::outcomes::{Outcome, Word};
@@ -263,7 +265,9 @@ impl Runner {
 }
 
 /// The ring that the layout says.
-pub(crate) fn ring_of(alloc: Global, layout: &Layout) -> Result<Ring, Fault> {
+pub(crate) fn ring_of(alloc: Global, layout: &Layout) -> Result<Ring, Fault>
+    ensures { IfOk result (λ ring. IsLaidOut (layout_parts layout.now) ring) }
+{
     match layout {
         Layout::Tokens(lists) => Ring::from_tokens(alloc, lists.as_slice()),
         Layout::Derived { nodes, per_node } => Ring::derived(alloc, *nodes, *per_node),

@@ -1,11 +1,19 @@
+ghost use Rattle.std.specs.Prelude.{OnOk};
+ghost use Rattle.std.specs.Io.KnownBytes.{Appends};
+ghost use Rattle.dy_ring.specs.Rings.{Tokens};
+ghost use Rattle.dy_script.specs.Reading.{script_parts};
+ghost use Rattle.dy_script.specs.RingLines.{IsLaidOut, key_lines, ring_lines, token_lines};
+
 use crate::audits::{AckedLine, EndLine, HeldLine, SettledLine};
 use crate::outcomes::CommandLine;
 use crate::rings::{KeyLine, TokenLine};
 use crate::runners::{Runner, ring_of};
 use crate::scripts::Script;
 use crate::stops::Stopped;
+use dy_dots::NodeId;
 use dy_preference::preference;
 use dy_ring::Ring;
+use dy_siblings::Key;
 use std::alloc::Global;
 use std::io::Write;
 
@@ -60,17 +68,41 @@ fn write_audit<W: Write>(
 
 /// Writes the tokens of the script's ring, in rising position, and then the preference list of each
 /// of its keys.
-pub fn write_ring<W: Write>(alloc: Global, script: &Script, out: &mut W) -> Result<(), Stopped> {
+pub fn write_ring<W: Write>(alloc: Global, script: &Script, out: &mut W) -> Result<(), Stopped>
+    ensures written { OnOk result ((ring : Tokens)
+        × IsLaidOut (script_parts script.now).layout ring
+        × Appends (W.contents out.old) (W.contents out.new)
+        (ring_lines ring (script_parts script.now).keys)) }
+{
     let ring = ring_of(alloc, &script.layout)?;
-    for (position, node) in ring.tokens() {
+    write_tokens(ring.tokens(), out)?;
+    write_keys(alloc, &ring, script.keys.as_slice(), out)?;
+    Ok(())
+}
+
+fn write_tokens<W: Write>(tokens: &[(u128, NodeId)], out: &mut W) -> Result<(), Stopped>
+    ensures { OnOk result (Appends (W.contents out.old) (W.contents out.new) (token_lines tokens.now)) }
+{
+    for (position, node) in tokens {
         let line = TokenLine {
             position: *position,
             node: *node,
         };
         writeln!(out, "{line}")?;
     }
-    for key in &script.keys {
-        let list = preference(alloc, &ring, key, ring.nodes())?;
+    Ok(())
+}
+
+fn write_keys<W: Write>(
+    alloc: Global,
+    ring: &Ring,
+    keys: &[Key],
+    out: &mut W,
+) -> Result<(), Stopped>
+    ensures { OnOk result (Appends (W.contents out.old) (W.contents out.new) (key_lines ring.now keys.now)) }
+{
+    for key in keys {
+        let list = preference(alloc, ring, key, ring.nodes())?;
         let line = KeyLine {
             key,
             position: Ring::position(key),
