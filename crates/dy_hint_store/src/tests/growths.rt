@@ -1,5 +1,5 @@
-//! Calls whose growth may be refused: the store is as before, and the same call then answers what it
-//! would have. Run with each allocation failing in turn, one a run.
+//! Calls whose growth may be refused: the store is as before, and the same call then answers what
+//! it would have. Run with each allocation failing in turn, one a run.
 
 use super::{dot, node};
 use crate::HintStore;
@@ -18,18 +18,21 @@ fn deletion(alloc: Global, key: &[u8], dot: Dot) -> Result<Row, Fault> {
 }
 
 // The row of the key, made anew where memory ran out.
-fn made(alloc: Global, key: &[u8]) -> Result<Row, Fail> {
+fn made(rt: &HostRuntime, key: &[u8]) -> Result<Row, Fail> {
     let dot = dot(1)?;
-    match deletion(alloc, key, dot) {
+    match deletion(rt.alloc(), key, dot) {
         Ok(row) => Ok(row),
-        Err(_) => Ok(deletion(alloc, key, dot)?),
+        Err(fault) => {
+            println!(rt; "refused row {fault}")?;
+            Ok(deletion(rt.alloc(), key, dot)?)
+        }
     }
 }
 
 // Puts the row for the home, again where memory ran out.
 fn put(rt: &HostRuntime, store: &mut HintStore, home: u8, key: &[u8]) -> Result<(), Fail> {
-    let row = made(rt.alloc(), key)?;
-    let again = made(rt.alloc(), key)?;
+    let row = made(rt, key)?;
+    let again = made(rt, key)?;
     if let Err(fault) = store.put_row(node(home)?, row) {
         println!(rt; "refused put_row {fault}")?;
         if store.row(node(home)?, again.key()).is_some() {
