@@ -6,6 +6,24 @@ use clap::{Arg, ArgMatches, Command, Error};
 use std::alloc::{AllocError, Global};
 use std::io;
 
+/// The version that `dynamo --version` prints.
+const VERSION: &str = "0.1.0";
+
+/// What help says at its end.
+const MORE_HELP: &str = "\
+Examples:
+  dynamo run examples/scripts/put_then_get.json
+  dynamo ring examples/scripts/ring_wraps.json
+  dynamo run /dev/stdin < script.json
+
+Status:
+  0  done; a command that was refused has \" E\" in its line
+  1  memory ran out, or the output could not be written
+  2  a bad command line (help and the version, too), a file that can't be read,
+     or a refused script, ring, limit or quorum
+
+Scripts and lines: docs/FORMATS.md. Refusals, and what to do: docs/REFUSALS.md.";
+
 /// The job that the words after the program's name ask for, or the status to end with.
 pub fn words(alloc: Global, words: &[String]) -> Result<Job, u8>
     ensures { IfErr result (λ status. (1 ≤ status) × (status ≤ 2)) }
@@ -58,6 +76,8 @@ fn matches_of<'a>(alloc: Global, words: &'a [String]) -> Result<ArgMatches<'a>, 
     let dynamo = Command::new(alloc, "dynamo")
         .bin_name("dynamo")?
         .about("An always-writable, replicated key-value store")
+        .version(VERSION)
+        .after_help(MORE_HELP)
         .no_binary_name(true)
         .subcommand_required(true)
         .subcommand(run)?

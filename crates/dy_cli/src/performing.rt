@@ -1,14 +1,16 @@
 ghost use Rattle.std.specs.Prelude.{◌≤◌};
 
 use crate::jobs::Job;
+use crate::refusing::refuse_file;
 use dy_dots::Fault;
-use dy_script::{Stopped, read, write_ring, write_run};
+use dy_runner::{Stopped, write_ring, write_run};
+use dy_script::read;
 use std::alloc::Global;
 use std::io::{Read, Write};
 
-/// Reads the script from the input, does the job, and gives the status: 0 where it was done, 1 where
-/// memory or the output failed, 2 where the script, its ring, a limit or its quorum is refused. A
-/// refusal is one line on `err`.
+/// Reads the script from the input, does the job, and gives the status: 0 where it was done, 1
+/// where memory or the output failed, 2 where the input can't be read, or the script, its ring, a
+/// limit or its quorum is refused. A refusal is one line on `err`.
 pub fn perform<R: Read, W: Write, E: Write>(
     alloc: Global,
     job: &Job,
@@ -20,8 +22,7 @@ pub fn perform<R: Read, W: Write, E: Write>(
 {
     let mut bytes = Vec::new(alloc);
     if let Err(error) = input.read_to_end(&mut bytes) {
-        let _ = writeln!(err, "dynamo: {}: {error}", job.file());
-        return 2;
+        return refuse_file(err, job.file(), &error);
     }
     match write_job(alloc, job, bytes.as_slice(), out) {
         Ok(()) => 0,

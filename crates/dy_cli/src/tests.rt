@@ -1,4 +1,4 @@
-//! The worked scenes, each by the program's words with its whole output.
+//! Worked scenes, each played by the program's words with its whole output, and runs that fail.
 
 mod failing;
 mod puts_and_gets;
@@ -8,7 +8,11 @@ mod rings;
 use crate::command_lines::words;
 use crate::performing::perform;
 use std::alloc::Global;
+use std::process::Abort;
 use std::test::Fail;
+
+/// Five nodes with a token each, three homes of a key, two for a get, and two for a put.
+const FIVE_NODES: &str = r#""n":3,"r":2,"w":2,"tokens":[["20"],["60"],["a0"],["d0"],["f0"]]"#;
 
 /// What a run of the program wrote, and the status that it ended with.
 #[derive(Debug, Drop)]
@@ -18,20 +22,56 @@ struct Printout {
     err: String,
 }
 
+/// Checks that the program ends well with this word and the script of these members of the ring and
+/// these others, and prints just this.
+fn prints(
+    rt: &impl Abort,
+    alloc: Global,
+    word: &str,
+    ring: &str,
+    members: &str,
+    wanted: &str,
+) -> Result<(), Fail> {
+    let script = script_of(alloc, ring, members)?;
+    let told = told(alloc, word, script.as_str())?;
+    assert_eq!(rt; told.err.as_str(), "");
+    assert_eq!(rt; told.out.as_str(), wanted);
+    assert_eq!(rt; told.status, 0);
+    Ok(())
+}
+
+/// Checks that a run of the script of these members of the ring and these others is refused with
+/// this line.
+fn refuses(
+    rt: &impl Abort,
+    alloc: Global,
+    ring: &str,
+    members: &str,
+    wanted: &str,
+) -> Result<(), Fail> {
+    let script = script_of(alloc, ring, members)?;
+    refuses_text(rt, alloc, script.as_str(), wanted)
+}
+
+/// Checks that a run of this text is refused with this line.
+fn refuses_text(rt: &impl Abort, alloc: Global, script: &str, wanted: &str) -> Result<(), Fail> {
+    let told = told(alloc, "run", script)?;
+    assert_eq!(rt; told.err.as_str(), wanted);
+    assert_eq!(rt; told.out.as_str(), "");
+    assert_eq!(rt; told.status, 2);
+    Ok(())
+}
+
+/// The script of these members of the ring and these others.
+fn script_of(alloc: Global, ring: &str, members: &str) -> Result<String, Fail> {
+    Ok(format!(in alloc; "{{{ring},{members}}}")?)
+}
+
 /// Runs the program with this word and a file that has this script.
 fn told(alloc: Global, word: &str, script: &str) -> Result<Printout, Fail> {
-    let mut line = Vec::new(alloc);
-    line.push(String::from_str(alloc, word)?)?;
-    line.push(String::from_str(alloc, "script.json")?)?;
-    let job = match words(alloc, line.as_slice()) {
-        Ok(job) => job,
-        Err(status) => {
-            return Ok(Printout {
-                status,
-                out: String::new(alloc),
-                err: String::new(alloc),
-            });
-        }
+    let given = words_of(alloc, &[word, "script.json"])?;
+    let Ok(job) = words(alloc, given.as_slice()) else {
+        return Err(Fail::from("no job"));
     };
     let mut input = script.as_bytes();
     let mut out = Vec::new(alloc);
@@ -42,6 +82,15 @@ fn told(alloc: Global, word: &str, script: &str) -> Result<Printout, Fail> {
         out: text_of(alloc, out.as_slice())?,
         err: text_of(alloc, err.as_slice())?,
     })
+}
+
+/// The words of a command line.
+fn words_of(alloc: Global, texts: &[&str]) -> Result<Vec<String>, Fail> {
+    let mut words = Vec::new(alloc);
+    for text in texts {
+        words.push(String::from_str(alloc, text)?)?;
+    }
+    Ok(words)
 }
 
 /// The bytes as a text.

@@ -9,11 +9,11 @@ use Rattle.std.proofs.lemmas.List.Elements.{Contains-append_left, Contains-push_
 use Rattle.std.proofs.lemmas.Map.Keys.{IsDistinct-push}
 use Rattle.dy_core.specs.Worlds.{World}
 use Rattle.dy_core.specs.Covers.{CoversAt, HasCover}
-use Rattle.dy_core.specs.Inside.{AreChosen, clashes}
+use Rattle.dy_core.specs.inside.Meanings.{AreChosen, clashes}
 use Rattle.dy_core.specs.Listings.{ListsCovers}
 use Rattle.dy_dots.specs.declared.dots.Dot.{Dot}
 use Rattle.dy_core.specs.declared.places.Place.{Place}
-use Rattle.dy_core.proofs.Members.{map_from, not_in_nil, any_from, none_from}
+use Rattle.dy_siblings.proofs.Members.{map_from, not_in_nil, any_from, none_from}
 use Rattle.dy_core.proofs.Keeping.{all_from}
 
 map-push : (f : Place → ℕ) (xs : List Place) (p : Place) → map f (xs ++ p ∷ []) ≡ map f xs ++ f p ∷ []
@@ -68,7 +68,7 @@ chosen_cover w key d places chosen lists are n le =
         count_is = omega (arith, length-take n chosen);
         homes_distinct = front_distinct (λ p. p.home) n chosen are.homes_distinct;
         holders_distinct = front_distinct (λ p. p.holder) n chosen are.holders_distinct;
-        each_covers = all_from (λ p. CoversAt w key d p.home p.holder) (take n chosen) (λ p inside.
+        each_covers = all_from (λ p. CoversAt w key d p.holder p.home) (take n chosen) (λ p inside.
             (lists.same p).0
             (are.inside p (subst (λ xs. Contains xs p) (take-append-drop n chosen) (Contains-append_left (take n chosen) _ p inside))));
       };

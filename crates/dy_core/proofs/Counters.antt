@@ -9,8 +9,9 @@ use Rattle.dy_core.specs.Logs.{world_after, IsLegal}
 use Rattle.dy_dots.specs.declared.dots.Dot.{Dot}
 use Rattle.dy_siblings.specs.declared.versions.Version.{Version}
 use Rattle.dy_core.specs.declared.steps.Step.{Step}
-use Rattle.dy_core.proofs.Members.{in_head, in_tail, any_gives}
-use Rattle.dy_core.proofs.Sameness.{same_dot_is, same_key_is}
+use Rattle.dy_siblings.proofs.Members.{in_head, in_tail, any_gives}
+use Rattle.dy_dots.proofs.SameDots.{same_dot_is}
+use Rattle.dy_siblings.proofs.SameKeys.{same_key_is}
 use Rattle.dy_core.proofs.Ordered.{IsOrdered}
 use Rattle.dy_core.proofs.OverLogs.{log_sound}
 

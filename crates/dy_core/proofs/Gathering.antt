@@ -6,9 +6,9 @@ use Rattle.std.specs.FinMap.{IsAntisymmetric}
 use Rattle.std.specs.List.{Contains}
 use Rattle.std.specs.List.Sorted.{IsStrictlySortedBy}
 use Rattle.std.proofs.lemmas.Bool.{cond_both, cond-true}
-use Rattle.dy_core.specs.Inside.{gathered}
+use Rattle.dy_core.specs.inside.Meanings.{gathered}
 use Rattle.dy_core.specs.Orders.{put}
-use Rattle.dy_core.proofs.Members.{not_in_nil, in_head, in_tail, in_cases}
+use Rattle.dy_siblings.proofs.Members.{not_in_nil, in_head, in_tail, in_cases}
 use Rattle.dy_core.proofs.Putting.{put_cases, put_has, put_keeps, put_sorted}
 
 -- an item that passes, and gives this

@@ -13,14 +13,15 @@ use Rattle.std.proofs.lemmas.Cmp.{nat_list_cmp_total, tied_itself}
 use Rattle.dy_dots.specs.Dots.{dot_cmp}
 use Rattle.dy_siblings.specs.Siblings.{same_key}
 use Rattle.dy_core.specs.Steps.{same_place}
-use Rattle.dy_core.specs.Inside.{is_at, others, row_in}
+use Rattle.dy_core.specs.inside.Meanings.{is_at, others, row_in}
 use Rattle.dy_core.specs.Orders.{key_cmp, holding_cmp, ack_cmp, place_cmp, put}
 use Rattle.dy_siblings.specs.declared.versions.Version.{Version}
 use Rattle.dy_core.specs.declared.acks.Acked.{Acked}
 use Rattle.dy_core.specs.declared.places.Place.{Place}
 use Rattle.dy_core.specs.declared.holdings.Holding.{Holding}
-use Rattle.dy_core.proofs.Members.{not_in_nil, in_head, in_tail, in_cases}
-use Rattle.dy_core.proofs.Sameness.{dot_cmp_total, dot_cmp_same, same_key_is, same_key_self}
+use Rattle.dy_siblings.proofs.Members.{not_in_nil, in_head, in_tail, in_cases}
+use Rattle.dy_dots.proofs.Sets.{dot_total, dot_antisymmetric}
+use Rattle.dy_siblings.proofs.SameKeys.{same_key_is, same_key_self}
 
 -- both parts of a tie
 pub both_tie : (r s : Ordering) → ordering_then r s ≡ Equal → (r ≡ Equal) × (s ≡ Equal)
@@ -44,14 +45,14 @@ holding_cmp_total =
 pub ack_cmp_total : IsTotalOrder ack_cmp
 ack_cmp_total =
     then_total (on_total (λ (a : Acked). a.key) nat_list_cmp_total)
-    (then_total (on_total (λ (a : Acked). a.dot) dot_cmp_total) (on_total (λ (a : Acked). a.w) nat_cmp_total))
+    (then_total (on_total (λ (a : Acked). a.dot) dot_total) (on_total (λ (a : Acked). a.w) nat_cmp_total))
 
 pub acks_tie : IsAntisymmetric ack_cmp
 acks_tie a b e =
     let outer = both_tie (key_cmp a.key b.key) (ordering_then (dot_cmp a.dot b.dot) (nat_cmp a.w b.w)) e in
     let inner = both_tie (dot_cmp a.dot b.dot) (nat_cmp a.w b.w) outer.1 in
     let key_is = keys_tie a.key b.key outer.0 in
-    let dot_is = dot_cmp_same a.dot b.dot inner.0 in
+    let dot_is = dot_antisymmetric a.dot b.dot inner.0 in
     let w_is = nat_cmp-IsAntisymmetric a.w b.w inner.1 in
     λ i. record { key = key_is i; dot = dot_is i; w = w_is i }
 

@@ -9,14 +9,14 @@ use Rattle.dy_dots.specs.Dots.{same_dot}
 use Rattle.dy_siblings.specs.Siblings.{Siblings, IsSameRow, has_dot, newest, merge}
 use Rattle.dy_core.specs.Worlds.{World, AreMadeOf, row_at}
 use Rattle.dy_core.specs.Steps.{same_place, after_hold, after_release}
-use Rattle.dy_core.specs.Inside.{Meets, is_at, is_nothing, others, kept, row_in}
+use Rattle.dy_core.specs.inside.Meanings.{Meets, is_at, is_nothing, others, kept, row_in}
 use Rattle.dy_core.specs.Orders.{holding_cmp, ack_cmp, put}
 use Rattle.dy_dots.specs.declared.dots.Dot.{Dot}
 use Rattle.dy_siblings.specs.declared.versions.Version.{Version}
 use Rattle.dy_core.specs.declared.acks.Acked.{Acked}
 use Rattle.dy_core.specs.declared.holdings.Holding.{Holding}
-use Rattle.dy_core.proofs.Members.{in_head, in_tail, in_cases, any_gives, any_from, filter_in, filter_from}
-use Rattle.dy_core.proofs.Sameness.{same_dot_is, same_dot_self}
+use Rattle.dy_siblings.proofs.Members.{in_head, in_tail, in_cases, any_gives, any_from, filter_in, filter_from}
+use Rattle.dy_dots.proofs.SameDots.{same_dot_is, same_dot_self}
 use Rattle.dy_core.proofs.Ordered.{IsOrdered, same_version}
 use Rattle.dy_core.proofs.Standing.{stands_from, stands_in, AreOf-held, place_is}
 use Rattle.dy_core.proofs.Merging.{newest_same, newest_from, same_row_on}
@@ -188,6 +188,54 @@ meets_hold w ordered versions held acked meets holder home row made new key_is m
 -- the versions but that of the dot
 abbrev pub but : List Version → Dot → List Version
 but vs d = filter (λ v. not (same_dot v.dot d)) vs
+
+-- after a release the place has its row without the dot
+pub release_row : (w : World) (holder home : ℕ) (key : List ℕ) (d : Dot) →
+    IsSameRow (row_at (after_release w holder home key d) holder home key) (but (row_at w holder home key) d)
+release_row w holder home key d v = (
+  (λ inside.
+      let s = stands_from (after_release w holder home key d) holder home key v inside in
+      let parts = and_parts (w.holdings holder home key v.dot) (not (same_place holder home key holder home key && same_dot v.dot d)) s.is_held in
+      filter_in (λ u. not (same_dot u.dot d)) (row_at w holder home key) v
+      (stands_in w holder home key v (record { made = s.made; key_is = s.key_is; is_held = parts.0 }))
+      (ap (λ b. not (b && same_dot v.dot d)) (sym (self_place holder home key)) ∙ parts.1)),
+  (λ inside.
+      let f = filter_from (λ u. not (same_dot u.dot d)) (row_at w holder home key) v inside in
+      let s = stands_from w holder home key v f.0 in
+      stands_in (after_release w holder home key d) holder home key v
+      (record {
+        made = s.made;
+        key_is = s.key_is;
+        is_held =
+            and_from (w.holdings holder home key v.dot) (not (same_place holder home key holder home key && same_dot v.dot d)) s.is_held
+            (not_from_false (same_place holder home key holder home key && same_dot v.dot d)
+            (and_right (same_place holder home key holder home key) (same_dot v.dot d) (not-true (same_dot v.dot d) f.1)));
+      })),
+)
+
+-- a release changes no other row
+pub release_elsewhere : (w : World) (holder home : ℕ) (key : List ℕ) (d : Dot) (p o : ℕ) (k : List ℕ) → same_place holder home key p o k ≡ false →
+    IsSameRow (row_at (after_release w holder home key d) p o k) (row_at w p o k)
+release_elsewhere w holder home key d p o k not_at v = (
+  (λ inside.
+      let s = stands_from (after_release w holder home key d) p o k v inside in
+      stands_in w p o k v
+      (record {
+        made = s.made;
+        key_is = s.key_is;
+        is_held = (and_parts (w.holdings p o k v.dot) (not (same_place holder home key p o k && same_dot v.dot d)) s.is_held).0;
+      })),
+  (λ inside.
+      let s = stands_from w p o k v inside in
+      stands_in (after_release w holder home key d) p o k v
+      (record {
+        made = s.made;
+        key_is = s.key_is;
+        is_held =
+            and_from (w.holdings p o k v.dot) (not (same_place holder home key p o k && same_dot v.dot d)) s.is_held
+            (not_from_false (same_place holder home key p o k && same_dot v.dot d) (and_left (same_place holder home key p o k) (same_dot v.dot d) not_at));
+      })),
+)
 
 pub meets_release : (w : World) (versions : List Version) (held : List Holding) (acked : List Acked) → Meets w versions held acked →
     (holder home : ℕ) (key : List ℕ) (d : Dot) (new : Siblings) → new.key ≡ key → new.versions ≡ but (row_in held holder home key) d →

@@ -14,8 +14,11 @@ use Rattle.dy_dots.specs.declared.dots.Dot.{Dot}
 use Rattle.dy_siblings.specs.declared.versions.Version.{Version}
 use Rattle.dy_core.specs.declared.steps.Step.{Step}
 use Rattle.dy_core.specs.declared.steps.Step.TheVariants.{Issue, Hold, Release, Fetch, Ack}
-use Rattle.dy_core.proofs.Members.{not_in_nil, in_head, in_tail, in_cases, any_gives, any_from, filter_from}
-use Rattle.dy_core.proofs.Sameness.{same_dot_is, same_key_is, same_key_self, in_union, in_history_set}
+use Rattle.dy_siblings.proofs.Members.{not_in_nil, in_head, in_tail, in_cases, any_gives, any_from, filter_from}
+use Rattle.dy_dots.proofs.SameDots.{same_dot_is}
+use Rattle.dy_siblings.proofs.SameKeys.{same_key_is, same_key_self}
+use Rattle.dy_dots.proofs.Sets.{in_union}
+use Rattle.dy_siblings.proofs.Histories.{in_history_set}
 use Rattle.dy_core.proofs.Ordered.{IsOrdered, past_is_known}
 use Rattle.dy_core.proofs.Standing.{AreOf-held, place_is}
 

@@ -1,5 +1,3 @@
-pub mod Members
-pub mod Sameness
 pub mod Ordered
 pub mod Standing
 pub mod Kept
@@ -22,3 +20,4 @@ pub mod Runs
 pub mod Gathering
 pub mod Listed
 pub mod Performing
+pub mod Following

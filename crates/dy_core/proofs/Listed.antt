@@ -11,7 +11,7 @@ use Rattle.dy_siblings.specs.Siblings.{IsSameRow, has_dot, same_key, covers}
 use Rattle.dy_core.specs.Worlds.{Layout, World, AreMadeOf, IsSettled, is_issued, row_at}
 use Rattle.dy_core.specs.Covers.{covers_at}
 use Rattle.dy_core.specs.Logs.{world_after}
-use Rattle.dy_core.specs.Inside.{Meets, IsAfter, last_in, row_in, gathered, is_covering, is_hint, place_of, settled_in}
+use Rattle.dy_core.specs.inside.Meanings.{Meets, IsAfter, last_in, row_in, gathered, is_covering, is_hint, place_of, settled_in}
 use Rattle.dy_core.specs.Listings.{ListsHoldings, ListsAcks, ListsCovers, ListsSettled}
 use Rattle.dy_core.specs.Orders.{place_cmp, key_cmp}
 use Rattle.dy_dots.specs.declared.dots.Dot.{Dot}
@@ -20,8 +20,9 @@ use Rattle.dy_core.specs.declared.acks.Acked.{Acked}
 use Rattle.dy_core.specs.declared.places.Place.{Place}
 use Rattle.dy_core.specs.declared.holdings.Holding.{Holding}
 use Rattle.dy_core.specs.declared.steps.Step.{Step}
-use Rattle.dy_core.proofs.Members.{not_in_nil, in_head, any_gives, any_from, none_from}
-use Rattle.dy_core.proofs.Sameness.{same_dot_is, same_key_is, same_key_self}
+use Rattle.dy_siblings.proofs.Members.{not_in_nil, in_head, any_gives, any_from, none_from}
+use Rattle.dy_dots.proofs.SameDots.{same_dot_is}
+use Rattle.dy_siblings.proofs.SameKeys.{same_key_is, same_key_self}
 use Rattle.dy_core.proofs.Standing.{stands_from, stands_in}
 use Rattle.dy_core.proofs.Kept.{IsSound}
 use Rattle.dy_core.proofs.OverLogs.{log_sound}
@@ -70,7 +71,7 @@ module _ (w : World) (versions : List Version) (held : List Holding) (acked : Li
         in_order = meets.held_in_order;
       }
 
-  pub covers_is : (holder home : ℕ) (key : List ℕ) (d : Dot) → covers (row_in held holder home key) d ≡ covers_at w key d home holder
+  pub covers_is : (holder home : ℕ) (key : List ℕ) (d : Dot) → covers (row_in held holder home key) d ≡ covers_at w key d holder home
   covers_is holder home key d = covers_same (row_in held holder home key) (row_at w holder home key) (meets.rows_are holder home key) d
 
   -- what covers a dot at a place is a holding there
@@ -85,7 +86,7 @@ module _ (w : World) (versions : List Version) (held : List Holding) (acked : Li
               let key_is = same_key_is h.row.key key parts.0 in
               let row_is = row_in-of h.holder h.home key held meets.held_in_order h s.in_list
               (at_from h.holder h.home key h (record { holder_is = refl; home_is = refl; key_is = key_is })) in
-              ap (λ q. covers_at w key d q.home q.holder) (sym s.gives)
+              ap (λ q. covers_at w key d q.holder q.home) (sym s.gives)
               ∙ sym (covers_is h.holder h.home key d)
               ∙ ap (λ vs. covers vs d) row_is
               ∙ parts.1),
@@ -165,12 +166,6 @@ module _ (w : World) (versions : List Version) (held : List Holding) (acked : Li
 pub option_weaker : {T : Type 0} (o : Option T) (P Q : Type 0) (R S : T → Type 0) → (P → Q) → ((x : T) → R x → S x) → MatchOption o P R → MatchOption o Q S
 option_weaker None P Q R S none some h = none h
 option_weaker (Some x) P Q R S none some h = some x h
-
--- the same where each case has two facts
-pub option_both : {T : Type 0} (o : Option T) (P Q : Type 0) (R S U : T → Type 0) → (P → Q) → ((x : T) → R x → S x → U x) →
-    MatchOption o P R → MatchOption o P S → MatchOption o Q U
-option_both None P Q R S U none some h k = none h
-option_both (Some x) P Q R S U none some h k = some x h k
 
 module _ (layout : Layout) (steps : List Step) (versions : List Version) (held : List Holding) (acked : List Acked)
     (after : IsAfter layout steps versions held acked) where

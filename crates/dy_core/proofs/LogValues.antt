@@ -22,13 +22,13 @@ steps = Issue 0 (97 ∷ []) set.empty (Some (120 ∷ [])) ∷ Hold 0 0 row ∷ H
 own_home : covers_at (world_after steps) (97 ∷ []) first 0 0 ≡ true
 own_home = simp (set.contains-empty)
 
-stand_in : covers_at (world_after steps) (97 ∷ []) first 1 3 ≡ true
+stand_in : covers_at (world_after steps) (97 ∷ []) first 3 1 ≡ true
 stand_in = simp (set.contains-empty)
 
 not_asked : covers_at (world_after steps) (97 ∷ []) first 2 2 ≡ false
 not_asked = refl
 
-released : covers_at (world_after (steps ++ Release 3 1 (97 ∷ []) first ∷ [])) (97 ∷ []) first 1 3 ≡ false
+released : covers_at (world_after (steps ++ Release 3 1 (97 ∷ []) first ∷ [])) (97 ∷ []) first 3 1 ≡ false
 released = simp (set.contains-empty)
 
 abbrev three : Layout

@@ -4,7 +4,7 @@ use Rattle.std.specs.List.Sorted.{IsStrictlySortedBy}
 use Rattle.dy_core.specs.Worlds.{Layout, empty_world}
 use Rattle.dy_core.specs.Steps.{IsAllowed, world_after_step}
 use Rattle.dy_core.specs.Logs.{world_after}
-use Rattle.dy_core.specs.Inside.{Meets, IsAfter}
+use Rattle.dy_core.specs.inside.Meanings.{Meets, IsAfter}
 use Rattle.dy_siblings.specs.declared.versions.Version.{Version}
 use Rattle.dy_core.specs.declared.acks.Acked.{Acked}
 use Rattle.dy_core.specs.declared.holdings.Holding.{Holding}

@@ -12,8 +12,8 @@ use Rattle.dy_core.specs.Logs.{world_after, IsLegal}
 use Rattle.dy_dots.specs.declared.dots.Dot.{Dot}
 use Rattle.dy_siblings.specs.declared.versions.Version.{Version}
 use Rattle.dy_core.specs.declared.steps.Step.{Step}
-use Rattle.dy_core.proofs.Members.{any_gives, any_from, none_from, filter_in, filter_from}
-use Rattle.dy_core.proofs.Sameness.{same_dot_is, same_dot_self}
+use Rattle.dy_siblings.proofs.Members.{any_gives, any_from, none_from, filter_in, filter_from}
+use Rattle.dy_dots.proofs.SameDots.{same_dot_is, same_dot_self}
 use Rattle.dy_core.proofs.Ordered.{IsOrdered, AreOf, past_is_known, same_version, newest_covers}
 use Rattle.dy_core.proofs.OverLogs.{log_sound}
 

@@ -9,18 +9,20 @@ use Rattle.dy_dots.specs.Dots.{DotSet, same_dot}
 use Rattle.dy_siblings.specs.Versions.{in_history}
 use Rattle.dy_siblings.specs.Siblings.{same_key, IsSameRow}
 use Rattle.dy_core.specs.Steps.{past_of}
-use Rattle.dy_core.specs.Inside.{is_named, named_in}
+use Rattle.dy_core.specs.inside.Meanings.{is_named, named_in}
 use Rattle.dy_dots.specs.declared.dots.Dot.{Dot}
 use Rattle.dy_siblings.specs.declared.versions.Version.{Version}
-use Rattle.dy_core.proofs.Members.{any_gives, any_from}
-use Rattle.dy_core.proofs.Sameness.{any-append, in_insert, in_union, same_dot_back, same_key_is, same_key_self, dot_cmp_total, dot_cmp_same}
+use Rattle.dy_siblings.proofs.Members.{any_gives, any_from}
+use Rattle.std.proofs.lemmas.List.Folds.{list_any-append}
+use Rattle.dy_dots.proofs.Sets.{in_insert, in_union, dot_total, dot_antisymmetric}
+use Rattle.dy_siblings.proofs.SameKeys.{same_key_is, same_key_self}
 use Rattle.dy_core.proofs.Kept.{Named, past_gives, past_from}
 
 named_push : (vs : List Version) (i : ℕ) (v : Version) → i < length vs → v ≡ get_or vs i v → (key : List ℕ) (context : DotSet) (d : Dot) →
     named_in (take (i + 1) vs) key context d ≡ (named_in (take i vs) key context d || (is_named v key context && in_history v d))
 named_push vs i v lt is key context d =
     ap (λ xs. named_in xs key context d) (take_more vs i v lt)
-    ∙ any-append (λ x. is_named x key context && in_history x d) (take i vs) (get_or vs i v ∷ [])
+    ∙ list_any-append (λ x. is_named x key context && in_history x d) (take i vs) (get_or vs i v ∷ [])
     ∙ ap (λ x. named_in (take i vs) key context d || ((is_named x key context && in_history x d) || false)) (sym is)
     ∙ ap (λ b. named_in (take i vs) key context d || b) (or_false (is_named v key context && in_history v d))
   where
@@ -34,7 +36,7 @@ pub named_step : (vs : List Version) (i : ℕ) (v : Version) → i < length vs �
     (d : Dot) → set.contains (set.insert (set.union past v.past) v.dot) d ≡ named_in (take (i + 1) vs) key context d
 named_step vs i v lt is key context past before named d =
     in_insert (set.union past v.past) v.dot d
-    ∙ (λ j. same_dot_back d v.dot j || in_union past v.past d j)
+    ∙ ap (λ b. same_dot v.dot d || b) (in_union past v.past d)
     ∙ moved (same_dot v.dot d) (set.contains past d) (set.contains v.past d)
     ∙ (λ j. before d j || (sym named j && in_history v d))
     ∙ sym (named_push vs i v lt is key context d)
@@ -82,7 +84,7 @@ named_among xs ys key context d within n =
 pub past_from_list : (vs issued : List Version) → IsSameRow vs issued → (key : List ℕ) (context past : DotSet) →
     ((d : Dot) → set.contains past d ≡ named_in vs key context d) → past ≡ past_of issued key context
 past_from_list vs issued same key context past says =
-    set.same_set dot_cmp_total dot_cmp_same past (past_of issued key context) (λ d.
+    set.same_set dot_total dot_antisymmetric past (past_of issued key context) (λ d.
     says d
     ∙ both_ways_same (named_in vs key context d) (set.contains (past_of issued key context) d)
     (λ e. past_from issued key context d (named_among vs issued key context d (λ v. (same v).0) (named_gives vs key context d e)))

@@ -8,13 +8,14 @@ use Rattle.dy_dots.specs.Dots.{DotSet, same_dot}
 use Rattle.dy_siblings.specs.Siblings.{same_key, IsSameRow}
 use Rattle.dy_core.specs.Worlds.{Layout, World}
 use Rattle.dy_core.specs.Steps.{version_made, after_issue}
-use Rattle.dy_core.specs.Inside.{is_by, last_in, named_in, Meets}
+use Rattle.dy_core.specs.inside.Meanings.{is_by, last_in, named_in, Meets}
 use Rattle.dy_dots.specs.declared.dots.Dot.{Dot}
 use Rattle.dy_siblings.specs.declared.versions.Version.{Version}
 use Rattle.dy_core.specs.declared.acks.Acked.{Acked}
 use Rattle.dy_core.specs.declared.holdings.Holding.{Holding}
-use Rattle.dy_core.proofs.Members.{not_in_nil, in_head, in_tail, in_cases, any_gives}
-use Rattle.dy_core.proofs.Sameness.{same_dot_is, same_key_is}
+use Rattle.dy_siblings.proofs.Members.{not_in_nil, in_head, in_tail, in_cases, any_gives}
+use Rattle.dy_dots.proofs.SameDots.{same_dot_is}
+use Rattle.dy_siblings.proofs.SameKeys.{same_key_is}
 use Rattle.dy_core.proofs.Kept.{IsSound}
 use Rattle.dy_core.proofs.Named.{past_from_list}
 use Rattle.dy_core.proofs.Standing.{stands_from, stands_in}

@@ -9,8 +9,9 @@ use Rattle.dy_siblings.specs.Siblings.{same_key, covers, is_past, has_dot, newes
 use Rattle.dy_core.specs.Logs.{Known}
 use Rattle.dy_dots.specs.declared.dots.Dot.{Dot}
 use Rattle.dy_siblings.specs.declared.versions.Version.{Version}
-use Rattle.dy_core.proofs.Members.{Passes, not_in_nil, in_head, in_tail, in_cases, any_gives, any_from, none_from, filter_in}
-use Rattle.dy_core.proofs.Sameness.{same_dot_is, same_dot_self, same_key_is, same_key_self}
+use Rattle.dy_siblings.proofs.Members.{Passes, not_in_nil, in_head, in_tail, in_cases, any_gives, any_from, none_from, filter_in}
+use Rattle.dy_dots.proofs.SameDots.{same_dot_is, same_dot_self}
+use Rattle.dy_siblings.proofs.SameKeys.{same_key_is, same_key_self}
 
 -- the version is new to the older ones, and its past is made of them
 pub record IsNew (older : List Version) (v : Version) : Type 0 where

@@ -14,7 +14,7 @@ use Rattle.dy_core.specs.declared.steps.Step.TheVariants.{Issue, Hold, Release, 
 use Rattle.dy_core.specs.declared.steps.Step.{Step}
 use Rattle.dy_core.proofs.Kept.{IsSound, empty_sound, step_sound}
 use Rattle.dy_core.proofs.Receipts.{step_keeps_own, step_keeps_receipt, cover_from_receipts}
-use Rattle.dy_core.proofs.Members.{in_tail}
+use Rattle.dy_siblings.proofs.Members.{in_tail}
 
 pub sound_from : (layout : Layout) (w : World) → IsSound layout w → (ss : List Step) → IsLegalFrom layout w ss → IsSound layout (world_from w ss)
 sound_from layout w sound [] r = sound
@@ -52,8 +52,8 @@ step_keeps_cover layout w sound s a key d n has =
     let c = has.is_cover in
     subst (HasCover (world_after_step w s) key d) c.count_is
     (cover_from_receipts layout (world_after_step w s) (step_sound layout w sound s a) key d has.places
-    (All-weaker (λ p. covers_at w key d p.home p.holder ≡ true) (λ p. receipt_holds (world_after_step w s) key d p.home p.holder ≡ true)
-    (λ p covers. step_keeps_receipt layout w sound key d p.home p.holder s a (or_left (covers_at w key d p.home p.holder) (covers_at w key d p.home p.home) covers))
+    (All-weaker (λ p. covers_at w key d p.holder p.home ≡ true) (λ p. receipt_holds (world_after_step w s) key d p.holder p.home ≡ true)
+    (λ p covers. step_keeps_receipt layout w sound key d p.home p.holder s a (or_left (covers_at w key d p.holder p.home) (covers_at w key d p.home p.home) covers))
     has.places c.each_covers)
     c.homes_distinct c.holders_distinct)
 
@@ -94,9 +94,9 @@ own_stays layout steps more legal key d home =
     stays layout (λ w. covers_at w key d home home ≡ true) (λ w sound s a. step_keeps_own layout w sound key d home s a) steps more legal
 
 pub receipt_stays : (layout : Layout) (steps more : List Step) → IsLegal layout (steps ++ more) → (key : List ℕ) (d : Dot) (home holder : ℕ) →
-    receipt_holds (world_after steps) key d home holder ≡ true → receipt_holds (world_after (steps ++ more)) key d home holder ≡ true
+    receipt_holds (world_after steps) key d holder home ≡ true → receipt_holds (world_after (steps ++ more)) key d holder home ≡ true
 receipt_stays layout steps more legal key d home holder =
-    stays layout (λ w. receipt_holds w key d home holder ≡ true) (λ w sound s a. step_keeps_receipt layout w sound key d home holder s a) steps more legal
+    stays layout (λ w. receipt_holds w key d holder home ≡ true) (λ w sound s a. step_keeps_receipt layout w sound key d home holder s a) steps more legal
 
 step_keeps_issued : (layout : Layout) (v : Version) (w : World) → IsSound layout w → (s : Step) → IsAllowed layout w s → Contains w.versions v → Contains (world_after_step w s).versions v
 step_keeps_issued layout v w sound (Issue node key context value) a h = in_tail (version_made w node key context value) v w.versions h

@@ -7,9 +7,9 @@ use Rattle.std.proofs.lemmas.List.Elements.{All-contains, Contains-append_cases}
 use Rattle.dy_dots.specs.Dots.{DotSet, same_dot}
 use Rattle.dy_siblings.specs.Siblings.{Siblings, AreOneByDot, IsSameRow, merge, without}
 use Rattle.dy_core.specs.Worlds.{Layout, World}
-use Rattle.dy_core.specs.Steps.{IsAllowed, world_after_step, answer_of}
+use Rattle.dy_core.specs.Steps.{IsAllowed, world_after_step, row_answered}
 use Rattle.dy_core.specs.Logs.{world_after}
-use Rattle.dy_core.specs.Inside.{IsAfter, Meets, named_in, last_in, row_in, kept}
+use Rattle.dy_core.specs.inside.Meanings.{IsAfter, Meets, named_in, last_in, row_in, kept}
 use Rattle.dy_core.specs.Orders.{ack_cmp, put}
 use Rattle.dy_dots.specs.declared.dots.Dot.{Dot}
 use Rattle.dy_siblings.specs.declared.versions.Version.{Version}
@@ -17,7 +17,7 @@ use Rattle.dy_core.specs.declared.acks.Acked.{Acked}
 use Rattle.dy_core.specs.declared.holdings.Holding.{Holding}
 use Rattle.dy_core.specs.declared.steps.Step.{Step}
 use Rattle.dy_core.specs.declared.steps.Step.TheVariants.{Issue, Hold, Release, Fetch, Ack}
-use Rattle.dy_core.proofs.Sameness.{same_dot_is}
+use Rattle.dy_dots.proofs.SameDots.{same_dot_is}
 use Rattle.dy_core.proofs.Ordered.{past_is_known, same_version}
 use Rattle.dy_core.proofs.Standing.{stands_from}
 use Rattle.dy_core.proofs.Kept.{IsSound, Named}
@@ -133,6 +133,6 @@ module _ (layout : Layout) (steps : List Step) (versions : List Version) (held :
 
 pub fetch_answers : (layout : Layout) (steps : List Step) (versions : List Version) (held : List Holding) (acked : List Acked) →
     IsAfter layout steps versions held acked → (s : Step) (holder home : ℕ) (key : List ℕ) → s ≡ Fetch holder home key →
-    IsSameRow (row_in held holder home key) (answer_of (world_after steps) s)
+    IsSameRow (row_in held holder home key) (row_answered (world_after steps) s)
 fetch_answers layout steps versions held acked old s holder home key is =
-    subst (λ x. IsSameRow (row_in held holder home key) (answer_of (world_after steps) x)) (sym is) (old.meets.rows_are holder home key)
+    subst (λ x. IsSameRow (row_in held holder home key) (row_answered (world_after steps) x)) (sym is) (old.meets.rows_are holder home key)

@@ -10,7 +10,7 @@ use Rattle.std.specs.List.Sorted.{IsStrictlySortedBy}
 use Rattle.std.proofs.lemmas.Bool.{true≢false}
 use Rattle.std.proofs.lemmas.List.{take-append-drop, take-set, drop-set, drop_more, drop_all, get_or_default}
 use Rattle.dy_core.specs.Orders.{put}
-use Rattle.dy_core.proofs.Members.{not_in_nil, in_head, in_tail, in_cases}
+use Rattle.dy_siblings.proofs.Members.{not_in_nil, in_head, in_tail, in_cases}
 
 module _ {X : Type 0} (cmp : X → X → Ordering) where
   pub put_cases : (xs : List X) (x y : X) → Contains (put cmp xs x) y → (y ≡ x) ⊎ Contains xs y

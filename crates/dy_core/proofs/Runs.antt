@@ -10,9 +10,9 @@ use Rattle.dy_dots.specs.declared.runs.Run.{Run}
 use Rattle.dy_dots.proofs.Lists.{none_before, rise_drop}
 use Rattle.dy_siblings.specs.declared.versions.Version.{Version}
 use Rattle.dy_core.specs.Worlds.{is_issued}
-use Rattle.dy_core.specs.Inside.{AreIssuedBelow, IsFirstUnissued, AreIssuedIn}
+use Rattle.dy_core.specs.inside.Meanings.{AreIssuedBelow, IsFirstUnissued, AreIssuedIn}
 use Rattle.dy_core.specs.Listings.{IsLeastUnknown}
-use Rattle.dy_core.proofs.Sameness.{any-append}
+use Rattle.std.proofs.lemmas.List.Folds.{list_any-append}
 
 -- the parts of being in a run
 run_parts : (r : Run) (d : Dot) → in_run r d ≡ true → (d.node ≡ r.node) × (r.first ≤ d.counter) × (d.counter ≤ r.last)
@@ -31,13 +31,13 @@ split_at : (rs : List Run) (i : ℕ) (r : Run) → i < length rs → r ≡ get_o
     in_runs rs e ≡ (in_runs (take i rs) e || (in_run r e || in_runs (drop (i + 1) rs) e))
 split_at rs i r lt is e =
     ap (λ xs. in_runs xs e) (sym (take-append-drop i rs))
-    ∙ any-append (λ x. in_run x e) (take i rs) (drop i rs)
+    ∙ list_any-append (λ x. in_run x e) (take i rs) (drop i rs)
     ∙ ap (λ xs. in_runs (take i rs) e || in_runs xs e) (drop_more rs i r lt ∙ ap (λ x. x ∷ drop (i + 1) rs) (sym is))
 
 more_at : (rs : List Run) (i : ℕ) (r : Run) → i < length rs → r ≡ get_or rs i r → (e : Dot) → in_runs (take (i + 1) rs) e ≡ (in_runs (take i rs) e || in_run r e)
 more_at rs i r lt is e =
     ap (λ xs. in_runs xs e) (take_more rs i r lt)
-    ∙ any-append (λ x. in_run x e) (take i rs) (get_or rs i r ∷ [])
+    ∙ list_any-append (λ x. in_run x e) (take i rs) (get_or rs i r ∷ [])
     ∙ ap (λ x. in_runs (take i rs) e || (in_run x e || false)) (sym is)
     ∙ ap (λ b. in_runs (take i rs) e || b) (or_none (in_run r e))
   where

@@ -14,7 +14,7 @@ use Rattle.dy_core.specs.Logs.{world_after, IsLegal, Answer, IsAnswer, MatchesLo
 use Rattle.dy_dots.specs.declared.dots.Dot.{Dot}
 use Rattle.dy_siblings.specs.declared.versions.Version.{Version}
 use Rattle.dy_core.specs.declared.steps.Step.{Step}
-use Rattle.dy_core.proofs.Members.{Mapped, map_from, not_in_nil, in_head, in_tail, in_cases, any_gives, any_from}
+use Rattle.dy_siblings.proofs.Members.{Mapped, map_from, not_in_nil, in_head, in_tail, in_cases, any_gives, any_from}
 use Rattle.dy_core.proofs.Ordered.{AreOf, newest_covers}
 use Rattle.dy_core.proofs.Standing.{covering_from, stands_in, stands_from}
 use Rattle.dy_core.proofs.Receipts.{cover_may}
@@ -112,11 +112,11 @@ module _ (layout : Layout) (steps : List Step) (legal : IsLegal layout steps) wh
         own : (h : ℕ) → Contains hs h → covers_at then key d h h ≡ true
         own h in_hs =
             let p = map_from (λ p. p.home) has.places h in_hs in
-            let c : covers_at then key d p.item.home p.item.holder ≡ true =
-            All-contains (λ p. covers_at then key d p.home p.holder ≡ true) has.places p.item has.is_cover.each_covers p.in_list in
+            let c : covers_at then key d p.item.holder p.item.home ≡ true =
+            All-contains (λ p. covers_at then key d p.holder p.home ≡ true) has.places p.item has.is_cover.each_covers p.in_list in
             let v = covering_from then key d p.item.home p.item.holder c in
             let itself = settled p.item.holder p.item.home v.version.dot v.stands.is_held in
-            (λ i. covers_at then key d (sym p.gives i) ((sym p.gives ∙ sym itself) i)) ∙ c
+            (λ i. covers_at then key d ((sym p.gives ∙ sym itself) i) (sym p.gives i)) ∙ c
 
         both : Shared hs rs
         both =

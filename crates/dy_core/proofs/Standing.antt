@@ -12,8 +12,9 @@ use Rattle.dy_core.specs.Covers.{covers_at}
 use Rattle.dy_core.specs.Steps.{same_place, after_issue, after_hold, after_release}
 use Rattle.dy_dots.specs.declared.dots.Dot.{Dot}
 use Rattle.dy_siblings.specs.declared.versions.Version.{Version}
-use Rattle.dy_core.proofs.Members.{in_tail, any_gives, any_from, filter_in, filter_from}
-use Rattle.dy_core.proofs.Sameness.{same_dot_is, same_dot_self, same_key_is, same_key_self}
+use Rattle.dy_siblings.proofs.Members.{in_tail, any_gives, any_from, filter_in, filter_from}
+use Rattle.dy_dots.proofs.SameDots.{same_dot_is, same_dot_self}
+use Rattle.dy_siblings.proofs.SameKeys.{same_key_is, same_key_self}
 use Rattle.dy_core.proofs.Ordered.{IsOrdered, AreOf, newest_covers, past_is_known, same_version}
 
 -- a version that stands at a place
@@ -39,25 +40,25 @@ pub record Covering (w : World) (key : List ℕ) (d : Dot) (home holder : ℕ) :
   pub stands : StandsAt w holder home key version
   pub reaches : in_history version d ≡ true
 
-pub covering_from : (w : World) (key : List ℕ) (d : Dot) (home holder : ℕ) → covers_at w key d home holder ≡ true → Covering w key d home holder
+pub covering_from : (w : World) (key : List ℕ) (d : Dot) (home holder : ℕ) → covers_at w key d holder home ≡ true → Covering w key d home holder
 covering_from w key d home holder c =
     let f = any_gives (λ v. in_history v d) (row_at w holder home key) c in
     record { version = f.item; stands = stands_from w holder home key f.item f.in_list; reaches = f.passes }
 
-pub covering_in : (w : World) (key : List ℕ) (d : Dot) (home holder : ℕ) → Covering w key d home holder → covers_at w key d home holder ≡ true
+pub covering_in : (w : World) (key : List ℕ) (d : Dot) (home holder : ℕ) → Covering w key d home holder → covers_at w key d holder home ≡ true
 covering_in w key d home holder c =
     any_from (λ v. in_history v d) (row_at w holder home key) c.version (stands_in w holder home key c.version c.stands) c.reaches
 
 -- a pair covers what it covered, where what made it cover still stands
 pub covers_still : (w x : World) (key : List ℕ) (d : Dot) (home holder : ℕ) →
     ((v : Version) → StandsAt w holder home key v → StandsAt x holder home key v) →
-    covers_at w key d home holder ≡ true → covers_at x key d home holder ≡ true
+    covers_at w key d holder home ≡ true → covers_at x key d holder home ≡ true
 covers_still w x key d home holder still c =
     let old = covering_from w key d home holder c in
     covering_in x key d home holder (record { version = old.version; stands = still old.version old.stands; reaches = old.reaches })
 
 pub issue_keeps : (w : World) (new : Version) (key : List ℕ) (d : Dot) (home holder : ℕ) →
-    covers_at w key d home holder ≡ true → covers_at (after_issue w new) key d home holder ≡ true
+    covers_at w key d holder home ≡ true → covers_at (after_issue w new) key d holder home ≡ true
 issue_keeps w new key d home holder =
     covers_still w (after_issue w new) key d home holder
     (λ v s. record { made = in_tail new v w.versions s.made; key_is = s.key_is; is_held = s.is_held })
@@ -83,7 +84,7 @@ AreOf-held w holder home row made v h =
     (Contains-append_cases (row_at w holder home row.key) row.versions v h)
 
 pub hold_keeps : (w : World) (holder home : ℕ) (row : Siblings) → IsOrdered w.versions → All (λ v. (v.key ≡ row.key) × Contains w.versions v) row.versions →
-    (k : List ℕ) (d : Dot) (o p : ℕ) → covers_at w k d o p ≡ true → covers_at (after_hold w holder home row) k d o p ≡ true
+    (k : List ℕ) (d : Dot) (o p : ℕ) → covers_at w k d p o ≡ true → covers_at (after_hold w holder home row) k d p o ≡ true
 hold_keeps w holder home row ordered made k d o p c =
     ⊎_elim
     (λ here.
@@ -128,7 +129,7 @@ hold_keeps w holder home row ordered made k d o p c =
 
 -- a release elsewhere keeps what a pair covers
 pub release_keeps : (w : World) (holder home : ℕ) (key : List ℕ) (e : Dot) (k : List ℕ) (d : Dot) (o p : ℕ) →
-    same_place holder home key p o k ≡ false → covers_at w k d o p ≡ true → covers_at (after_release w holder home key e) k d o p ≡ true
+    same_place holder home key p o k ≡ false → covers_at w k d p o ≡ true → covers_at (after_release w holder home key e) k d p o ≡ true
 release_keeps w holder home key e k d o p elsewhere =
     covers_still w (after_release w holder home key e) k d o p
     (λ v s. record {
@@ -148,7 +149,7 @@ release_keeps_own w holder home key e other k d o =
 
 -- who covers the dot of a version covers all that the version reaches back to
 pub covers_history : (w : World) → IsOrdered w.versions → (key : List ℕ) (v : Version) → Contains w.versions v → v.key ≡ key →
-    (d : Dot) → in_history v d ≡ true → (home holder : ℕ) → covers_at w key v.dot home holder ≡ true → covers_at w key d home holder ≡ true
+    (d : Dot) → in_history v d ≡ true → (home holder : ℕ) → covers_at w key v.dot holder home ≡ true → covers_at w key d holder home ≡ true
 covers_history w ordered key v made key_is d reaches home holder c =
     let above = covering_from w key v.dot home holder c in
     let u = above.version in
@@ -170,8 +171,8 @@ covers_history w ordered key v made key_is d reaches home holder c =
 
 -- after a release, a pair that covered a dot still does, or the home itself does
 pub release_keeps_either : (w : World) → IsOrdered w.versions → (holder home : ℕ) (key : List ℕ) (e : Dot) → (holder ≢ home) → covers_at w key e home home ≡ true →
-    (k : List ℕ) (d : Dot) (o p : ℕ) → covers_at w k d o p ≡ true →
-    (covers_at (after_release w holder home key e) k d o p ≡ true) ⊎ (covers_at (after_release w holder home key e) k d o o ≡ true)
+    (k : List ℕ) (d : Dot) (o p : ℕ) → covers_at w k d p o ≡ true →
+    (covers_at (after_release w holder home key e) k d p o ≡ true) ⊎ (covers_at (after_release w holder home key e) k d o o ≡ true)
 release_keeps_either w ordered holder home key e other own k d o p c =
     ⊎_elim
     (λ here.

@@ -3,5 +3,5 @@ pub mod Covers
 pub mod Steps
 pub mod Logs
 pub mod Orders
-pub mod Inside
 pub mod Listings
+pub mod inside

@@ -30,7 +30,7 @@ pub record ListsAcks (w : World) (acks : List Acked) : Type 0 where
 
 -- the places are all that cover the dot, each once, by home and holder
 pub record ListsCovers (w : World) (key : List ℕ) (d : Dot) (places : List Place) : Type 0 where
-  pub same : (p : Place) → Contains places p ↔ CoversAt w key d p.home p.holder
+  pub same : (p : Place) → Contains places p ↔ CoversAt w key d p.holder p.home
   pub in_order : IsStrictlySortedBy place_cmp places
 
 -- the keys are those of which a version was made and that are settled, each once, by their bytes

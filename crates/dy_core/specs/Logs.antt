@@ -86,6 +86,7 @@ pub record Log : Type 0 where
 abbrev pub with_step : Log → Step → Log
 with_step log s = record log { steps = log.steps ++ s ∷ [] }
 
+-- the code of a log
 abbrev pub log_code : Coded Log
 log_code =
     code_by (Tokens × (ℕ × List Step))

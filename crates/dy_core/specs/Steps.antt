@@ -94,12 +94,12 @@ world_after_step w (Ack key d count) =
     record w { acks = record { key = key; dot = d; w = count } ∷ w.acks }
 
 -- the row that a step answers: a fetch answers the row at its place, and any other step no version
-abbrev pub answer_of : World → Step → List Version
-answer_of w (Issue node key context value) = []
-answer_of w (Hold holder home row) = []
-answer_of w (Release holder home key d) = []
-answer_of w (Fetch holder home key) = row_at w holder home key
-answer_of w (Ack key d count) = []
+abbrev pub row_answered : World → Step → List Version
+row_answered w (Issue node key context value) = []
+row_answered w (Hold holder home row) = []
+row_answered w (Release holder home key d) = []
+row_answered w (Fetch holder home key) = row_at w holder home key
+row_answered w (Ack key d count) = []
 
 -- the key of a step
 abbrev pub key_of : Step → List ℕ

@@ -7,7 +7,7 @@ ghost use Rattle.dy_core.specs.Worlds.{AreMadeOf, layout_of};
 ghost use Rattle.dy_core.specs.Covers.{CoversAt, HasCover};
 ghost use Rattle.dy_core.specs.Steps.{IsAllowed, IsKnown, IsNoAck};
 ghost use Rattle.dy_core.specs.Logs.{world_after};
-ghost use Rattle.dy_core.specs.Inside.{AreChosen, clashes};
+ghost use Rattle.dy_core.specs.inside.Meanings.{AreChosen, clashes};
 
 use crate::holdings;
 use crate::places::Place;
@@ -91,7 +91,7 @@ impl World {
     {
         holder != home
             && self.holds(holder, home, key, dot)
-            && self.place_covers(home, home, key, dot)
+            && self.place_covers(Place::own(home), key, dot)
     }
 
     // Whether the holder holds the dot for the home.

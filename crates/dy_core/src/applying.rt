@@ -1,9 +1,9 @@
 ghost use Rattle.std.specs.Prelude.{◌≡◌, ◌≤◌, ◌++◌, ◌∷◌, [], List, IfOk, OnOk, OnErr, IsOkUnless};
 ghost use Rattle.dy_siblings.specs.Siblings.{IsSameRow};
 ghost use Rattle.dy_core.specs.Worlds.{Layout, layout_of};
-ghost use Rattle.dy_core.specs.Steps.{IsAllowed, answer_of, key_of};
+ghost use Rattle.dy_core.specs.Steps.{IsAllowed, row_answered, key_of};
 ghost use Rattle.dy_core.specs.Logs.{IsLegal, world_after, with_step};
-ghost use Rattle.dy_core.specs.Inside.{IsAfter};
+ghost use Rattle.dy_core.specs.inside.Meanings.{IsAfter};
 ghost use Rattle.dy_core.specs.declared.steps.Step.{Step as StepParts};
 
 use crate::acks::Acked;
@@ -24,7 +24,7 @@ impl World {
             (world_after self.old.steps) step }
         ensures log { OnOk result (self.new ≡ with_step self.old step) }
         ensures row { IfOk result
-            (λ row. IsSameRow row.versions (answer_of (world_after self.old.steps) step)) }
+            (λ row. IsSameRow row.versions (row_answered (world_after self.old.steps) step)) }
         ensures key { IfOk result (λ row. row.key ≡ key_of step) }
         ensures err { OnErr result (self.new ≡ self.old) }
         ensures memory { IsOkUnless result Fault.OutOfMemory }
@@ -59,7 +59,7 @@ fn perform(
         IsAfter layout (steps ++ step.now ∷ []) versions.new.items held.new.items acked.new.items) }
     ensures row { IfOk result (λ row. (layout : Layout) (steps : List StepParts) →
         IsAfter layout steps versions.old.items held.old.items acked.old.items →
-        IsSameRow row.versions (answer_of (world_after steps) step.now)) }
+        IsSameRow row.versions (row_answered (world_after steps) step.now)) }
     ensures key { IfOk result (λ row. row.key ≡ key_of step.now) }
     ensures versions_stay { OnErr result (versions.new.items ≡ versions.old.items) }
     ensures held_stays { OnErr result (held.new.items ≡ held.old.items) }

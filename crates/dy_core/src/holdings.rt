@@ -2,8 +2,9 @@ ghost use Rattle.std.specs.Prelude.{◌≡◌, ◌++◌, [], IfOk, OnOk, OnErr, 
 ghost use Rattle.dy_siblings.specs.Siblings.{Siblings, AreOneByDot, IsSameRow, merge, without};
 ghost use Rattle.std.specs.List.{Contains, list_any};
 ghost use Rattle.dy_core.specs.Orders.{key_cmp, place_cmp};
-ghost use Rattle.dy_core.specs.Inside.{gathered, is_covering, is_hint, kept, others, place_of};
-ghost use Rattle.dy_core.specs.Inside.{row_in, settled_in};
+ghost use Rattle.dy_core.specs.inside.Meanings.{gathered, is_covering, is_hint, kept, others};
+ghost use Rattle.dy_core.specs.inside.Meanings.{place_of};
+ghost use Rattle.dy_core.specs.inside.Meanings.{row_in, settled_in};
 ghost use Rattle.dy_core.specs.declared.holdings.Holding.{Holding as HoldingParts};
 
 use crate::lists::{self, Ranked};
@@ -35,7 +36,7 @@ impl Ranked for Holding {
 }
 
 impl Holding {
-    ghost use Rattle.dy_core.specs.Inside.{is_at, is_covering, is_hint, place_of};
+    ghost use Rattle.dy_core.specs.inside.Meanings.{is_at, is_covering, is_hint, place_of};
 
     // Whether it is of the key and covers the dot.
     fn is_covering(&self, key: &Key, dot: Dot) -> bool
@@ -51,13 +52,13 @@ impl Holding {
         self.holder != self.home && self.row.key() == key
     }
 
-    // Its home and its holder.
+    // Its holder and its home.
     fn place(&self) -> Place
         ensures { result ≡ place_of self.now }
     {
         Place {
-            home: self.home,
             holder: self.holder,
+            home: self.home,
         }
     }
 

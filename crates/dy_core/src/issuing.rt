@@ -4,7 +4,7 @@ ghost use Rattle.std.specs.FinSet as set;
 ghost use Rattle.dy_dots.specs.declared.dots.Dot.{Dot as DotParts};
 ghost use Rattle.dy_dots.specs.declared.dots.TheConstants.{MAX_COUNTER};
 ghost use Rattle.dy_core.specs.Worlds.{is_issued};
-ghost use Rattle.dy_core.specs.Inside.{is_by, is_named, last_in, named_in};
+ghost use Rattle.dy_core.specs.inside.Meanings.{is_by, is_named, last_in, named_in};
 
 use dy_dots::{Context, Dot, Fault, NodeId};
 use dy_siblings::{Key, Value, Version};
@@ -108,5 +108,5 @@ pub(crate) fn next_version(
         Some(value) => Some(value.try_clone(alloc)?),
         None => None,
     };
-    Ok(Version::new(key.try_clone(alloc)?, dot, past, copy))
+    Version::new(alloc, key.try_clone(alloc)?, dot, past, copy)
 }

@@ -1,21 +1,24 @@
 //! The laws of every legal log. Each is a function that does nothing, and its contract is the law.
 ghost use Rattle.std.specs.Prelude.{◌≡◌, ℕ, ◌+◌, ◌<◌, ◌≤◌, ◌↔◌, ◌&&◌, IsTrue, List, ◌++◌, take};
-ghost use Rattle.std.specs.Prelude.{length, map, nat_eq};
+ghost use Rattle.std.specs.Prelude.{length, map, nat_eq, false, Option};
 ghost use Rattle.std.specs.List.{All, Contains, IsDistinct, filter};
 ghost use Rattle.std.specs.FinSet as set;
-ghost use Rattle.dy_dots.specs.Dots.{same_dot};
+ghost use Rattle.dy_dots.specs.Dots.{DotSet, same_dot};
 ghost use Rattle.dy_dots.specs.declared.dots.Dot.{Dot};
-ghost use Rattle.dy_siblings.specs.Siblings.{IsSameRow, same_key, covers, newest, merge};
+ghost use Rattle.dy_siblings.specs.Siblings.{Siblings, IsSameRow, same_key, covers, newest, merge};
+ghost use Rattle.dy_siblings.specs.Siblings.{without};
 ghost use Rattle.dy_siblings.specs.declared.versions.Version.{Version};
 ghost use Rattle.dy_ring.specs.Rings.{Tokens};
 ghost use Rattle.dy_preference.specs.Preferences.{homes_of, may_hold};
-ghost use Rattle.dy_core.specs.Worlds.{Layout, layout_of, IsSettled, AreMadeOf, is_issued};
+ghost use Rattle.dy_core.specs.Worlds.{Layout, layout_of, IsSettled, AreMadeOf, is_issued, row_at};
 ghost use Rattle.dy_core.specs.Covers.{CoversAt, HasCover, AcksAreCovered, ReceiptHolds};
-ghost use Rattle.dy_core.specs.Steps.{IsAllowed, world_after_step, IsReleaseAt};
+ghost use Rattle.dy_core.specs.Steps.{IsAllowed, IsKnown, past_of, same_place, world_after_step};
+ghost use Rattle.dy_core.specs.Steps.{IsReleaseAt};
 ghost use Rattle.dy_core.specs.Logs.{Known, world_after, IsLegal, Answer, MatchesLog, AreOfHomes};
 ghost use Rattle.dy_core.specs.Logs.{rows_of};
 ghost use Rattle.dy_core.specs.declared.places.Place.{Place};
 ghost use Rattle.dy_core.specs.declared.steps.Step.{Step};
+ghost use Rattle.dy_core.specs.declared.steps.Step.TheVariants.{Hold, Issue, Release};
 
 /// Each dot in a version's past is of a version of the same key, whose history lies in that past.
 pub fn pasts_are_closed()
@@ -54,8 +57,8 @@ pub fn covers_last()
     ensures place { (layout : Layout) (steps : List Step) → IsLegal layout steps →
         (step : Step) → IsAllowed layout (world_after steps) step →
         (key : List ℕ) (d : Dot) (home holder : ℕ) →
-        CoversAt (world_after steps) key d home holder → (IsReleaseAt holder home key step → ⊥) →
-        CoversAt (world_after_step (world_after steps) step) key d home holder }
+        CoversAt (world_after steps) key d holder home → (IsReleaseAt holder home key step → ⊥) →
+        CoversAt (world_after_step (world_after steps) step) key d holder home }
     ensures own { (layout : Layout) (steps more : List Step) → IsLegal layout (steps ++ more) →
         (key : List ℕ) (d : Dot) (home : ℕ) → CoversAt (world_after steps) key d home home →
         CoversAt (world_after (steps ++ more)) key d home home }
@@ -65,8 +68,8 @@ pub fn covers_last()
 pub fn receipts_last()
     ensures { (layout : Layout) (steps more : List Step) → IsLegal layout (steps ++ more) →
         (key : List ℕ) (d : Dot) (home holder : ℕ) →
-        ReceiptHolds (world_after steps) key d home holder →
-        ReceiptHolds (world_after (steps ++ more)) key d home holder }
+        ReceiptHolds (world_after steps) key d holder home →
+        ReceiptHolds (world_after (steps ++ more)) key d holder home }
 {}
 
 /// Receipts of one key and dot that hold, with distinct homes and distinct holders, make a cover of
@@ -74,7 +77,7 @@ pub fn receipts_last()
 pub fn receipts_make_a_cover()
     ensures { (layout : Layout) (steps : List Step) → IsLegal layout steps →
         (key : List ℕ) (d : Dot) (receipts : List Place) →
-        All (λ p. ReceiptHolds (world_after steps) key d p.home p.holder) receipts →
+        All (λ p. ReceiptHolds (world_after steps) key d p.holder p.home) receipts →
         IsDistinct nat_eq (map (λ p. p.home) receipts) →
         IsDistinct nat_eq (map (λ p. p.holder) receipts) →
         HasCover (world_after steps) key d (length receipts) }
@@ -110,4 +113,66 @@ pub fn rows_merge_in_any_order()
         (key : List ℕ) (xs ys zs : List Version) → AreMadeOf (world_after steps) key xs →
         AreMadeOf (world_after steps) key ys → AreMadeOf (world_after steps) key zs →
         IsSameRow (merge (merge xs ys) zs) (merge xs (merge ys zs)) }
+{}
+
+/// What a hold brings is covered at its place.
+pub fn holds_cover()
+    ensures { (layout : Layout) (steps : List Step) → IsLegal layout steps →
+        (holder home : ℕ) (row : Siblings) →
+        IsAllowed layout (world_after steps) (Hold holder home row) →
+        (v : Version) → Contains row.versions v →
+        CoversAt (world_after_step (world_after steps) (Hold holder home row))
+        row.key v.dot holder home }
+{}
+
+/// After a hold its place has the merge, and each other place has what it had.
+pub fn holds_merge()
+    ensures place { (layout : Layout) (steps : List Step) → IsLegal layout steps →
+        (holder home : ℕ) (row : Siblings) →
+        IsAllowed layout (world_after steps) (Hold holder home row) →
+        IsSameRow
+        (row_at (world_after_step (world_after steps) (Hold holder home row)) holder home row.key)
+        (merge (row_at (world_after steps) holder home row.key) row.versions) }
+    ensures others { (layout : Layout) (steps : List Step) → IsLegal layout steps →
+        (holder home : ℕ) (row : Siblings) →
+        IsAllowed layout (world_after steps) (Hold holder home row) →
+        (p o : ℕ) (k : List ℕ) → same_place holder home row.key p o k ≡ false →
+        IsSameRow (row_at (world_after_step (world_after steps) (Hold holder home row)) p o k)
+        (row_at (world_after steps) p o k) }
+{}
+
+/// After a release its place has its row without the dot, and each other place has what it had.
+pub fn releases_drop()
+    ensures place { (layout : Layout) (steps : List Step) → IsLegal layout steps →
+        (holder home : ℕ) (key : List ℕ) (d : Dot) →
+        IsSameRow
+        (row_at (world_after_step (world_after steps) (Release holder home key d)) holder home key)
+        (without (row_at (world_after steps) holder home key) d) }
+    ensures others { (layout : Layout) (steps : List Step) → IsLegal layout steps →
+        (holder home : ℕ) (key : List ℕ) (d : Dot) →
+        (p o : ℕ) (k : List ℕ) → same_place holder home key p o k ≡ false →
+        IsSameRow (row_at (world_after_step (world_after steps) (Release holder home key d)) p o k)
+        (row_at (world_after steps) p o k) }
+{}
+
+/// After an issue each place has what it had.
+pub fn issues_hold_nothing()
+    ensures { (layout : Layout) (steps : List Step) → IsLegal layout steps →
+        (node : ℕ) (key : List ℕ) (context : DotSet) (value : Option (List ℕ)) →
+        (p o : ℕ) (k : List ℕ) →
+        IsSameRow
+        (row_at (world_after_step (world_after steps) (Issue node key context value)) p o k)
+        (row_at (world_after steps) p o k) }
+{}
+
+/// The past that a context gives is known, and as a context gives itself.
+pub fn pasts_name_themselves()
+    ensures known { (layout : Layout) (steps : List Step) → IsLegal layout steps →
+        (key : List ℕ) (context : DotSet) →
+        IsKnown (world_after steps) key (past_of (world_after steps).versions key context) }
+    ensures same { (layout : Layout) (steps : List Step) → IsLegal layout steps →
+        (key : List ℕ) (context : DotSet) →
+        past_of (world_after steps).versions key
+        (past_of (world_after steps).versions key context) ≡
+        past_of (world_after steps).versions key context }
 {}

@@ -2,11 +2,11 @@ use crate::lists::Ranked;
 use dy_dots::NodeId;
 use std::cmp::Ordering;
 
-/// A home with the node that holds for it. Places are ordered by home, then by holder.
-#[derive(Clone, Copy, Debug, PartialEq, Eq, PartialOrd, Ord)]
+/// A node and a home that it holds for, or may hold for. They are ordered by home, then by holder.
+#[derive(Clone, Copy, Debug, PartialEq, Eq)]
 pub struct Place {
-    pub home: NodeId,
     pub holder: NodeId,
+    pub home: NodeId,
 }
 
 impl Ranked for Place {
@@ -23,7 +23,14 @@ impl Ranked for Place {
 
 impl Place {
     ghost use Rattle.std.specs.Prelude.{◌≡◌};
-    ghost use Rattle.dy_core.specs.Inside.{clashes};
+    ghost use Rattle.dy_core.specs.inside.Meanings.{clashes};
+
+    /// The place of a home that holds for itself. Takes no memory.
+    pub fn own(home: NodeId) -> Place
+        ensures { result ≡ record { holder = home; home = home } }
+    {
+        Place { holder: home, home }
+    }
 
     // Whether the other has its home or its holder in common.
     pub(crate) fn clashes(self, other: Place) -> bool

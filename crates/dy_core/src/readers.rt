@@ -43,27 +43,28 @@ impl World {
         unknowns::least(self.versions.as_slice(), key, context)
     }
 
-    /// The row that the holder holds for the home, where it has a version. Takes no memory.
-    pub fn row(&self, holder: NodeId, home: NodeId, key: &Key) -> Option<&Row>
+    /// The row of the key at the place, where it has a version. Takes no memory.
+    pub fn row(&self, place: Place, key: &Key) -> Option<&Row>
         ensures none { MatchOption result ((v : VersionParts) →
-            Contains (row_at (world_after self.now.steps) holder home key.now) v → ⊥)
+            Contains (row_at (world_after self.now.steps) place.holder place.home key.now) v → ⊥)
             (λ row. 0 < length row.now.versions) }
         ensures key { MatchOption result ((v : VersionParts) →
-            Contains (row_at (world_after self.now.steps) holder home key.now) v → ⊥)
+            Contains (row_at (world_after self.now.steps) place.holder place.home key.now) v → ⊥)
             (λ row. row.now.key ≡ key.now) }
         ensures row { MatchOption result ((v : VersionParts) →
-            Contains (row_at (world_after self.now.steps) holder home key.now) v → ⊥)
+            Contains (row_at (world_after self.now.steps) place.holder place.home key.now) v → ⊥)
             (λ row. IsSameRow row.now.versions
-            (row_at (world_after self.now.steps) holder home key.now)) }
+            (row_at (world_after self.now.steps) place.holder place.home key.now)) }
     {
-        holdings::find(self.held.as_slice(), holder, home, key)
+        holdings::find(self.held.as_slice(), place.holder, place.home, key)
     }
 
-    /// Whether the home's row at the holder covers the dot. Takes no memory.
-    pub fn place_covers(&self, holder: NodeId, home: NodeId, key: &Key, dot: Dot) -> bool
-        ensures { result ≡ covers_at (world_after self.now.steps) key.now dot home holder }
+    /// Whether the place covers the dot. Takes no memory.
+    pub fn place_covers(&self, place: Place, key: &Key, dot: Dot) -> bool
+        ensures { result ≡
+            covers_at (world_after self.now.steps) key.now dot place.holder place.home }
     {
-        match holdings::find(self.held.as_slice(), holder, home, key) {
+        match holdings::find(self.held.as_slice(), place.holder, place.home, key) {
             Some(row) => row.covers(dot),
             None => false,
         }

@@ -3,7 +3,7 @@ ghost use Rattle.std.specs.FinSet as set;
 ghost use Rattle.dy_dots.specs.declared.dots.Dot.{Dot as DotParts};
 ghost use Rattle.dy_dots.specs.declared.dots.TheConstants.{MAX_COUNTER};
 ghost use Rattle.dy_core.specs.Worlds.{is_issued};
-ghost use Rattle.dy_core.specs.Inside.{AreIssuedBelow, IsFirstUnissued};
+ghost use Rattle.dy_core.specs.inside.Meanings.{AreIssuedBelow, IsFirstUnissued};
 ghost use Rattle.dy_core.specs.Listings.{IsLeastUnknown};
 
 use crate::issuing;

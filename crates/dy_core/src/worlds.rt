@@ -32,7 +32,7 @@ impl Model for World {
 
     ghost coded = { log_code };
 
-    ghost use Rattle.dy_core.specs.Inside.{IsInside};
+    ghost use Rattle.dy_core.specs.inside.Meanings.{IsInside};
 
     ghost view = { λ w. record { ring = w.ring; n = w.n; steps = w.steps.items } };
 

@@ -4,7 +4,8 @@ use Rattle.std.proofs.lemmas.List.{get_or_read, drop_all}
 use Rattle.std.proofs.lemmas.Bool.Decides.{nat_tests}
 use Rattle.std.specs.List.{list_any}
 use Rattle.std.proofs.lemmas.List.Folds.{list_any-append, list_any_at}
-use Rattle.dy_dots.specs.Kinds.{single, joined, covers_run, IsBelow, IsReached, Added}
+use Rattle.dy_dots.specs.Runs.{single}
+use Rattle.dy_dots.specs.inside.Kinds.{joined, covers_run, IsBelow, IsReached, Added}
 use Rattle.dy_dots.specs.Runs.{in_run, in_runs, StartsFrom, RiseFrom, AreApart}
 use Rattle.dy_dots.specs.declared.dots.Dot.{Dot}
 use Rattle.dy_dots.specs.declared.runs.Run.{Run}

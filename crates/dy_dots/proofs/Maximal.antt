@@ -5,7 +5,7 @@ use Rattle.std.proofs.lemmas.Bool.Decides.{nat_tests}
 use Rattle.std.specs.List.{list_any}
 use Rattle.std.specs.FinSet as set
 use Rattle.dy_dots.specs.Dots.{DotSet, AreDots, same_dot, comes_before, placed, in_order, dots_of}
-use Rattle.dy_dots.specs.Kinds.{single}
+use Rattle.dy_dots.specs.Runs.{single}
 use Rattle.dy_dots.specs.Runs.{in_run, in_runs, StartsFrom, RiseFrom, AreApart, AreRunsOf}
 use Rattle.dy_dots.specs.Spelling.{runs_from, runs_along, runs_text, context_text, Spells}
 use Rattle.dy_dots.specs.declared.dots.Dot.{Dot}

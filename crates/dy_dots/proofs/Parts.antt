@@ -2,8 +2,10 @@
 use Rattle.std.proofs.Common.{◌≡◌, ◌+◌, ◌<◌, ◌≤◌, Bool, true, false, ◌||◌, List, [], ◌∷◌, refl, sym, ap, ◌∙◌, inr, arith, subst}
 use Rattle.std.proofs.lemmas.Bool.{true≢false}
 use Rattle.std.proofs.lemmas.Bool.Decides.{nat_tests}
-use Rattle.dy_dots.specs.Kinds.{single, covers_run, IsBelow, IsReached}
-use Rattle.dy_dots.specs.Runs.{in_run, in_runs, RiseFrom, AreApart, HasAll}
+use Rattle.dy_dots.specs.Runs.{single}
+use Rattle.dy_dots.specs.inside.Kinds.{covers_run, IsBelow, IsReached}
+use Rattle.dy_dots.specs.Runs.{in_run, in_runs, RiseFrom, AreApart}
+use Rattle.dy_dots.specs.inside.Kinds.{HaveAllOf}
 use Rattle.dy_dots.specs.declared.dots.Dot.{Dot}
 use Rattle.dy_dots.specs.declared.runs.Run.{Run}
 use Rattle.dy_dots.proofs.Lists.{IsOutside, none_before, starts_zero, uncovered, covers_each, itself}
@@ -12,7 +14,7 @@ use Rattle.dy_dots.proofs.Sets.{or_either}
 -- how far a comparison has come: what is left decides what was asked
 abbrev pub Compares : List Run → List Run → List Run → List Run → Type 0
 Compares rs others left right =
-    AreApart left × AreApart right × (HasAll left right → HasAll rs others) × (HasAll rs others → HasAll left right)
+    AreApart left × AreApart right × (HaveAllOf left right → HaveAllOf rs others) × (HaveAllOf rs others → HaveAllOf left right)
 
 apart_tail : (r : Run) (rs : List Run) → AreApart (r ∷ rs) → AreApart rs
 apart_tail r [] rise = tt
@@ -31,7 +33,7 @@ pub compares_covered : (rs others left right : List Run) (x r : Run) (rest more 
 compares_covered rs others left right x r rest more c l_is r_is covers = (
   c.0,
   apart_tail r more (subst AreApart r_is c.1),
-  λ all. c.2 (subst (HasAll left) (sym r_is) (λ d e. or_either (in_run r d) (in_runs more d) _ e (held d) (all d))),
+  λ all. c.2 (subst (HaveAllOf left) (sym r_is) (λ d e. or_either (in_run r d) (in_runs more d) _ e (held d) (all d))),
   λ asked d e. c.3 asked d (ap (λ l. in_runs l d) r_is ∙ or_right (in_run r d) _ e),
 )
   where
@@ -61,24 +63,21 @@ compares_below rs others left right x r rest more c l_is r_is below = (
         let end = before_end x d here in
         none_before x.node (x.last + 2) right d (subst (RiseFrom x.node (x.last + 2)) (sym r_is) (rise_after x r more below (subst AreApart r_is c.1))) (inr end)
 
-out_of : (rs others left right : List Run) (r : Run) (more : List Run) → Compares rs others left right → right ≡ r ∷ more → IsOutside left r → HasAll rs others → ⊥
+out_of : (rs others left right : List Run) (r : Run) (more : List Run) → Compares rs others left right → right ≡ r ∷ more → IsOutside left r → HaveAllOf rs others → ⊥
 out_of rs others left right r more c r_is out asked =
     true≢false (sym (c.3 asked out.0 (ap (λ l. in_runs l out.0) r_is ∙ or_left _ _ out.1)) ∙ out.2)
 
 -- with no run left one that is asked for is missing
-pub compares_empty : (rs others left right : List Run) (r : Run) (more : List Run) → Compares rs others left right → left ≡ [] → right ≡ r ∷ more → HasAll rs others → ⊥
+pub compares_empty : (rs others left right : List Run) (r : Run) (more : List Run) → Compares rs others left right → left ≡ [] → right ≡ r ∷ more → HaveAllOf rs others → ⊥
 compares_empty rs others left right r more c l_is r_is =
     let d : Dot = record { node = r.node; counter = r.first } in
     let valid : r.first ≤ r.last = (subst AreApart r_is c.1).1 in
     out_of rs others left right r more c r_is (d, itself r d refl refl valid, ap (λ l. in_runs l d) l_is)
 
 -- and so is one that is reached and not covered
-pub compares_missing : (rs others left right : List Run) (x r : Run) (rest more : List Run) → Compares rs others left right → left ≡ x ∷ rest → right ≡ r ∷ more → IsReached x r → covers_run x r ≡ false → HasAll rs others → ⊥
+pub compares_missing : (rs others left right : List Run) (x r : Run) (rest more : List Run) → Compares rs others left right → left ≡ x ∷ rest → right ≡ r ∷ more → IsReached x r → covers_run x r ≡ false → HaveAllOf rs others → ⊥
 compares_missing rs others left right x r rest more c l_is r_is reached fails =
     let d : Dot = record { node = r.node; counter = r.first } in
     let valid : r.first ≤ r.last = (subst AreApart r_is c.1).1 in
     let out : IsOutside (x ∷ rest) r = uncovered (x ∷ rest) 0 (single d) x r d (subst AreApart l_is c.0) refl (λ k lt. absurd (omega arith)) (omega arith) reached refl refl refl valid fails in
     out_of rs others left right r more c r_is (subst (λ l. IsOutside l r) (sym l_is) out)
-
-pub compares_all : (rs others left right : List Run) → Compares rs others left right → right ≡ [] → HasAll rs others
-compares_all rs others left right c r_is = c.2 (subst (HasAll left) (sym r_is) (λ d e. cc))

@@ -7,7 +7,7 @@ use Rattle.std.specs.Cmp.Lexicographic.{pointwise, bytes_decides}
 use Rattle.dy_dots.specs.Dots.{DotSet}
 use Rattle.dy_dots.specs.Runs.{AreKept, AreRunsOf, set_of}
 use Rattle.dy_dots.specs.Spelling.{run_text, later_text, runs_text, Spells, IsReadable, IsFound, IsReading, IsReadAs}
-use Rattle.dy_dots.specs.Reading.{run_to, read_from, read_runs, all_allowed}
+use Rattle.dy_dots.specs.inside.Reading.{run_to, read_from, read_runs, all_allowed}
 use Rattle.dy_dots.specs.declared.faults.Fault.{Fault}
 use Rattle.dy_dots.specs.declared.runs.Run.{Run}
 use Rattle.dy_dots.proofs.Sets.{set_of_is, runs_are}

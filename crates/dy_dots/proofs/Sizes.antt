@@ -4,9 +4,10 @@ use Rattle.std.proofs.lemmas.Bool.{ltb-true, leb-true, eqb-true, lt-ltb, le-leb,
 use Rattle.std.proofs.lemmas.Bool.Decides.{nat_tests}
 use Rattle.std.specs.FinSet as set
 use Rattle.dy_dots.specs.Dots.{DotSet, IsDot, AreDots}
-use Rattle.dy_dots.specs.Runs.{in_run, in_runs, StartsFrom, RiseFrom, AreApart, AreKept, AreRunsOf, with_counters, set_of, count_of}
+use Rattle.dy_dots.specs.Runs.{in_run, in_runs, StartsFrom, RiseFrom, AreApart, AreKept, AreRunsOf, with_counters, set_of}
+use Rattle.dy_dots.specs.inside.Kinds.{count_of}
 use Rattle.dy_dots.specs.Spelling.{IsReadable}
-use Rattle.dy_dots.specs.Reading.{allowed, all_allowed}
+use Rattle.dy_dots.specs.inside.Reading.{allowed, all_allowed}
 use Rattle.dy_dots.specs.declared.dots.Dot.{Dot}
 use Rattle.dy_dots.specs.declared.runs.Run.{Run}
 use Rattle.dy_dots.proofs.Lists.{none_before, from_place}

@@ -1,7 +1,7 @@
 -- Two lists of runs made one.
 use Rattle.std.proofs.Common.{◌≡◌, ℕ, ◌+◌, ◌≤◌, Bool, true, false, ◌||◌, List, [], ◌∷◌, ◌++◌, refl, sym, ap, ◌∙◌, inl, inr, arith, subst}
 use Rattle.std.proofs.lemmas.List.Folds.{list_any-append}
-use Rattle.dy_dots.specs.Kinds.{joined, IsBelow, IsReached, StartsBy, IsNext}
+use Rattle.dy_dots.specs.inside.Kinds.{joined, IsBelow, IsReached, StartsBy, IsNextRun}
 use Rattle.dy_dots.specs.Runs.{in_run, in_runs, StartsFrom, RiseFrom, AreApart}
 use Rattle.dy_dots.specs.declared.dots.Dot.{Dot}
 use Rattle.dy_dots.specs.declared.runs.Run.{Run}
@@ -22,7 +22,7 @@ or_second true true b = refl
 or_second true false b = refl
 or_second false a b = refl
 
-pub taken : (n c : ℕ) (a b : List Run) (r : Run) (a' b' : List Run) → RiseFrom n c a → RiseFrom n c b → IsNext a b r a' b' → Taken n c a b r a' b'
+pub taken : (n c : ℕ) (a b : List Run) (r : Run) (a' b' : List Run) → RiseFrom n c a → RiseFrom n c b → IsNextRun a b r a' b' → Taken n c a b r a' b'
 taken n c a b r a' b' rise_a rise_b (inl p) =
     let front : RiseFrom n c (r ∷ a') = subst (RiseFrom n c) p.0 rise_a in (
       front.0,
@@ -65,7 +65,7 @@ Merges done r a' b' a b =
     AreApart (done ++ r ∷ []) × RiseFrom r.node r.first a' × RiseFrom r.node r.first b'
     × ((d : Dot) → (in_runs (done ++ r ∷ []) d || (in_runs a' d || in_runs b' d)) ≡ (in_runs a d || in_runs b d))
 
-pub merges_first : (done a b : List Run) (r : Run) (a' b' : List Run) → done ≡ [] → AreApart a → AreApart b → IsNext a b r a' b' → Merges done r a' b' a b
+pub merges_first : (done a b : List Run) (r : Run) (a' b' : List Run) → done ≡ [] → AreApart a → AreApart b → IsNextRun a b r a' b' → Merges done r a' b' a b
 merges_first done a b r a' b' none rise_a rise_b next =
     let t = taken 0 0 a b r a' b' rise_a rise_b next in
     subst (λ l. Merges l r a' b' a b) (sym none) (
@@ -75,7 +75,7 @@ merges_first done a b r a' b' none rise_a rise_b next =
       λ d. ap (λ x. x || (in_runs a' d || in_runs b' d)) (or_false (in_run r d)) ∙ t.4 d,
     )
 
-pub merges_push : (done pushed : List Run) (r : Run) (a' b' a b : List Run) (s : Run) (a2 b2 : List Run) → Merges done r a' b' a b → IsNext a' b' s a2 b2 → IsBelow r s → pushed ≡ done ++ r ∷ [] → Merges pushed s a2 b2 a b
+pub merges_push : (done pushed : List Run) (r : Run) (a' b' a b : List Run) (s : Run) (a2 b2 : List Run) → Merges done r a' b' a b → IsNextRun a' b' s a2 b2 → IsBelow r s → pushed ≡ done ++ r ∷ [] → Merges pushed s a2 b2 a b
 merges_push done pushed r a' b' a b s a2 b2 m next below is =
     let t = taken r.node r.first a' b' s a2 b2 m.1 m.2 next in
     subst (λ l. Merges l s a2 b2 a b) (sym is) (
@@ -98,7 +98,7 @@ or_moved true r s t = refl
 or_moved false true s t = refl
 or_moved false false s t = refl
 
-pub merges_join : (done : List Run) (r : Run) (a' b' a b : List Run) (s j : Run) (a2 b2 : List Run) → Merges done r a' b' a b → IsNext a' b' s a2 b2 → IsReached r s → j ≡ joined r s → Merges done j a2 b2 a b
+pub merges_join : (done : List Run) (r : Run) (a' b' a b : List Run) (s j : Run) (a2 b2 : List Run) → Merges done r a' b' a b → IsNextRun a' b' s a2 b2 → IsReached r s → j ≡ joined r s → Merges done j a2 b2 a b
 merges_join done r a' b' a b s j a2 b2 m next reached is =
     let t = taken r.node r.first a' b' s a2 b2 m.1 m.2 next in
     let valid : r.first ≤ r.last = rise_end 0 0 done r m.0 in

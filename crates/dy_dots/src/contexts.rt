@@ -1,5 +1,5 @@
 ghost use Rattle.std.specs.Prelude.{◌≡◌, ◌↔◌, true, Some, OnOk, OnErr, IfOk, IfErr, IsOkUnless};
-ghost use Rattle.std.specs.Prelude.{string_bytes};
+ghost use Rattle.std.specs.Prelude.{string_bytes, IsTrue, IsOk};
 ghost use Rattle.std.specs.FinSet as set;
 ghost use Rattle.dy_dots.specs.Dots.{DotSet, dot_set_code, AreDots};
 ghost use Rattle.dy_dots.specs.Runs.{AreKept, AreRunsOf, set_of};
@@ -69,12 +69,16 @@ impl Context {
         self.runs.as_slice()
     }
 
-    /// Adds the dot.
+    /// Adds the dot. Takes no memory where it has it.
     pub fn insert(&mut self, dot: Dot) -> Result<(), Fault>
         ensures ok { OnOk result (self.new ≡ set.insert self.old dot) }
         ensures err { OnErr result (self.new ≡ self.old) }
+        ensures spared { IsTrue (set.contains self.old dot) → IsOk result }
         ensures memory { IsOkUnless result Fault.OutOfMemory }
     {
+        if self.contains(dot) {
+            return Ok(());
+        }
         runs::add(&mut self.runs, &dot)?;
         Ok(())
     }
@@ -83,6 +87,7 @@ impl Context {
     pub fn union(&mut self, alloc: Global, other: &Context) -> Result<(), Fault>
         ensures ok { OnOk result (self.new ≡ set.union self.old other.now) }
         ensures err { OnErr result (self.new ≡ self.old) }
+        ensures spared { IsTrue (set.is_subset other.now self.old) → IsOk result }
         ensures memory { IsOkUnless result Fault.OutOfMemory }
     {
         if self.includes(other) {

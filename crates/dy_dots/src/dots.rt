@@ -1,8 +1,13 @@
 ghost use Rattle.std.specs.Prelude.{◌≡◌, ◌≤◌, ◌↔◌, IsSome, IfSome, Some};
-ghost use Rattle.dy_dots.specs.Dots.{DotNumbers, dot_code, dot_text, IsDot};
+ghost use Rattle.std.specs.Cmp.{partial_order_from_own_ties};
+ghost use Rattle.std.specs.Cmp.Rules.{comparing};
+ghost use Rattle.std.specs.Ordering.{as_partial_cmp};
+ghost use Rattle.std.proofs.Common.{rules};
+ghost use Rattle.dy_dots.specs.Dots.{DotNumbers, dot_cmp, dot_code, dot_text, IsDot};
 ghost use Rattle.dy_dots.specs.declared.dots.TheConstants.{MAX_COUNTER};
 
 use crate::nodes::NodeId;
+use std::cmp::Ordering;
 use std::fmt;
 use std::marker::Model;
 
@@ -12,12 +17,14 @@ pub const MAX_COUNTER: u32 = 1_000_000;
 /// The name of one version of a key: the node that made it, and which of that node's versions of
 /// the key it is, from 1 (Preguiça et al., dotted version vectors, section 4). Dots are ordered by
 /// node, then by counter.
-#[derive(Clone, Copy, Debug, PartialEq, Eq, PartialOrd, Ord)]
+#[derive(Clone, Copy, Debug, PartialEq, Eq)]
 pub struct Dot {
     node: NodeId,
     counter: u32,
 }
 
+// Its model has a name of its own, since the specs that define it stand below the type. What stands
+// above the type writes the type's name, which is the same.
 impl Model for Dot {
     ghost Value = { DotNumbers };
 
@@ -56,6 +63,32 @@ impl Dot {
         ensures valid { IsDot self }
     {
         self.counter
+    }
+}
+
+impl Ord for Dot {
+    ghost cmp = { dot_cmp };
+
+    ghost total = { Prim.search (comparing, rules) };
+
+    ghost matches_partial_cmp = { Prim.search (comparing, rules) };
+
+    ghost matches_eq = { Prim.search (comparing, rules) };
+
+    fn cmp(&self, other: &Dot) -> Ordering {
+        let by_node = self.node.cmp(&other.node);
+        by_node.then(self.counter.cmp(&other.counter))
+    }
+}
+
+impl PartialOrd for Dot {
+    ghost partial_cmp = { as_partial_cmp dot_cmp };
+
+    ghost laws = { partial_order_from_own_ties
+        (Prim.search (comparing, rules)) (Prim.search (comparing, rules)) };
+
+    fn partial_cmp(&self, other: &Dot) -> Option<Ordering> {
+        Some(self.cmp(other))
     }
 }
 

@@ -2,12 +2,12 @@ ghost use Rattle.std.specs.Prelude.{◌≡◌, ◌≤◌, true, false, length, I
 ghost use Rattle.std.specs.Prelude.{OnOk, OnErr, []};
 ghost use Rattle.dy_dots.specs.Dots.{IsDot};
 ghost use Rattle.dy_dots.specs.declared.dots.Dot.{Dot};
-ghost use Rattle.dy_dots.specs.Runs.{AreApart, AreKept, HasAll, count_of, StartsFrom, in_run};
-ghost use Rattle.dy_dots.specs.Runs.{in_runs};
-ghost use Rattle.dy_dots.specs.Kinds.{single, joined, covers_run, IsBelow, IsReached, IsNext};
-ghost use Rattle.dy_dots.specs.Kinds.{AreBelow, IsPlace, HaveBoth, Added};
+ghost use Rattle.dy_dots.specs.Runs.{AreApart, AreKept, StartsFrom, in_run, in_runs, single};
+ghost use Rattle.dy_dots.specs.inside.Kinds.{joined, covers_run, IsBelow, IsReached, IsNextRun};
+ghost use Rattle.dy_dots.specs.inside.Kinds.{AreBelow, IsPlace, HaveAllOf, HaveBoth};
+ghost use Rattle.dy_dots.specs.inside.Kinds.{Added, count_of};
 ghost use Rattle.dy_dots.specs.Spelling.{run_text};
-ghost use Rattle.dy_dots.specs.Reading.{run_to};
+ghost use Rattle.dy_dots.specs.inside.Reading.{run_to};
 
 use crate::dots::Dot;
 use crate::nodes::NodeId;
@@ -121,8 +121,8 @@ pub(crate) fn holds(runs: &[Run], dot: &Dot) -> bool
 pub(crate) fn include(runs: &[Run], others: &[Run]) -> bool
     requires apart { AreApart runs.now }
     requires others_apart { AreApart others.now }
-    ensures yes { result ≡ true → HasAll runs.now others.now }
-    ensures no { result ≡ false → HasAll runs.now others.now → ⊥ }
+    ensures yes { result ≡ true → HaveAllOf runs.now others.now }
+    ensures no { result ≡ false → HaveAllOf runs.now others.now → ⊥ }
 {
     let mut left = runs;
     let mut right = others;
@@ -196,7 +196,7 @@ pub(crate) fn add(runs: &mut Vec<Run>, dot: &Dot) -> Result<(), AllocFailed<Run>
 
 /// The one that starts first of the first runs of two lists, and what is left of both.
 fn split_next<'a>(a: &'a [Run], b: &'a [Run]) -> Option<(Run, &'a [Run], &'a [Run])>
-    ensures some { IfSome result (λ p. IsNext a.now b.now p.0 p.1.now p.2.now) }
+    ensures some { IfSome result (λ p. IsNextRun a.now b.now p.0 p.1.now p.2.now) }
     ensures none { IfNone result ((a.now ≡ []) × (b.now ≡ [])) }
 {
     match (a.split_first(), b.split_first()) {

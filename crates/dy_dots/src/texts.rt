@@ -1,7 +1,8 @@
 ghost use Rattle.std.specs.Prelude.{◌≡◌, Some, None, IfOk, IfErr, string_bytes};
 ghost use Rattle.std.specs.Fmt.{DisplaysOnOk};
 ghost use Rattle.dy_dots.specs.Spelling.{runs_text};
-ghost use Rattle.dy_dots.specs.Reading.{all_allowed, allowed, read_runs, IsUnread};
+ghost use Rattle.dy_dots.specs.inside.Reading.{all_allowed, allowed, read_runs, IsUnread};
+ghost use Rattle.dy_dots.specs.declared.texts.TheConstants.{MAX_CONTEXT_DOTS};
 
 use crate::dots::MAX_COUNTER;
 use crate::faults::Fault;
@@ -95,7 +96,7 @@ pub(crate) fn runs_in(alloc: Global, bytes: &[u8]) -> Result<Vec<Run>, Fault>
 
 /// Whether the runs are apart and rise, in range, with at most as many dots as a text may name.
 pub(crate) fn are_allowed(runs: &[Run]) -> bool
-    ensures { result ≡ all_allowed 0 0 100000 runs.now }
+    ensures { result ≡ all_allowed 0 0 MAX_CONTEXT_DOTS runs.now }
 {
     let mut node = 0;
     let mut least = 0;

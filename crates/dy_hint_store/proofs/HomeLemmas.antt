@@ -1,13 +1,12 @@
 -- What is found among the maps for the homes.
-use Rattle.std.proofs.Common.{◌≡◌, ◌≢◌, ℕ, zero, suc, ◌+◌, ◌<◌, ◌≤◌, T, Bool, true, false, ◌&&◌, ◌==◌, cond, List, [], ◌∷◌, ◌++◌, length, get_or, set, Option, Some, None, IsSome, inl, inr, refl, sym, ap, ◌∙◌, subst, arith}
+use Rattle.std.proofs.Common.{◌≡◌, ◌≢◌, ℕ, zero, suc, ◌+◌, ◌<◌, ◌≤◌, true, false, ◌&&◌, cond, List, [], ◌∷◌, ◌++◌, length, set, Option, Some, None, IsSome, inl, inr, refl, sym, ap, ◌∙◌, subst, arith}
 use mathlib.Core.Bool.{false≢true}
-use Rattle.std.specs.declared.cmp.Ordering.{Ordering}
 use Rattle.std.specs.declared.cmp.Ordering.TheVariants.{Less, Equal, Greater}
-use Rattle.std.specs.Ordering.{nat_cmp, is_eq, is_lt, eq_by_cmp, ordering_then}
-use Rattle.std.specs.Cmp.{IsTotalOrder, nat_cmp_is, nat_cmp_total, then_total, on_total, tied_itself, tied_then}
+use Rattle.std.specs.Ordering.{nat_cmp, is_eq, eq_by_cmp, ordering_then}
+use Rattle.std.specs.Cmp.{IsTotalOrder, nat_cmp_total, then_total, on_total, tied_itself, tied_then}
 use Rattle.std.specs.Cmp.Lexicographic.{slice_cmp, nat_list_cmp_total}
 use Rattle.std.specs.FinMap as maps
-use Rattle.std.specs.FinMap.Entries.{find, below_all, is_sorted, same_entries}
+use Rattle.std.specs.FinMap.Entries.{find}
 use Rattle.std.proofs.lemmas.Map.Lookups.{CmpEqualImpliesEq, exact_bytes, exact_unsigned, exact_pairs}
 use Rattle.std.proofs.lemmas.Map.Views.{tells_apart}
 use Rattle.std.proofs.lemmas.Bool.{cases_lt}
@@ -16,7 +15,7 @@ use Rattle.dy_siblings.specs.Siblings.{Siblings}
 use Rattle.dy_siblings.specs.Versions.{VersionParts}
 use Rattle.dy_node_store.specs.Rows.{Rows, with_versions}
 use Rattle.dy_hint_store.specs.Hints.{Hints, home_then_key, with_versions_for}
-use Rattle.dy_hint_store.specs.Homes.{rows_for, entries_for, entries_from, HaveSameRows}
+use Rattle.dy_hint_store.specs.inside.Homes.{rows_for, entries_for, entries_from, HaveSameRows}
 
 -- homes and keys are in a total order, that tells all apart
 pub home_then_key_total : IsTotalOrder home_then_key
@@ -91,13 +90,6 @@ get_hint homes home key =
 pub same_hints : (homes others : List Rows) → HaveSameRows homes others → maps.from_entries {R = home_then_key} (entries_from 0 homes) ≡ maps.from_entries (entries_from 0 others)
 same_hints homes others same = maps.same_map home_then_key_total home_then_key_exact _ _ (λ q.
     get_hint homes q.0 q.1 ∙ ap (λ rows. maps.get rows q.1) (same q.0) ∙ sym (get_hint others q.0 q.1))
-
--- a map more with no rows is no rows more
-pub rows_for_push : (homes : List Rows) → HaveSameRows (homes ++ maps.empty ∷ []) homes
-rows_for_push [] zero = refl
-rows_for_push [] (suc home) = refl
-rows_for_push (rows ∷ later) zero = refl
-rows_for_push (rows ∷ later) (suc home) = rows_for_push later home
 
 -- ---- changes
 

@@ -10,7 +10,7 @@ use Rattle.std.proofs.lemmas.List.{map-append}
 use Rattle.dy_siblings.specs.Siblings.{Siblings}
 use Rattle.dy_node_store.specs.Rows.{Rows}
 use Rattle.dy_hint_store.specs.Hints.{home_then_key, home_and_row, shown}
-use Rattle.dy_hint_store.specs.Homes.{entries_for, entries_from}
+use Rattle.dy_hint_store.specs.inside.Homes.{entries_for, entries_from}
 use Rattle.dy_hint_store.proofs.HomeLemmas.{home_then_key_total, home_then_key_exact}
 
 both : (a b : Bool) → T a → T b → T (a && b)

@@ -18,6 +18,7 @@ home_then_key x y = ordering_then (nat_cmp x.0 y.0) (slice_cmp nat_cmp x.1 y.1)
 abbrev pub Hints : Type 0
 Hints = maps.FinMap home_then_key Siblings
 
+-- how maps of hints are told apart
 abbrev pub hints_code : Coded Hints
 hints_code = maps.code (coded× coded_ℕ (coded_list coded_ℕ)) siblings_code
 

@@ -1,2 +1,2 @@
 pub mod Hints
-pub mod Homes
+pub mod inside

@@ -1,6 +1,7 @@
 ghost use Rattle.std.specs.Prelude.{◌≡◌, ◌<◌, ◌≤◌, ◌++◌, length, map, OnOk, OnErr, IsOkUnless};
+ghost use Rattle.dy_dots.specs.declared.nodes.TheConstants.{MAX_NODES};
 ghost use Rattle.dy_hint_store.specs.Hints.{shown};
-ghost use Rattle.dy_hint_store.specs.Homes.{HaveSameRows};
+ghost use Rattle.dy_hint_store.specs.inside.Homes.{HaveSameRows};
 
 use dy_dots::{Fault, NodeId};
 use dy_node_store::RowMap;
@@ -9,12 +10,12 @@ use std::alloc::Global;
 
 // Makes maps with no rows, until there is one for the home.
 pub(crate) fn make_room(alloc: Global, homes: &mut Vec<RowMap>, home: usize) -> Result<(), Fault>
-    requires home { home < 32 }
-    requires few { length homes.old.items ≤ 32 }
+    requires home { home < MAX_NODES }
+    requires few { length homes.old.items ≤ MAX_NODES }
     ensures room { OnOk result (home < length homes.new.items) }
     ensures short { OnErr result (length homes.old.items ≤ home) }
     ensures same { HaveSameRows homes.new.items homes.old.items }
-    ensures few { length homes.new.items ≤ 32 }
+    ensures few { length homes.new.items ≤ MAX_NODES }
     ensures memory { IsOkUnless result Fault.OutOfMemory }
 {
     while homes.len() <= home {

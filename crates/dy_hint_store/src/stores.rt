@@ -23,8 +23,9 @@ pub struct HintStore {
 impl Model for HintStore {
     ghost use Rattle.std.specs.Prelude.{◌≤◌, length};
     ghost use Rattle.std.specs.FinMap as maps;
+    ghost use Rattle.dy_dots.specs.declared.nodes.TheConstants.{MAX_NODES};
     ghost use Rattle.dy_hint_store.specs.Hints.{Hints, hints_code};
-    ghost use Rattle.dy_hint_store.specs.Homes.{entries_from};
+    ghost use Rattle.dy_hint_store.specs.inside.Homes.{entries_from};
 
     ghost Value = { Hints };
 
@@ -32,7 +33,7 @@ impl Model for HintStore {
 
     ghost view = { λ store. maps.from_entries (entries_from 0 store.homes.items) };
 
-    ghost invariant = { λ store. length store.homes.items ≤ 32 };
+    ghost invariant = { λ store. length store.homes.items ≤ MAX_NODES };
 }
 
 impl HintStore {

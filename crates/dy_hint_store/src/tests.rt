@@ -1,74 +1,104 @@
 mod growths;
 
 use crate::HintStore;
-use dy_dots::{Context, Dot, NodeId};
+use dy_dots::{Context, Dot, Fault, NodeId};
 use dy_siblings::{Key, Row, Version};
 use std::alloc::Global;
-use std::test::Fail;
 
-fn node(number: u8) -> Result<NodeId, Fail> {
-    Ok(NodeId::new(number).ok_or("a node")?)
-}
-
-fn dot(counter: u32) -> Result<Dot, Fail> {
-    Ok(Dot::new(node(0)?, counter).ok_or("a dot")?)
+// The dot `n0:counter`.
+fn dot_of(counter: u32) -> Option<Dot> {
+    Dot::new(NodeId::new(0)?, counter)
 }
 
 // The row of the key with a deletion of this dot, that follows nothing.
-fn row_of(alloc: Global, key: &[u8], dot: Dot) -> Result<Row, Fail> {
-    let past = Context::new(alloc);
+fn deletion(alloc: Global, key: &[u8], dot: Dot) -> Result<Row, Fault> {
+    let (key, past) = (Key::new(alloc, key)?, Context::new(alloc));
     if past.contains(dot) {
-        return Err(Fail::new("a past without the dot"));
+        return Ok(Row::new(alloc, key));
     }
-    let version = Version::new(Key::new(alloc, key)?, dot, past, None);
-    Ok(Row::of(alloc, version)?)
+    Row::of(alloc, Version::new(alloc, key, dot, past, None)?)
 }
 
-#[test]
-fn hints_are_listed_by_home_and_then_by_key(rt: HostRuntime) -> Result<(), Fail> {
-    let alloc = rt.alloc();
-    let mut store = HintStore::new(alloc);
-    store.put_row(node(2)?, row_of(alloc, b"a", dot(1)?)?)?;
-    store.put_row(node(0)?, row_of(alloc, b"b", dot(2)?)?)?;
-    store.put_row(node(0)?, row_of(alloc, b"a", dot(3)?)?)?;
-    let hints = store.list(alloc)?;
-    assert_eq!(rt; hints.len(), 3);
-    let expected = [(0, b"a".as_slice()), (0, b"b"), (2, b"a")];
-    for (hint, (home, key)) in hints.iter().zip(expected.as_slice()) {
-        assert_eq!(rt; hint.0.number(), *home);
-        assert_eq!(rt; hint.1.key().as_bytes(), *key);
+// The row of the key with a deletion of the dot `n0:counter`.
+fn row_of(alloc: Global, key: &[u8], counter: u32) -> Option<Row> {
+    deletion(alloc, key, dot_of(counter)?).ok()
+}
+
+fn put(alloc: Global, store: &mut HintStore, home: u8, key: &[u8], counter: u32) -> bool {
+    match (NodeId::new(home), row_of(alloc, key, counter)) {
+        (Some(home), Some(row)) => store.put_row(home, row).is_ok(),
+        _ => false,
     }
-    Ok(())
+}
+
+// Whether these are the homes and keys of the hints listed.
+fn are_listed(alloc: Global, store: &HintStore, wanted: &[(u8, &[u8])]) -> bool {
+    let Ok(hints) = store.list(alloc) else {
+        return false;
+    };
+    for (hint, (home, key)) in hints.iter().zip(wanted) {
+        if hint.0.number() != *home || hint.1.key().as_bytes() != *key {
+            return false;
+        }
+    }
+    hints.len() == wanted.len()
 }
 
 #[test]
-fn each_home_has_its_own_row_of_a_key(rt: HostRuntime) -> Result<(), Fail> {
-    let alloc = rt.alloc();
-    let mut store = HintStore::new(alloc);
-    let key = Key::new(alloc, b"k")?;
-    let (one, two) = (node(1)?, node(2)?);
-    store.put_row(one, row_of(alloc, b"k", dot(1)?)?)?;
-    store.put_row(two, row_of(alloc, b"k", dot(1)?)?)?;
-    store.remove_dots(one, &key, [dot(2)?].as_slice());
-    assert!(rt; store.row(one, &key).is_some());
-    store.remove_dots(one, &key, [dot(1)?].as_slice());
-    assert!(rt; store.row(one, &key).is_none());
-    assert!(rt; store.remove_row(two, &key).is_some());
-    assert!(rt; store.remove_row(two, &key).is_none());
-    Ok(())
+fn hints_are_listed_by_home_and_then_by_key(rt: HostRuntime) {
+    let mut store = HintStore::new(rt.alloc());
+    for (home, key, counter) in [(2, b"a".as_slice(), 1), (0, b"b", 2), (0, b"a", 3)] {
+        assert!(rt; put(rt.alloc(), &mut store, home, key, counter));
+    }
+    let wanted = [(0, b"a".as_slice()), (0, b"b"), (2, b"a")];
+    assert!(rt; are_listed(rt.alloc(), &store, wanted.as_slice()));
+}
+
+// Whether the row for the home leaves with its dot, and not with another.
+fn leaves(store: &mut HintStore, home: NodeId, key: &Key, dot: Dot, other: Dot) -> bool {
+    store.remove_dots(home, key, [other].as_slice());
+    let stays = store.row(home, key).is_some();
+    store.remove_dots(home, key, [dot].as_slice());
+    stays && store.row(home, key).is_none()
+}
+
+// Whether the row for the home is taken out, once.
+fn is_taken_once(store: &mut HintStore, home: NodeId, key: &Key) -> bool {
+    store.remove_row(home, key).is_some() && store.remove_row(home, key).is_none()
+}
+
+fn have_their_own(alloc: Global, store: &mut HintStore) -> Option<bool> {
+    let key = Key::new(alloc, b"k".as_slice()).ok()?;
+    let (one, two) = (NodeId::new(1)?, NodeId::new(2)?);
+    let (dot, other) = (dot_of(1)?, dot_of(2)?);
+    Some(leaves(store, one, &key, dot, other) && is_taken_once(store, two, &key))
 }
 
 #[test]
-fn a_hint_gives_way_to_another(rt: HostRuntime) -> Result<(), Fail> {
-    let alloc = rt.alloc();
-    let mut store = HintStore::new(alloc);
-    let home = node(4)?;
-    store.put_row(home, row_of(alloc, b"k", dot(1)?)?)?;
-    let row = row_of(alloc, b"k", dot(2)?)?;
+fn each_home_has_its_own_row_of_a_key(rt: HostRuntime) {
+    let mut store = HintStore::new(rt.alloc());
+    for home in [1, 2] {
+        assert!(rt; put(rt.alloc(), &mut store, home, b"k".as_slice(), 1));
+    }
+    assert_eq!(rt; have_their_own(rt.alloc(), &mut store), Some(true));
+}
+
+// Whether the row takes the place of that of its key, which is given back and covers the dot.
+fn replaces(store: &mut HintStore, home: NodeId, row: Row, dot: Dot) -> bool {
     if row.is_empty() || store.row(home, row.key()).is_none() {
-        return Err(Fail::new("a hint in the place of another"));
+        return false;
     }
-    let old = store.replace_row(home, row);
-    assert!(rt; old.covers(dot(1)?));
-    Ok(())
+    store.replace_row(home, row).covers(dot)
+}
+
+fn gives_way(alloc: Global, store: &mut HintStore) -> Option<bool> {
+    let row = row_of(alloc, b"k".as_slice(), 2)?;
+    Some(replaces(store, NodeId::new(4)?, row, dot_of(1)?))
+}
+
+#[test]
+fn a_hint_gives_way_to_another(rt: HostRuntime) {
+    let mut store = HintStore::new(rt.alloc());
+    assert!(rt; put(rt.alloc(), &mut store, 4, b"k".as_slice(), 1));
+    assert_eq!(rt; gives_way(rt.alloc(), &mut store), Some(true));
 }

@@ -1,5 +1,5 @@
 -- Versions dropped dot by dot.
-use Rattle.std.proofs.Common.{◌≡◌, Bool, true, false, not, ◌||◌, cond, List, [], ◌∷◌, refl, ap}
+use Rattle.std.proofs.Common.{◌≡◌, true, false, not, ◌||◌, cond, List, [], ◌∷◌, refl, ap}
 use Rattle.std.specs.List.{list_any}
 use Rattle.dy_dots.specs.Dots.{DotNumbers, same_dot}
 use Rattle.dy_siblings.specs.Versions.{VersionParts}

@@ -1,5 +1,5 @@
 -- Entries that are rows of their keys, and rows with other versions.
-use Rattle.std.proofs.Common.{◌≡◌, ℕ, ◌<◌, Bool, true, false, cond, List, [], ◌∷◌, length, Option, Some, None, IfSome, refl, sym, ap, ◌∙◌, subst, arith}
+use Rattle.std.proofs.Common.{◌≡◌, ℕ, ◌<◌, Bool, true, false, cond, List, [], ◌∷◌, length, Some, IfSome, refl, sym, ◌∙◌, subst, arith}
 use Rattle.std.specs.declared.cmp.Ordering.TheVariants.{Less, Equal, Greater}
 use Rattle.std.specs.Ordering.{nat_cmp, match_ordering}
 use Rattle.std.specs.Cmp.Lexicographic.{slice_cmp}
@@ -10,7 +10,8 @@ use Rattle.std.proofs.lemmas.Map.Lookups.{exact_bytes}
 use Rattle.std.proofs.lemmas.Map.Views.{tells_apart}
 use Rattle.dy_siblings.specs.Siblings.{Siblings}
 use Rattle.dy_siblings.specs.Versions.{VersionParts}
-use Rattle.dy_node_store.specs.Rows.{Rows, with_versions, IsRowOf, AreRows}
+use Rattle.dy_node_store.specs.Rows.{Rows, with_versions, IsRowOf}
+use Rattle.dy_node_store.specs.inside.Entries.{AreRows}
 
 -- a query's key and the key that it ties with are one
 same_key : (q k : List ℕ) → is_at (slice_cmp nat_cmp q) k ≡ true → q ≡ k

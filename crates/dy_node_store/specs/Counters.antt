@@ -9,6 +9,7 @@ use Rattle.std.specs.FinMap as map
 abbrev pub Counters : Type 0
 Counters = map.FinMap (slice_cmp nat_cmp) ℕ
 
+-- how counters are told apart
 abbrev pub counters_code : Coded Counters
 counters_code = map.code (coded_list coded_ℕ) coded_ℕ
 

@@ -9,6 +9,7 @@ pub record Kept : Type 0 where
   pub rows : Rows
   pub counters : Counters
 
+-- how stores are told apart
 abbrev pub kept_code : Coded Kept
 kept_code =
     code_by (Rows × Counters) (coded× rows_code counters_code)

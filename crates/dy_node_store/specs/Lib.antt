@@ -1,3 +1,4 @@
 pub mod Counters
 pub mod Kept
 pub mod Rows
+pub mod inside

@@ -13,6 +13,7 @@ use Rattle.dy_siblings.specs.Versions.{VersionParts}
 abbrev pub Rows : Type 0
 Rows = map.FinMap (slice_cmp nat_cmp) Siblings
 
+-- how maps of rows are told apart
 abbrev pub rows_code : Coded Rows
 rows_code = map.code (coded_list coded_ℕ) siblings_code
 
@@ -37,8 +38,3 @@ without_dots vs dots = filter (λ v. not (list_any (λ d. same_dot v.dot d) dots
 -- the row is one of this key, and has a version
 abbrev pub IsRowOf : List ℕ → Siblings → Type 0
 IsRowOf key row = (row.key ≡ key) × (0 < length row.versions)
-
--- each entry is a row of its key, with a version
-abbrev pub AreRows : List (List ℕ × Siblings) → Type 0
-AreRows [] = Unit {0}
-AreRows (e ∷ es) = IsRowOf e.0 e.1 × AreRows es

@@ -20,7 +20,8 @@ pub struct RowMap {
 
 impl Model for RowMap {
     ghost use Rattle.std.specs.FinMap as maps;
-    ghost use Rattle.dy_node_store.specs.Rows.{Rows, rows_code, AreRows};
+    ghost use Rattle.dy_node_store.specs.Rows.{Rows, rows_code};
+    ghost use Rattle.dy_node_store.specs.inside.Entries.{AreRows};
 
     ghost Value = { Rows };
 

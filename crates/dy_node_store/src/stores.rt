@@ -96,7 +96,8 @@ impl NodeStore {
 
     /// The counter after the greatest that was used of the key. Takes no memory.
     pub fn next_counter(&self, key: &Key, limit: u32) -> Result<u32, Fault>
-        ensures ok { OkIff result (greatest_used self.now.counters key.now < limit) (greatest_used self.now.counters key.now + 1) }
+        ensures ok { OkIff result (greatest_used self.now.counters key.now < limit)
+            (greatest_used self.now.counters key.now + 1) }
         ensures fresh { IfOk result (λ counter. greatest_used self.now.counters key.now < counter) }
         ensures counter_full { IfErr result (λ fault. fault ≡ Fault.CounterFull) }
     {

@@ -4,70 +4,113 @@ use crate::{NodeStore, RowMap};
 use dy_dots::{Context, Dot, Fault, NodeId};
 use dy_siblings::{Key, Row, Version};
 use std::alloc::Global;
-use std::test::Fail;
 
-fn dot(counter: u32) -> Result<Dot, Fail> {
-    let node = NodeId::new(0).ok_or("a node")?;
-    Ok(Dot::new(node, counter).ok_or("a dot")?)
+// The dot `n0:counter`.
+fn dot_of(counter: u32) -> Option<Dot> {
+    Dot::new(NodeId::new(0)?, counter)
 }
 
 // The row of the key with a deletion of this dot, that follows nothing.
-fn row_of(alloc: Global, key: &[u8], dot: Dot) -> Result<Row, Fail> {
-    let past = Context::new(alloc);
+fn deletion(alloc: Global, key: &[u8], dot: Dot) -> Result<Row, Fault> {
+    let (key, past) = (Key::new(alloc, key)?, Context::new(alloc));
     if past.contains(dot) {
-        return Err(Fail::new("a past without the dot"));
+        return Ok(Row::new(alloc, key));
     }
-    let version = Version::new(Key::new(alloc, key)?, dot, past, None);
-    Ok(Row::of(alloc, version)?)
+    Row::of(alloc, Version::new(alloc, key, dot, past, None)?)
 }
 
-#[test]
-fn a_counter_outlives_its_row(rt: HostRuntime) -> Result<(), Fail> {
-    let alloc = rt.alloc();
-    let mut store = NodeStore::new(alloc);
-    let key = Key::new(alloc, b"k")?;
-    store.use_counter(&key, 0)?;
-    assert_eq!(rt; store.next_counter(&key, 5), Ok(1));
-    store.use_counter(&key, 3)?;
-    store.put_row(row_of(alloc, b"k", dot(3)?)?)?;
-    assert!(rt; store.remove_row(&key).is_some());
-    assert!(rt; store.row(&key).is_none());
-    store.use_counter(&key, 2)?;
-    assert_eq!(rt; store.next_counter(&key, 4), Ok(4));
-    assert_eq!(rt; store.next_counter(&key, 3), Err(Fault::CounterFull));
-    Ok(())
+// The row of the key with a deletion of the dot `n0:counter`.
+fn row_of(alloc: Global, key: &[u8], counter: u32) -> Option<Row> {
+    deletion(alloc, key, dot_of(counter)?).ok()
 }
 
-#[test]
-fn rows_are_listed_by_the_bytes_of_their_keys(rt: HostRuntime) -> Result<(), Fail> {
-    let alloc = rt.alloc();
-    let mut store = NodeStore::new(alloc);
-    store.put_row(row_of(alloc, b"b", dot(1)?)?)?;
-    store.put_row(row_of(alloc, b"ab", dot(2)?)?)?;
-    store.put_row(row_of(alloc, b"a", dot(3)?)?)?;
-    let rows = store.list(alloc)?;
-    assert_eq!(rt; rows.len(), 3);
-    for (row, key) in rows.iter().zip([b"a".as_slice(), b"ab", b"b"].as_slice()) {
-        assert_eq!(rt; row.key().as_bytes(), *key);
+fn put(alloc: Global, store: &mut NodeStore, key: &[u8], counter: u32) -> bool {
+    match row_of(alloc, key, counter) {
+        Some(row) => store.put_row(row).is_ok(),
+        None => false,
     }
-    Ok(())
+}
+
+// Uses the counter, and gives the next one.
+fn after(store: &mut NodeStore, key: &Key, counter: u32) -> Result<u32, Fault> {
+    store.use_counter(key, counter)?;
+    store.next_counter(key, 5)
+}
+
+// Whether a row of the key was put, and taken out.
+fn came_and_went(alloc: Global, store: &mut NodeStore, key: &Key) -> bool {
+    put(alloc, store, key.as_bytes(), 3)
+        && store.row(key).is_some()
+        && store.remove_row(key).is_some()
+        && store.row(key).is_none()
 }
 
 #[test]
-fn a_row_gives_way_and_its_dots_leave(rt: HostRuntime) -> Result<(), Fail> {
-    let alloc = rt.alloc();
-    let mut rows = RowMap::new(alloc);
-    let key = Key::new(alloc, b"k")?;
-    rows.put_row(row_of(alloc, b"k", dot(1)?)?)?;
-    let row = row_of(alloc, b"k", dot(2)?)?;
+fn a_counter_outlives_its_row(rt: HostRuntime) {
+    let mut store = NodeStore::new(rt.alloc());
+    let Ok(key) = Key::new(rt.alloc(), b"k".as_slice()) else {
+        assert!(rt; false, "no key");
+        return;
+    };
+    for (counter, next) in [(0, 1), (3, 4)] {
+        assert_eq!(rt; after(&mut store, &key, counter), Ok(next));
+    }
+    assert!(rt; came_and_went(rt.alloc(), &mut store, &key));
+    assert_eq!(rt; after(&mut store, &key, 2), Ok(4));
+    for (limit, next) in [(4, Ok(4)), (3, Err(Fault::CounterFull))] {
+        assert_eq!(rt; store.next_counter(&key, limit), next);
+    }
+}
+
+// Whether these are the keys of the rows listed.
+fn are_listed(alloc: Global, store: &NodeStore, keys: &[&[u8]]) -> bool {
+    let Ok(rows) = store.list(alloc) else {
+        return false;
+    };
+    for (row, key) in rows.iter().zip(keys) {
+        if row.key().as_bytes() != *key {
+            return false;
+        }
+    }
+    rows.len() == keys.len()
+}
+
+#[test]
+fn rows_are_listed_by_the_bytes_of_their_keys(rt: HostRuntime) {
+    let mut store = NodeStore::new(rt.alloc());
+    for (key, counter) in [(b"b".as_slice(), 1), (b"ab", 2), (b"a", 3)] {
+        assert!(rt; put(rt.alloc(), &mut store, key, counter));
+    }
+    let keys = [b"a".as_slice(), b"ab", b"b"];
+    assert!(rt; are_listed(rt.alloc(), &store, keys.as_slice()));
+}
+
+// Whether the row takes the place of that of its key, which is given back and covers the dot.
+fn replaces(rows: &mut RowMap, row: Row, dot: Dot) -> bool {
     if row.is_empty() || rows.row(row.key()).is_none() {
-        return Err(Fail::new("a row in the place of another"));
+        return false;
     }
-    let old = rows.replace_row(row);
-    assert!(rt; old.covers(dot(1)?));
-    rows.remove_dots(&key, [dot(1)?].as_slice());
-    assert!(rt; rows.row(&key).is_some());
-    rows.remove_dots(&key, [dot(1)?, dot(2)?].as_slice());
-    assert!(rt; rows.row(&key).is_none());
-    Ok(())
+    rows.replace_row(row).covers(dot)
+}
+
+// Whether the key's row leaves with the second of the dots, and not before.
+fn leaves(rows: &mut RowMap, key: &Key, first: Dot, second: Dot) -> bool {
+    rows.remove_dots(key, [first].as_slice());
+    let stays = rows.row(key).is_some();
+    rows.remove_dots(key, [first, second].as_slice());
+    stays && rows.row(key).is_none()
+}
+
+fn gives_way(alloc: Global, rows: &mut RowMap) -> Option<bool> {
+    let (first, second) = (dot_of(1)?, dot_of(2)?);
+    let key = Key::new(alloc, b"k".as_slice()).ok()?;
+    rows.put_row(row_of(alloc, b"k".as_slice(), 1)?).ok()?;
+    let row = row_of(alloc, b"k".as_slice(), 2)?;
+    Some(replaces(rows, row, first) && leaves(rows, &key, first, second))
+}
+
+#[test]
+fn a_row_gives_way_and_its_dots_leave(rt: HostRuntime) {
+    let mut rows = RowMap::new(rt.alloc());
+    assert_eq!(rt; gives_way(rt.alloc(), &mut rows), Some(true));
 }

@@ -7,7 +7,7 @@ use Rattle.std.proofs.lemmas.List.Elements.{All-nil, All-cons, All-head, All-tai
 use Rattle.std.proofs.lemmas.List.Folds.{list_any-append, list_any_none}
 use Rattle.dy_ring.specs.Rings.{Tokens, IsRing, Rises, has_token, distance_to, node_distance}
 use Rattle.dy_preference.specs.Preferences.{IsByDistance, nodes_by}
-use Rattle.dy_preference.specs.Walks.{met}
+use Rattle.dy_preference.specs.inside.Walks.{met}
 use Rattle.dy_preference.proofs.Rising.{has, rises_append, rises_take, rises_drop, rises_by, same_by, same_rising, distinct_rising, has_nodes, length_nodes, rises_nodes}
 
 -- a token past the position

@@ -1,3 +1,4 @@
 pub mod Distances
 pub mod Rising
 pub mod StandIns
+mod Stopping

@@ -1,2 +1,2 @@
 pub mod Preferences
-pub mod Walks
+pub mod inside

@@ -1,7 +1,10 @@
 -- Which nodes a key prefers, and who may hold it for whom.
-use Rattle.std.specs.Prelude.{ℕ, zero, suc, ◌≡◌, ◌≤◌, ◌==◌, ◌&&◌, ◌||◌, not, nat_eq, nat_le, nat_lt, length, take, drop, Bool, List, [], ◌∷◌, if◌then◌else◌, refl}
+use Rattle.std.specs.Prelude.{ℕ, zero, suc, ◌≡◌, ◌≤◌, ◌==◌, ◌&&◌, ◌||◌, not, nat_eq, nat_le}
+use Rattle.std.specs.Prelude.{nat_lt, Bool, if◌then◌else◌, refl}
+use Rattle.std.specs.Prelude.{List, [], ◌∷◌, length, slice_index_or, take, drop}
 use Rattle.std.specs.List.{IsDistinct, filter, list_any}
 use Rattle.std.specs.Coded.{Coded, code_by, coded×, coded_ℕ, coded_list}
+use Rattle.dy_dots.specs.declared.nodes.TheConstants.{MAX_NODES}
 use Rattle.dy_ring.specs.Rings.{Tokens, Rises, position_of, node_distance}
 
 -- the list with x put before the first that is no nearer
@@ -40,6 +43,11 @@ is_home homes node = list_any (λ home. home == node) homes
 abbrev pub may_hold : List ℕ → ℕ → ℕ → Bool
 may_hold homes holder home = is_home homes home && ((holder == home) || not (is_home homes holder))
 
+-- the home that the coordinator holds for: itself where it is one, else the first
+abbrev pub home_for : List ℕ → ℕ → ℕ
+home_for homes coordinator =
+    if is_home homes coordinator then coordinator else slice_index_or homes 0 coordinator
+
 -- the nodes that may stand in for a home, in the order in which they are asked: those past the
 -- first n, without the coordinator (Dynamo, section 4.6)
 abbrev pub stand_ins_of : List ℕ → ℕ → ℕ → List ℕ
@@ -50,13 +58,16 @@ pub record Preferred : Type 0 where
   pub nodes : List ℕ
   pub n : ℕ
 
+-- it is stored as the pair of both
 abbrev pub preferred_code : Coded Preferred
 preferred_code =
     code_by (List ℕ × ℕ) (coded× (coded_list coded_ℕ) coded_ℕ)
     (λ p. (p.nodes, p.n)) (λ p. record { nodes = p.0; n = p.1 }) (λ _. refl)
 
--- what is true of every preference list: its nodes are distinct, and some of them are homes
+-- what is true of every preference list: its nodes are distinct, and some of them are homes; there
+-- are no more than a ring may have
 pub record IsPreferred (list : Preferred) : Type 0 where
   pub some : 1 ≤ list.n
   pub enough : list.n ≤ length list.nodes
+  pub few : length list.nodes ≤ MAX_NODES
   pub distinct : IsDistinct nat_eq list.nodes

@@ -52,19 +52,32 @@ fn abc(rt: &HostRuntime) -> Result<Key, Fail> {
     }
 }
 
-#[test]
-fn survive_a_refused_growth(rt: HostRuntime) -> Result<(), Fail> {
-    let list = listed_again(&rt, &six_nodes(&rt)?, &abc(&rt)?)?;
-    assert_eq!(rt; list.nodes().len(), 6);
-    // No growth at all is left.
-    let coordinator = match list.homes().first() {
+/// The first home, or node 0 where there is none.
+fn first_home(list: &Preference) -> NodeId {
+    match list.homes().first() {
         Some(home) => *home,
         None => NodeId::nth(0),
-    };
-    let mut assign = Assign::new(&list, coordinator);
-    for _ in 0..5 {
-        assert!(rt; assign.next().is_some());
     }
-    assert!(rt; assign.next().is_none());
+}
+
+/// Whether five nodes may stand in, and no more.
+fn are_five(list: &Preference, coordinator: NodeId) -> bool {
+    let mut assign = Assign::new(list, coordinator);
+    for _ in 0..5 {
+        if assign.next().is_none() {
+            return false;
+        }
+    }
+    assign.next().is_none()
+}
+
+#[test]
+fn survive_a_refused_growth(rt: HostRuntime) -> Result<(), Fail> {
+    let ring = six_nodes(&rt)?;
+    let key = abc(&rt)?;
+    let list = listed_again(&rt, &ring, &key)?;
+    assert_eq!(rt; list.nodes().len(), 6);
+    // No growth at all is left.
+    assert!(rt; are_five(&list, first_home(&list)));
     Ok(())
 }

@@ -1,6 +1,6 @@
-ghost use Rattle.std.specs.Prelude.{◌≡◌, take, drop, length, nat_eq};
+ghost use Rattle.std.specs.Prelude.{◌≡◌, take, drop, length, nat_eq, true};
 ghost use Rattle.std.specs.List.{IsDistinct};
-ghost use Rattle.dy_preference.specs.Preferences.{IsPreferred, may_hold};
+ghost use Rattle.dy_preference.specs.Preferences.{IsPreferred, home_for, is_home, may_hold};
 
 use dy_dots::NodeId;
 use std::marker::Model;
@@ -57,6 +57,27 @@ impl Preference {
         ensures valid { IsPreferred self.now }
     {
         &self.nodes()[self.n..]
+    }
+
+    /// Whether the node is a home of the key. Takes no memory.
+    pub fn is_home(&self, node: NodeId) -> bool
+        ensures { result ≡ is_home (take self.now.n self.now.nodes) node }
+    {
+        self.homes().contains(&node)
+    }
+
+    /// The home that the coordinator holds for: itself where it is one, else the first. Takes no
+    /// memory.
+    pub fn home_for(&self, coordinator: NodeId) -> NodeId
+        ensures value { result ≡ home_for (take self.now.n self.now.nodes) coordinator }
+        ensures allowed { may_hold (take self.now.n self.now.nodes) coordinator result ≡ true }
+    {
+        let homes = self.homes();
+        if homes.contains(&coordinator) {
+            coordinator
+        } else {
+            homes[0]
+        }
     }
 
     /// Whether the holder may hold the key for the home. Takes no memory.

@@ -1,7 +1,8 @@
-ghost use Rattle.std.specs.Prelude.{◌≡◌, ◌≤◌, IfOk, OnOk, IsOkUnless};
+ghost use Rattle.std.specs.Prelude.{◌≡◌, ◌≤◌, take, length, IfOk, OnOk, IsOkUnless};
+ghost use Rattle.dy_dots.specs.declared.nodes.TheConstants.{MAX_NODES};
 ghost use Rattle.dy_ring.specs.Rings.{position_of};
 ghost use Rattle.dy_preference.specs.Preferences.{IsByDistance, preference_of};
-ghost use Rattle.dy_preference.specs.Walks.{met};
+ghost use Rattle.dy_preference.specs.inside.Walks.{met};
 
 use crate::lists::Preference;
 use dy_dots::{Fault, NodeId};
@@ -26,22 +27,28 @@ pub fn preference(alloc: Global, ring: &Ring, key: &Key, n: u8) -> Result<Prefer
 fn in_order(alloc: Global, ring: &Ring, key: &Key) -> Result<Vec<NodeId>, Fault>
     ensures nodes { IfOk result (λ nodes. nodes.items ≡ preference_of ring.now key.now) }
     ensures order { IfOk result (λ nodes. IsByDistance ring.now (position_of key.now) nodes.items) }
+    ensures few { IfOk result (λ nodes. length nodes.items ≤ MAX_NODES) }
     ensures memory { IsOkUnless result Fault.OutOfMemory }
 {
+    let count = ring.nodes() as usize;
     let first = ring.first_after(Ring::position(key));
     let (before, after) = ring.tokens().split_at(first);
     let mut nodes = Vec::new(alloc);
-    meet(&mut nodes, after)?;
-    meet(&mut nodes, before)?;
+    meet(&mut nodes, after, count)?;
+    meet(&mut nodes, before, count)?;
     Ok(nodes)
 }
 
-/// Each node of the tokens that isn't there yet is put at the end.
-fn meet(nodes: &mut Vec<NodeId>, tokens: &[(u128, NodeId)]) -> Result<(), Fault>
-    ensures ok { OnOk result (nodes.new.items ≡ met nodes.old.items tokens.now) }
+/// Each node of the tokens that isn't there yet is put at the end, until there are so many.
+fn meet(nodes: &mut Vec<NodeId>, tokens: &[(u128, NodeId)], count: usize) -> Result<(), Fault>
+    requires { length nodes.old.items ≤ count }
+    ensures ok { OnOk result (nodes.new.items ≡ take count (met nodes.old.items tokens.now)) }
     ensures memory { IsOkUnless result Fault.OutOfMemory }
 {
     for token in tokens {
+        if nodes.len() == count {
+            return Ok(());
+        }
         if !nodes.contains(&token.1) {
             nodes.push(token.1)?;
         }

@@ -27,17 +27,8 @@ fn listed(alloc: Global, tokens: &[&[u128]], key: &str) -> Result<Preference, Fa
     Ok(preference(alloc, &ring, &key, 3)?)
 }
 
-/// The numbers of the nodes, in their order.
-fn numbers(alloc: Global, nodes: &[NodeId]) -> Result<Vec<u8>, Fail> {
-    let mut all = Vec::new(alloc);
-    for node in nodes {
-        all.push(node.number())?;
-    }
-    Ok(all)
-}
-
-#[test]
-fn a_key_prefers_the_nearest(rt: HostRuntime) -> Result<(), Fail> {
+/// The preference list of the key over five nodes with one token each, with three homes.
+fn on_five(alloc: Global, key: &str) -> Result<Preference, Fail> {
     let five: [&[u128]; 5] = [
         &[at(0x20)],
         &[at(0x60)],
@@ -45,17 +36,33 @@ fn a_key_prefers_the_nearest(rt: HostRuntime) -> Result<(), Fail> {
         &[at(0xd0)],
         &[at(0xf0)],
     ];
+    listed(alloc, &five, key)
+}
+
+/// Whether the nodes have these numbers, in this order.
+fn are(nodes: &[NodeId], numbers: &[u8]) -> bool {
+    if nodes.len() != numbers.len() {
+        return false;
+    }
+    for (place, node) in nodes.iter().enumerate() {
+        if numbers[place] != node.number() {
+            return false;
+        }
+    }
+    true
+}
+
+#[test]
+fn a_key_prefers_the_nearest(rt: HostRuntime) -> Result<(), Fail> {
     let rows = [
         ("a", [0, 1, 2, 3, 4]),
         ("abc", [2, 3, 4, 0, 1]),
         ("message digest", [0, 1, 2, 3, 4]),
     ];
-    for (key, nodes) in rows {
-        let list = listed(rt.alloc(), &five, key)?;
-        let all = numbers(rt.alloc(), list.nodes())?;
-        assert_eq!(rt; all.as_slice(), nodes.as_slice(), "{key}");
-        let homes = numbers(rt.alloc(), list.homes())?;
-        assert_eq!(rt; homes.as_slice(), &nodes[..3], "{key}");
+    for (key, numbers) in rows {
+        let list = on_five(rt.alloc(), key)?;
+        assert!(rt; are(list.nodes(), numbers.as_slice()), "{key}");
+        assert!(rt; are(list.homes(), &numbers[..3]), "{key}");
     }
     Ok(())
 }
@@ -70,8 +77,7 @@ fn repeated_nodes_are_skipped(rt: HostRuntime) -> Result<(), Fail> {
         &[at(0xf0)],
     ];
     let list = listed(rt.alloc(), &twice, "abc")?;
-    let all = numbers(rt.alloc(), list.nodes())?;
-    assert_eq!(rt; all.as_slice(), [2, 3, 4, 0, 1].as_slice());
+    assert!(rt; are(list.nodes(), &[2, 3, 4, 0, 1]));
     Ok(())
 }
 
@@ -79,39 +85,57 @@ fn repeated_nodes_are_skipped(rt: HostRuntime) -> Result<(), Fail> {
 fn a_token_at_the_key_is_met_last(rt: HostRuntime) -> Result<(), Fail> {
     let there: [&[u128]; 5] = [&[at(0x20)], &[ABC], &[at(0xa0)], &[at(0xd0)], &[at(0xf0)]];
     let list = listed(rt.alloc(), &there, "abc")?;
-    let all = numbers(rt.alloc(), list.nodes())?;
-    assert_eq!(rt; all.as_slice(), [2, 3, 4, 0, 1].as_slice());
+    assert!(rt; are(list.nodes(), &[2, 3, 4, 0, 1]));
     Ok(())
+}
+
+/// Whether these nodes are asked to stand in, in this order, and then none.
+fn stand_in(list: &Preference, coordinator: NodeId, numbers: &[u8]) -> bool {
+    let mut assign = Assign::new(list, coordinator);
+    for number in numbers {
+        match assign.next() {
+            Some(node) => {
+                if node.number() != *number {
+                    return false;
+                }
+            }
+            None => return false,
+        }
+    }
+    assign.next().is_none() && assign.next().is_none()
 }
 
 #[test]
 fn others_stand_in_once(rt: HostRuntime) -> Result<(), Fail> {
-    let five: [&[u128]; 5] = [
-        &[at(0x20)],
-        &[at(0x60)],
-        &[at(0xa0)],
-        &[at(0xd0)],
-        &[at(0xf0)],
-    ];
-    let list = listed(rt.alloc(), &five, "abc")?;
-    let mut assign = Assign::new(&list, NodeId::nth(2));
-    assert_eq!(rt; assign.next(), Some(NodeId::nth(0)));
-    assert_eq!(rt; assign.next(), Some(NodeId::nth(1)));
-    assert_eq!(rt; assign.next(), None);
-    assert_eq!(rt; assign.next(), None);
-    let mut assign = Assign::new(&list, NodeId::nth(0));
-    assert_eq!(rt; assign.next(), Some(NodeId::nth(1)));
-    assert_eq!(rt; assign.next(), None);
-    let rows = [
+    let list = on_five(rt.alloc(), "abc")?;
+    assert!(rt; stand_in(&list, NodeId::nth(2), &[0, 1]));
+    assert!(rt; stand_in(&list, NodeId::nth(0), &[1]));
+    Ok(())
+}
+
+#[test]
+fn no_home_holds_for_another(rt: HostRuntime) -> Result<(), Fail> {
+    let list = on_five(rt.alloc(), "abc")?;
+    for (holder, home, may) in [
         (2, 2, true),
         (0, 2, true),
         (3, 2, false),
         (0, 1, false),
         (1, 1, false),
-    ];
-    for (holder, home, may) in rows {
+    ] {
         let held = list.may_hold(NodeId::nth(holder), NodeId::nth(home));
         assert_eq!(rt; held, may, "{holder}/{home}");
+    }
+    Ok(())
+}
+
+#[test]
+fn a_coordinator_holds_for_itself_or_the_first(rt: HostRuntime) -> Result<(), Fail> {
+    let list = on_five(rt.alloc(), "abc")?;
+    for (node, is_home, home) in [(2, true, 2), (4, true, 4), (0, false, 2), (1, false, 2)] {
+        let (node, home) = (NodeId::nth(node), NodeId::nth(home));
+        assert_eq!(rt; list.is_home(node), is_home, "{node}");
+        assert_eq!(rt; list.home_for(node), home, "{node}");
     }
     Ok(())
 }

@@ -1,5 +1,8 @@
-ghost use Rattle.std.specs.Prelude.{◌≡◌, ◌<◌, ◌≤◌, ◌++◌, ◌∷◌, [], ◌↔◌, ℕ, length, IsTrue, IfOk, IsOkUnless, vec_capacity};
-ghost use Rattle.dy_quorum.specs.Tallies.{Counted, Agrees, FitsAll, IsChoice, CanChoose, firsts};
+ghost use Rattle.std.specs.Prelude.{◌≡◌, ◌<◌, ◌≤◌, ◌++◌, ◌∷◌, [], ◌↔◌, ℕ, length, IsTrue, IfOk};
+ghost use Rattle.std.specs.Prelude.{IsOkUnless, MatchBool, vec_capacity};
+ghost use Rattle.dy_quorum.specs.Tallies.{Counted, Agrees, DoAgree, FitsAll, IsChoice, CanChoose};
+ghost use Rattle.dy_quorum.specs.inside.Counting.{firsts};
+ghost use Rattle.dy_quorum.specs.declared.tallies.TheConstants.{TALLY_ROOM};
 
 use dy_dots::{Fault, NodeId};
 use dy_shares::{Naming, Receipt};
@@ -21,7 +24,9 @@ pub struct Tally<J: Naming> {
 
 impl<J: Naming> Model for Tally<J> {
     ghost use Rattle.std.specs.Prelude.{◌≡◌, ◌≤◌, [], length, map, vec_capacity};
-    ghost use Rattle.dy_quorum.specs.Tallies.{Counted, IsCount, firsts};
+    ghost use Rattle.dy_quorum.specs.Tallies.{Counted, DoAgree};
+    ghost use Rattle.dy_quorum.specs.inside.Counting.{IsCount, firsts};
+    ghost use Rattle.dy_quorum.specs.declared.tallies.TheConstants.{TALLY_ROOM};
 
     ghost Value = { Counted };
 
@@ -30,11 +35,12 @@ impl<J: Naming> Model for Tally<J> {
     ghost invariant = { λ t.
         (t.homes.items ≡ map (λ r. r.home) (firsts t.added.items))
         × IsCount t.added.items (firsts t.added.items)
-        × (length t.added.items ≤ 64)
-        × (64 ≤ vec_capacity t.added)
-        × (64 ≤ vec_capacity t.homes)
-        × (64 ≤ vec_capacity t.chosen)
-        × (t.chosen.items ≡ []) };
+        × (length t.added.items ≤ TALLY_ROOM)
+        × (TALLY_ROOM ≤ vec_capacity t.added)
+        × (TALLY_ROOM ≤ vec_capacity t.homes)
+        × (TALLY_ROOM ≤ vec_capacity t.chosen)
+        × (t.chosen.items ≡ [])
+        × DoAgree t.added.items };
 }
 
 fn agrees<J: Naming>(one: &Receipt<J>, other: &Receipt<J>) -> bool
@@ -62,9 +68,9 @@ fn first_of_each<J: Naming>(
     mut homes: Vec<NodeId>,
     mut chosen: Vec<Receipt<J>>,
 ) -> Vec<Receipt<J>>
-    requires few { length added.items ≤ 64 }
-    requires homes { 64 ≤ vec_capacity homes }
-    requires chosen { 64 ≤ vec_capacity chosen }
+    requires few { length added.items ≤ TALLY_ROOM }
+    requires homes { TALLY_ROOM ≤ vec_capacity homes }
+    requires chosen { TALLY_ROOM ≤ vec_capacity chosen }
     requires empty { chosen.items ≡ [] }
     ensures { result.items ≡ firsts added.items }
 {
@@ -104,10 +110,18 @@ impl<J: Naming> Tally<J> {
         all_agree(&self.added, receipt)
     }
 
+    /// Whether there is no room for one more. Takes no memory.
+    pub fn is_full(&self) -> bool
+        ensures { MatchBool result
+            (length self.now.added ≡ TALLY_ROOM) (length self.now.added < TALLY_ROOM) }
+    {
+        self.added.len() == TALLY_ROOM
+    }
+
     /// Adds the receipt. Takes no memory.
     pub fn add(&mut self, receipt: Receipt<J>)
         requires fits { FitsAll self.old.added receipt }
-        requires room { length self.old.added < 64 }
+        requires room { length self.old.added < TALLY_ROOM }
         ensures { self.new ≡ record { w = self.old.w; added = self.old.added ++ receipt ∷ [] } }
     {
         let home = receipt.home();
@@ -131,7 +145,8 @@ impl<J: Naming> Tally<J> {
     /// Such w receipts. Takes no memory.
     pub fn into_receipts(self) -> Vec<Receipt<J>>
         requires { CanChoose self.w self.added }
-        ensures { IsChoice self.w self.added result.items }
+        ensures choice { IsChoice self.w self.added result.items }
+        ensures agree { DoAgree result.items }
     {
         let Tally {
             w,

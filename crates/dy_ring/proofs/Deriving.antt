@@ -1,7 +1,7 @@
 -- Derived tokens: how many there are.
 use Rattle.std.proofs.Common.{◌≡◌, ℕ, zero, suc, ◌+◌, ◌<◌, ◌≤◌, Bool, true, false, ◌&&◌, ◌||◌, nat_lt, [], length, get_or, map, refl, ap, ◌∙◌, ◌⊎◌, inl, inr, arith}
 use Rattle.std.specs.List.{list_any, range_with_len}
-use Rattle.std.proofs.lemmas.Bool.{eq-eqb, ne_eqb, lt-ltb, le-ltb, cases_lt, and_left, and_right, and_from}
+use Rattle.std.proofs.lemmas.Bool.{ne_eqb, lt-ltb, le-ltb, cases_lt, and_left, and_right}
 use Rattle.std.proofs.lemmas.List.FromFn.{length-map-range_with_len, get_or-map-range_with_len}
 use Rattle.dy_ring.specs.Lists.{derived_list, derived_lists, derived_token, has_too_many, lacks_token}
 
@@ -30,12 +30,6 @@ too_many_derived nodes count = rw (length_lists nodes count, any_long 0 nodes co
 length_at : (nodes count node : ℕ) → node < nodes → length (get_or (derived_lists nodes count) node []) ≡ count
 length_at nodes count node lt =
     ap length (get_or-map-range_with_len (λ n. derived_list n count) 0 nodes node node [] lt (omega arith)) ∙ length_list node count
-
-pub none_derived : (nodes count : ℕ) → (nodes ≡ 0) ⊎ (count ≡ 0) → lacks_token (derived_lists nodes count) 0 ≡ true
-none_derived zero count none = refl
-none_derived (suc nodes) count (inl e) = absurd (omega arith)
-none_derived (suc nodes) count (inr e) =
-    and_from _ _ (lt-ltb 0 _ (omega arith)) (eq-eqb _ 0 (length_at (suc nodes) count 0 (omega arith) ∙ e))
 
 pub some_derived : (nodes count node : ℕ) → 0 < nodes → 0 < count → lacks_token (derived_lists nodes count) node ≡ false
 some_derived nodes count node some each = go (cases_lt node nodes)

@@ -1,4 +1,4 @@
 pub mod Deriving
-pub mod ListLemmas
 pub mod Making
+pub mod Pairs
 pub mod Searching

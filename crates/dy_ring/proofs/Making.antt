@@ -9,7 +9,7 @@ use Rattle.std.proofs.lemmas.List.Folds.{list_any-append}
 use Rattle.std.proofs.lemmas.List.Sums.{sum_by-append}
 use Rattle.dy_ring.specs.Rings.{IsRing, Rises, has_token}
 use Rattle.dy_ring.specs.Lists.{IsLeast, IsRingOf, has_clash, has_too_many, lacks_token}
-use Rattle.dy_ring.specs.Steps.{pairs_from, clash_after, clash_of}
+use Rattle.dy_ring.specs.inside.Making.{pairs_from, clash_after, clash_of}
 
 -- whether the token is at the position and of the node
 abbrev pub is_at : ℕ → ℕ → ℕ × ℕ → Bool

@@ -1,3 +1,3 @@
 pub mod Lists
 pub mod Rings
-pub mod Steps
+pub mod inside

@@ -1,9 +1,11 @@
 -- Rings, where a key lies on one, and how far the nodes are from it.
-use Rattle.std.specs.Prelude.{ℕ, Bool, ◌+◌, ◌-◌, ◌%◌, ◌^◌, ◌<◌, ◌≤◌, ◌==◌, IsTrue, min, map, fold, List, [], ◌∷◌, refl}
+use Rattle.std.specs.Prelude.{ℕ, Bool, ◌+◌, ◌-◌, ◌%◌, ◌^◌, ◌<◌, ◌≤◌, ◌==◌, IsTrue, min, refl}
+use Rattle.std.specs.Prelude.{map, fold, List, [], ◌∷◌}
 use Rattle.std.specs.List.{All, filter, list_any}
 use Rattle.std.specs.Int.{w128, from_be_bytes}
 use Rattle.std.specs.Coded.{Coded, code_by, coded×, coded_ℕ, coded_list}
 use Rattle.md5.specs.Md5.{md5}
+use Rattle.dy_dots.specs.declared.nodes.TheConstants.{MAX_NODES}
 
 -- what a ring is seen as: how many nodes it has, and each token's position with its node, in
 -- rising position
@@ -11,6 +13,7 @@ pub record Tokens : Type 0 where
   pub nodes : ℕ
   pub tokens : List (ℕ × ℕ)
 
+-- it is stored as the pair of both
 abbrev pub tokens_code : Coded Tokens
 tokens_code =
     code_by (ℕ × List (ℕ × ℕ)) (coded× coded_ℕ (coded_list (coded× coded_ℕ coded_ℕ)))
@@ -25,11 +28,11 @@ Rises f (x ∷ xs) = All (λ y. f x < f y) xs × Rises f xs
 abbrev pub has_token : List (ℕ × ℕ) → ℕ → Bool
 has_token tokens node = list_any (λ t. t.1 == node) tokens
 
--- what is true of every ring: 1 to 32 nodes, tokens in rising position, so that no two share one,
--- each of one of the nodes, and each node with a token (Dynamo, section 4.2)
+-- what is true of every ring: some nodes, tokens in rising position, so that no two share one, each
+-- of one of the nodes, and each node with a token (Dynamo, section 4.2)
 pub record IsRing (ring : Tokens) : Type 0 where
   pub some : 1 ≤ ring.nodes
-  pub few : ring.nodes ≤ 32
+  pub few : ring.nodes ≤ MAX_NODES
   pub rising : Rises (λ t. t.0) ring.tokens
   pub positions : All (λ t. t.0 < 2 ^ 128) ring.tokens
   pub of_nodes : All (λ t. t.1 < ring.nodes) ring.tokens

@@ -1,9 +1,11 @@
-ghost use Rattle.std.specs.Prelude.{◌≡◌, ◌≤◌, ◌<◌, ◌++◌, ◌^◌, ℕ, true, false, length, map, IfOk, OnOk, IsOkUnless, MatchOption};
+ghost use Rattle.std.specs.Prelude.{◌≡◌, ◌≤◌, ◌<◌, ◌++◌, ◌^◌, ℕ, true, false, length, map};
+ghost use Rattle.std.specs.Prelude.{IfOk, OnOk, IsOkUnless, MatchOption};
 ghost use Rattle.std.specs.List.{All};
 ghost use Rattle.std.specs.List.Sorted.{IsNonDecreasingBy, IsPermutation};
 ghost use Rattle.dy_dots.specs.declared.nodes.TheConstants.{MAX_NODES};
-ghost use Rattle.dy_ring.specs.Lists.{IsLeast, has_too_many, lacks_token, derived_token, derived_list, derived_lists};
-ghost use Rattle.dy_ring.specs.Steps.{pairs_from, clash_of};
+ghost use Rattle.dy_ring.specs.Lists.{IsLeast, has_too_many, lacks_token};
+ghost use Rattle.dy_ring.specs.Lists.{derived_token, derived_list, derived_lists};
+ghost use Rattle.dy_ring.specs.inside.Making.{pairs_from, clash_of};
 
 use crate::rings::MAX_TOKENS_PER_NODE;
 use dy_dots::{Fault, MAX_NODES, NodeId};
@@ -45,7 +47,8 @@ pub(crate) fn first_without(lists: &[Vec<u128>]) -> Option<NodeId>
 
 /// Each position of the list with its node is put at the tokens' end.
 fn add(tokens: &mut Vec<(u128, NodeId)>, node: NodeId, list: &[u128]) -> Result<(), Fault>
-    ensures ok { OnOk result (tokens.new.items ≡ tokens.old.items ++ map (λ p. (p, node)) list.now) }
+    ensures ok { OnOk result
+        (tokens.new.items ≡ tokens.old.items ++ map (λ p. (p, node)) list.now) }
     ensures positions { All (λ p. p < 2 ^ 128) list.now }
     ensures memory { IsOkUnless result Fault.OutOfMemory }
 {
@@ -58,7 +61,8 @@ fn add(tokens: &mut Vec<(u128, NodeId)>, node: NodeId, list: &[u128]) -> Result<
 /// Each position of the lists with its node.
 pub(crate) fn pairs_of(alloc: Global, lists: &[Vec<u128>]) -> Result<Vec<(u128, NodeId)>, Fault>
     requires { length lists.now ≤ MAX_NODES }
-    ensures ok { IfOk result (λ tokens. tokens.items ≡ pairs_from 0 (map (λ list. list.items) lists.now)) }
+    ensures ok { let given = map (λ list. list.items) lists.now in
+        IfOk result (λ tokens. tokens.items ≡ pairs_from 0 given) }
     ensures positions { IfOk result (λ tokens. All (λ t. t.0 < 2 ^ 128) tokens.items) }
     ensures memory { IsOkUnless result Fault.OutOfMemory }
 {
@@ -102,7 +106,8 @@ pub(crate) fn derives_too_many(nodes: u8, per_node: u8) -> bool
 /// Whether a node would have no token.
 pub(crate) fn derives_none(nodes: u8, per_node: u8) -> bool
     ensures yes { result ≡ true → lacks_token (derived_lists nodes per_node) 0 ≡ true }
-    ensures no { result ≡ false → (node : ℕ) → lacks_token (derived_lists nodes per_node) node ≡ false }
+    ensures no { result ≡ false
+        → (node : ℕ) → lacks_token (derived_lists nodes per_node) node ≡ false }
 {
     nodes == 0 || per_node == 0
 }
@@ -130,7 +135,8 @@ fn list_of(alloc: Global, node: u8, count: u8) -> Result<Vec<u128>, Fault>
 
 /// So many derived tokens of each of so many nodes.
 pub(crate) fn lists_of(alloc: Global, nodes: u8, per_node: u8) -> Result<Vec<Vec<u128>>, Fault>
-    ensures ok { IfOk result (λ lists. map (λ list. list.items) lists.items ≡ derived_lists nodes per_node) }
+    ensures ok { IfOk result
+        (λ lists. map (λ list. list.items) lists.items ≡ derived_lists nodes per_node) }
     ensures memory { IsOkUnless result Fault.OutOfMemory }
 {
     let mut lists = Vec::new(alloc);

@@ -42,16 +42,21 @@ fn derived(rt: &HostRuntime) -> Result<Ring, Fail> {
     }
 }
 
-#[test]
-fn survive_a_refused_growth(rt: HostRuntime) -> Result<(), Fail> {
-    let lists = match two_lists(rt.alloc()) {
-        Ok(lists) => lists,
+/// The lists of two nodes, made again where memory ran out.
+fn lists(rt: &HostRuntime) -> Result<Vec<Vec<u128>>, Fail> {
+    match two_lists(rt.alloc()) {
+        Ok(lists) => Ok(lists),
         Err(fault) => {
             println!(rt; "refused lists {fault}")?;
-            two_lists(rt.alloc())?
+            Ok(two_lists(rt.alloc())?)
         }
-    };
-    assert_eq!(rt; given(&rt, lists.as_slice())?.tokens().len(), 3);
+    }
+}
+
+#[test]
+fn survive_a_refused_growth(rt: HostRuntime) -> Result<(), Fail> {
+    let two = lists(&rt)?;
+    assert_eq!(rt; given(&rt, two.as_slice())?.tokens().len(), 3);
     assert_eq!(rt; derived(&rt)?.tokens().len(), 4);
     Ok(())
 }

@@ -1,6 +1,7 @@
-ghost use Rattle.std.specs.Prelude.{◌≡◌, ◌≤◌, ◌<◌, ◌↔◌, ◌⊎◌, ◌^◌, ℕ, false, length, map, take, drop, IsTrue, IfOk, IfErr, IsErrOf, IsOkUnless};
+ghost use Rattle.std.specs.Prelude.{◌≡◌, ◌≤◌, ◌<◌, ◌^◌, length, map, take, drop, IfOk, IsOkUnless};
 ghost use Rattle.std.specs.List.{All};
-ghost use Rattle.dy_ring.specs.Lists.{IsLeast, IsFilled, IsRingOf, has_too_many, lacks_token, has_clash, derived_lists};
+ghost use Rattle.dy_ring.specs.Lists.{IsRingOf, RefusesTooMany, RefusesWithout, RefusesClash};
+ghost use Rattle.dy_ring.specs.Lists.{TellsClash, MakesUnlessMemory, derived_lists};
 ghost use Rattle.dy_ring.specs.Rings.{IsRing, position_of};
 
 use crate::givens::{
@@ -32,31 +33,19 @@ impl Model for Ring {
 
     ghost view = { λ ring. record { nodes = ring.nodes; tokens = ring.tokens.items } };
 
-    ghost invariant = { λ ring. IsRing (record { nodes = ring.nodes; tokens = ring.tokens.items }) };
+    ghost invariant = { λ ring.
+        IsRing (record { nodes = ring.nodes; tokens = ring.tokens.items }) };
 }
 
 impl Ring {
     /// The ring in which each node has the tokens of its list, node 0 first.
     pub fn from_tokens(alloc: Global, lists: &[Vec<u128>]) -> Result<Ring, Fault>
         ensures ok { IfOk result (λ ring. IsRingOf (map (λ list. list.items) lists.now) ring) }
-        ensures too_many { IsErrOf result Fault.TooMany ↔ IsTrue (has_too_many (map (λ list. list.items) lists.now)) }
-        ensures without { let given = map (λ list. list.items) lists.now in
-            (node : ℕ)
-            → IsErrOf result (Fault.NodeWithoutToken node)
-            ↔ ((has_too_many given ≡ false) × IsLeast (lacks_token given) node) }
-        ensures clash { let given = map (λ list. list.items) lists.now in
-            (position : ℕ)
-            → IsErrOf result (Fault.TokenClash position)
-            → IsFilled given × IsLeast (has_clash given) position }
-        ensures told { let given = map (λ list. list.items) lists.now in
-            (position : ℕ)
-            → IsFilled given
-            → IsLeast (has_clash given) position
-            → IsErrOf result (Fault.TokenClash position) ⊎ IsErrOf result Fault.OutOfMemory }
-        ensures memory { let given = map (λ list. list.items) lists.now in
-            IsFilled given
-            → ((position : ℕ) → has_clash given position ≡ false)
-            → IsOkUnless result Fault.OutOfMemory }
+        ensures too_many { RefusesTooMany (map (λ list. list.items) lists.now) result }
+        ensures without { RefusesWithout (map (λ list. list.items) lists.now) result }
+        ensures clash { RefusesClash (map (λ list. list.items) lists.now) result }
+        ensures told { TellsClash (map (λ list. list.items) lists.now) result }
+        ensures memory { MakesUnlessMemory (map (λ list. list.items) lists.now) result }
     {
         if are_too_many(lists) {
             return Err(Fault::TooMany);
@@ -79,24 +68,11 @@ impl Ring {
     /// decimal, `#`, and the token's, both from 0.
     pub fn derived(alloc: Global, nodes: u8, per_node: u8) -> Result<Ring, Fault>
         ensures ok { IfOk result (λ ring. IsRingOf (derived_lists nodes per_node) ring) }
-        ensures too_many { IsErrOf result Fault.TooMany ↔ IsTrue (has_too_many (derived_lists nodes per_node)) }
-        ensures without { let given = derived_lists nodes per_node in
-            (node : ℕ)
-            → IsErrOf result (Fault.NodeWithoutToken node)
-            ↔ ((has_too_many given ≡ false) × IsLeast (lacks_token given) node) }
-        ensures clash { let given = derived_lists nodes per_node in
-            (position : ℕ)
-            → IsErrOf result (Fault.TokenClash position)
-            → IsFilled given × IsLeast (has_clash given) position }
-        ensures told { let given = derived_lists nodes per_node in
-            (position : ℕ)
-            → IsFilled given
-            → IsLeast (has_clash given) position
-            → IsErrOf result (Fault.TokenClash position) ⊎ IsErrOf result Fault.OutOfMemory }
-        ensures memory { let given = derived_lists nodes per_node in
-            IsFilled given
-            → ((position : ℕ) → has_clash given position ≡ false)
-            → IsOkUnless result Fault.OutOfMemory }
+        ensures too_many { RefusesTooMany (derived_lists nodes per_node) result }
+        ensures without { RefusesWithout (derived_lists nodes per_node) result }
+        ensures clash { RefusesClash (derived_lists nodes per_node) result }
+        ensures told { TellsClash (derived_lists nodes per_node) result }
+        ensures memory { MakesUnlessMemory (derived_lists nodes per_node) result }
     {
         if derives_too_many(nodes, per_node) {
             return Err(Fault::TooMany);
@@ -108,6 +84,17 @@ impl Ring {
         }
         let lists = lists_of(alloc, nodes, per_node)?;
         Ring::from_tokens(alloc, lists.as_slice())
+    }
+
+    /// A copy.
+    pub fn try_clone(&self, alloc: Global) -> Result<Ring, Fault>
+        ensures ok { IfOk result (λ ring. ring ≡ self.now) }
+        ensures memory { IsOkUnless result Fault.OutOfMemory }
+    {
+        Ok(Ring {
+            nodes: self.nodes,
+            tokens: Vec::from_slice(alloc, self.tokens.as_slice())?,
+        })
     }
 
     /// How many nodes it has. Takes no memory.
@@ -135,7 +122,8 @@ impl Ring {
         self.tokens.partition_point(|token| token.0 <= position)
     }
 
-    /// Where the key lies: its MD5 digest as a number, the first byte the greatest. Takes no memory.
+    /// Where the key lies: its MD5 digest as a number, the first byte the greatest. Takes no
+    /// memory.
     pub fn position(key: &Key) -> u128
         ensures value { result ≡ position_of key.now }
         ensures small { position_of key.now < 2 ^ 128 }

@@ -13,6 +13,12 @@ fn lists_of(alloc: Global, firsts: &[&[u128]]) -> Result<Vec<Vec<u128>>, Fault> 
     Ok(lists)
 }
 
+/// Whether the key of the text lies at the position.
+fn lies_at(alloc: Global, text: &str, position: u128) -> Result<bool, Fault> {
+    let key = Key::new(alloc, text.as_bytes())?;
+    Ok(Ring::position(&key) == position)
+}
+
 // RFC 1321, section A.5.
 #[test]
 fn a_position_is_the_digest(rt: HostRuntime) -> Result<(), Fail> {
@@ -26,27 +32,38 @@ fn a_position_is_the_digest(rt: HostRuntime) -> Result<(), Fail> {
         ),
     ];
     for (text, position) in rows {
-        let key = Key::new(rt.alloc(), text.as_bytes())?;
-        assert_eq!(rt; Ring::position(&key), position, "{text}");
+        assert!(rt; lies_at(rt.alloc(), text, position)?, "{text}");
     }
     Ok(())
 }
 
+/// The ring of three tokens of two nodes.
+fn three_tokens(alloc: Global) -> Result<Ring, Fault> {
+    let lists = lists_of(alloc, &[&[7, 3], &[5]])?;
+    Ring::from_tokens(alloc, lists.as_slice())
+}
+
 #[test]
 fn tokens_come_in_rising_position(rt: HostRuntime) -> Result<(), Fail> {
-    let lists = lists_of(rt.alloc(), &[&[7, 3], &[5]])?;
-    let ring = Ring::from_tokens(rt.alloc(), lists.as_slice())?;
-    let tokens = [
-        (3, NodeId::nth(0)),
-        (5, NodeId::nth(1)),
-        (7, NodeId::nth(0)),
-    ];
+    let (zero, one) = (NodeId::nth(0), NodeId::nth(1));
+    let ring = three_tokens(rt.alloc())?;
     assert_eq!(rt; ring.nodes(), 2);
-    assert_eq!(rt; ring.tokens(), tokens.as_slice());
+    assert!(rt; ring.tokens() == [(3, zero), (5, one), (7, zero)].as_slice());
+    Ok(())
+}
+
+#[test]
+fn a_position_parts_the_tokens(rt: HostRuntime) -> Result<(), Fail> {
+    let ring = three_tokens(rt.alloc())?;
     for (position, place) in [(2, 0), (3, 1), (4, 1), (5, 2), (7, 3), (8, 3)] {
         assert_eq!(rt; ring.first_after(position), place, "{position}");
     }
     Ok(())
+}
+
+/// Whether the two rings have as many nodes, and the same tokens.
+fn are_same(a: &Ring, b: &Ring) -> bool {
+    a.nodes() == b.nodes() && a.tokens() == b.tokens()
 }
 
 // The digests of `0#0`, `0#1`, `1#0` and `1#1`, by another program.
@@ -67,44 +84,72 @@ fn derived_tokens_are_digests(rt: HostRuntime) -> Result<(), Fail> {
     )?;
     let given = Ring::from_tokens(rt.alloc(), lists.as_slice())?;
     let derived = Ring::derived(rt.alloc(), 2, 2)?;
-    assert_eq!(rt; derived.nodes(), given.nodes());
-    assert_eq!(rt; derived.tokens(), given.tokens());
+    assert!(rt; are_same(&derived, &given));
+    Ok(())
+}
+
+#[test]
+fn the_largest_ring_is_derived(rt: HostRuntime) -> Result<(), Fail> {
     let largest = Ring::derived(rt.alloc(), 32, 64)?;
     assert_eq!(rt; largest.tokens().len(), 2048);
     Ok(())
 }
 
 #[test]
-fn refusals_come_in_order(rt: HostRuntime) -> Result<(), Fail> {
-    let without = |number| Fault::NodeWithoutToken {
-        node: NodeId::nth(number),
-    };
-    let alloc = rt.alloc();
-    let clashing = lists_of(alloc, &[&[9, 4], &[4, 2], &[2]])?;
-    let made = Ring::from_tokens(alloc, clashing.as_slice()).err();
-    assert_eq!(rt; made, Some(Fault::TokenClash { position: 2 }));
-    let twice = lists_of(alloc, &[&[4, 4]])?;
-    let made = Ring::from_tokens(alloc, twice.as_slice()).err();
-    assert_eq!(rt; made, Some(Fault::TokenClash { position: 4 }));
-    let bare = lists_of(alloc, &[&[4, 4], &[], &[]])?;
-    let made = Ring::from_tokens(alloc, bare.as_slice()).err();
-    assert_eq!(rt; made, Some(without(1)));
-    assert_eq!(rt; Ring::from_tokens(alloc, &[]).err(), Some(without(0)));
-    let crowded = lists_of(alloc, &[&[], &[1; 65]])?;
-    let made = Ring::from_tokens(alloc, crowded.as_slice()).err();
-    assert_eq!(rt; made, Some(Fault::TooMany));
+fn a_clone_is_the_same(rt: HostRuntime) -> Result<(), Fail> {
+    let ring = three_tokens(rt.alloc())?;
+    assert!(rt; are_same(&ring.try_clone(rt.alloc())?, &ring));
+    Ok(())
+}
+
+/// The refusal for a node without a token.
+fn without(number: u8) -> Option<Fault> {
+    let node = NodeId::new(number)?;
+    Some(Fault::NodeWithoutToken { node })
+}
+
+/// The refusal of the ring of these lists.
+fn refusal_of(alloc: Global, firsts: &[&[u128]]) -> Result<Option<Fault>, Fault> {
+    let lists = lists_of(alloc, firsts)?;
+    Ok(Ring::from_tokens(alloc, lists.as_slice()).err())
+}
+
+#[test]
+fn the_least_clash_is_told(rt: HostRuntime) -> Result<(), Fail> {
+    let refused = refusal_of(rt.alloc(), &[&[9, 4], &[4, 2], &[2]])?;
+    assert_eq!(rt; refused, Some(Fault::TokenClash { position: 2 }));
+    let refused = refusal_of(rt.alloc(), &[&[4, 4]])?;
+    assert_eq!(rt; refused, Some(Fault::TokenClash { position: 4 }));
+    Ok(())
+}
+
+#[test]
+fn a_node_without_a_token_is_told_first(rt: HostRuntime) -> Result<(), Fail> {
+    assert_eq!(rt; refusal_of(rt.alloc(), &[&[4, 4], &[], &[]])?, without(1));
+    assert_eq!(rt; refusal_of(rt.alloc(), &[])?, without(0));
+    Ok(())
+}
+
+#[test]
+fn too_many_tokens_are_told_before_none(rt: HostRuntime) -> Result<(), Fail> {
+    let refused = refusal_of(rt.alloc(), &[&[], &[1; 65]])?;
+    assert_eq!(rt; refused, Some(Fault::TooMany));
+    Ok(())
+}
+
+#[test]
+fn a_derived_ring_is_refused_by_its_numbers(rt: HostRuntime) {
     let rows = [
-        (0, 1, Some(without(0))),
-        (0, 65, Some(without(0))),
-        (1, 0, Some(without(0))),
+        (0, 1, without(0)),
+        (0, 65, without(0)),
+        (1, 0, without(0)),
         (1, 64, None),
         (1, 65, Some(Fault::TooMany)),
         (33, 0, Some(Fault::TooMany)),
         (33, 1, Some(Fault::TooMany)),
     ];
     for (nodes, per_node, refused) in rows {
-        let made = Ring::derived(alloc, nodes, per_node).err();
+        let made = Ring::derived(rt.alloc(), nodes, per_node).err();
         assert_eq!(rt; made, refused, "{nodes} {per_node}");
     }
-    Ok(())
 }

@@ -1,5 +1,4 @@
-pub mod Keys
-pub mod Lists
-pub mod Positions
-pub mod RingLines
-pub mod Texts
+pub mod KnownKeys
+pub mod ListsRead
+pub mod TextsRead
+pub mod TokenPositions

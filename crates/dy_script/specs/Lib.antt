@@ -1,10 +1,5 @@
-pub mod Audits
-pub mod Keys
 pub mod Members
 pub mod Orders
-pub mod Outcomes
-pub mod Places
 pub mod Reading
-pub mod RingLines
-pub mod Texts
 pub mod Tokens
+pub mod inside

@@ -1,10 +1,13 @@
 -- The members of a JSON value, each read or refused.
-use Rattle.std.specs.Prelude.{ℕ, ◌+◌, ◌&&◌, nat_lt, List, [], ◌∷◌, Bool, true, false, if◌then◌else◌, Option, Some, None, option_and_then, Result, Ok, Err, MatchResult, ◌≡◌, ◌⊎◌, ⊤, bytes_eq}
+use Rattle.std.specs.Prelude.{ℕ, ◌+◌, ◌&&◌, nat_lt, List, [], ◌∷◌, Bool, true, false, bytes_eq}
+use Rattle.std.specs.Prelude.{if◌then◌else◌, Option, Some, None, option_and_then}
+use Rattle.std.specs.Prelude.{Result, Ok, Err, ⊤}
 use Rattle.std.specs.List.{list_any}
 use Rattle.serde_json.specs.Data.{Data, Items, no_items, item, Members, no_members, member}
-use Rattle.serde_json.specs.Find.{get as member_of, as_bool, as_number, as_u64, as_str, as_array, as_object}
+use Rattle.serde_json.specs.Find.{get as member_of, as_bool, as_number, as_u64}
+use Rattle.serde_json.specs.Find.{as_str, as_array, as_object}
 use Rattle.dy_dots.specs.declared.faults.Fault.{Fault}
-use Rattle.dy_dots.specs.declared.faults.Fault.TheVariants.{OutOfMemory, ScriptSyntax}
+use Rattle.dy_dots.specs.declared.faults.Fault.TheVariants.{ScriptSyntax}
 
 -- ---- steps that may refuse
 
@@ -29,12 +32,6 @@ abbrev pub optional : {A : Type 0} → ℕ → (Data → Option A) → Option Da
 optional k read_as None = Ok None
 optional k read_as (Some d) = seen Some (need k (read_as d))
 
--- the result's value is the definition's, seen by f, and a refusal is the definition's, or for
--- want of memory
-abbrev pub IsReading : {A B : Type 0} → (A → B) → Result A Fault → Result B Fault → Type 0
-IsReading f result definition =
-    MatchResult result (λ x. definition ≡ Ok (f x)) (λ e. (e ≡ OutOfMemory) ⊎ (definition ≡ Err e))
-
 -- ---- members
 
 -- each member has one of the names
@@ -44,7 +41,8 @@ knows names (member name d ms) = list_any (λ known. bytes_eq known name) names 
 
 -- an object with members of these names alone
 unfoldable pub allow_only : ℕ → List (List ℕ) → Data → Result ⊤ Fault
-allow_only k names d = need k (as_object d) >>= (λ ms. if knows names ms then Ok tt else Err (ScriptSyntax k))
+allow_only k names d =
+    need k (as_object d) >>= (λ ms. if knows names ms then Ok tt else Err (ScriptSyntax k))
 
 -- a whole number is digits alone, and below 2^64
 abbrev pub as_whole : Data → Option ℕ
@@ -81,7 +79,8 @@ unfoldable pub flag : ℕ → List ℕ → Data → Result Bool Fault
 flag k name d = as_flag k (member_of name d)
 
 -- each element of a list, read with its number, which is i for the first
-abbrev pub each_of : {A : Type 0} → (ℕ → Data → Result A Fault) → ℕ → Items → Result (List A) Fault
+abbrev pub each_of :
+    {A : Type 0} → (ℕ → Data → Result A Fault) → ℕ → Items → Result (List A) Fault
 each_of f i no_items = Ok []
 each_of f i (item d ds) = do
   x ← f i d

@@ -1,6 +1,8 @@
 -- What command a JSON value says, on a ring of so many nodes, and the first fault of one that says
 -- none.
-use Rattle.std.specs.Prelude.{ℕ, nat_lt, List, [], ◌∷◌, codes, string_bytes, if◌then◌else◌, Option, Some, None, option_map, option_and_then, Result, Ok, Err, bytes_eq}
+use Rattle.std.specs.Prelude.{ℕ, nat_lt, List, [], ◌∷◌, codes, string_bytes, bytes_eq}
+use Rattle.std.specs.Prelude.{if◌then◌else◌, Option, Some, None, option_map, option_and_then}
+use Rattle.std.specs.Prelude.{Result, Ok, Err}
 use Rattle.std.specs.Result.{result_ok}
 use Rattle.hex.specs.Hex.{decode_of}
 use Rattle.serde_json.specs.Data.{Data}
@@ -12,7 +14,9 @@ use Rattle.dy_script.specs.declared.commands.Command.TheVariants as command
 use Rattle.dy_script.specs.declared.commands.Mode.{Mode}
 use Rattle.dy_script.specs.declared.commands.Mode.TheVariants as mode
 use Rattle.dy_script.specs.declared.commands.Write.{Write}
-use Rattle.dy_script.specs.Members.{◌>>=◌, need, allow_only, text, optional_text, optional_small, as_whole}
+use Rattle.dy_script.specs.declared.scripts.TheConstants.{MAX_SCRIPT_SESSIONS}
+use Rattle.dy_script.specs.Members.{◌>>=◌, need, allow_only, as_whole}
+use Rattle.dy_script.specs.Members.{text, optional_text, optional_small}
 
 -- what a put and a delete say beside the value: key, context, session, w
 pub data WriteParts : Type 0 where
@@ -25,7 +29,7 @@ pub data CommandParts : Type 0 where
   gets : List ℕ → ℕ → CommandParts
   downs : ℕ → CommandParts
   ups : ℕ → CommandParts
-  faults : ℕ → Mode → CommandParts
+  sets_mode : ℕ → Mode → CommandParts
   delivers : ℕ → CommandParts
   hands_off : ℕ → CommandParts
   shows : ℕ → List ℕ → CommandParts
@@ -39,14 +43,14 @@ command_parts (command.Delete write) = deletes (write_parts write)
 command_parts (command.Get key session) = gets (string_bytes key) session
 command_parts (command.Down node) = downs node
 command_parts (command.Up node) = ups node
-command_parts (command.Fault node mode) = faults node mode
+command_parts (command.SetMode node mode) = sets_mode node mode
 command_parts (command.Deliver node) = delivers node
 command_parts (command.Handoff node) = hands_off node
 command_parts (command.Show node key) = shows node (string_bytes key)
 
 -- a node is a whole number below the number of nodes
-unfoldable pub node_of : ℕ → ℕ → Data → Result ℕ Fault
-node_of nodes k d =
+unfoldable pub node_named : ℕ → ℕ → Data → Result ℕ Fault
+node_named nodes k d =
     need k (option_and_then (λ n. if nat_lt n nodes then Some n else None)
     (option_and_then as_whole (member_of (codes "node") d)))
 
@@ -54,7 +58,7 @@ node_of nodes k d =
 unfoldable pub lone_node : ℕ → ℕ → Data → Result ℕ Fault
 lone_node nodes k d = do
   _ ← allow_only k (codes "do" ∷ codes "node" ∷ []) d
-  node_of nodes k d
+  node_named nodes k d
 
 -- the mode of this word
 unfoldable pub mode_named : List ℕ → Option Mode
@@ -71,10 +75,10 @@ mode_of k d = do
   word ← text k (codes "mode") d
   need k (mode_named word)
 
--- a session is below 32, and 0 where none is named
+-- a session is below their greatest number, and 0 where none is named
 abbrev pub as_session : ℕ → Option ℕ → Result ℕ Fault
 as_session k None = Ok 0
-as_session k (Some n) = if nat_lt n 32 then Ok n else Err (ScriptSyntax k)
+as_session k (Some n) = if nat_lt n MAX_SCRIPT_SESSIONS then Ok n else Err (ScriptSyntax k)
 
 unfoldable pub session_of : ℕ → Data → Result ℕ Fault
 session_of k d = do
@@ -108,7 +112,9 @@ write_of k d = do
 
 -- the members of a put
 unfoldable pub put_names : List (List ℕ)
-put_names = codes "do" ∷ codes "key" ∷ codes "value" ∷ codes "valuehex" ∷ codes "context" ∷ codes "session" ∷ codes "w" ∷ []
+put_names =
+    codes "do" ∷ codes "key" ∷ codes "value" ∷ codes "valuehex"
+    ∷ codes "context" ∷ codes "session" ∷ codes "w" ∷ []
 
 unfoldable pub put_of : ℕ → Data → Result CommandParts Fault
 put_of k d = do
@@ -117,9 +123,14 @@ put_of k d = do
   write ← write_of k d
   Ok (puts write value)
 
+-- the members of a delete
+abbrev pub delete_names : List (List ℕ)
+delete_names =
+    codes "do" ∷ codes "key" ∷ codes "context" ∷ codes "session" ∷ codes "w" ∷ []
+
 unfoldable pub delete_of : ℕ → Data → Result CommandParts Fault
 delete_of k d = do
-  _ ← allow_only k (codes "do" ∷ codes "key" ∷ codes "context" ∷ codes "session" ∷ codes "w" ∷ []) d
+  _ ← allow_only k delete_names d
   write ← write_of k d
   Ok (deletes write)
 
@@ -130,17 +141,17 @@ get_of k d = do
   key ← text k (codes "key") d
   Ok (gets key session)
 
-unfoldable pub fault_of : ℕ → ℕ → Data → Result CommandParts Fault
-fault_of nodes k d = do
+unfoldable pub set_mode_of : ℕ → ℕ → Data → Result CommandParts Fault
+set_mode_of nodes k d = do
   _ ← allow_only k (codes "do" ∷ codes "node" ∷ codes "mode" ∷ []) d
-  node ← node_of nodes k d
+  node ← node_named nodes k d
   mode ← mode_of k d
-  Ok (faults node mode)
+  Ok (sets_mode node mode)
 
 unfoldable pub show_of : ℕ → ℕ → Data → Result CommandParts Fault
 show_of nodes k d = do
   _ ← allow_only k (codes "do" ∷ codes "node" ∷ codes "key" ∷ []) d
-  node ← node_of nodes k d
+  node ← node_named nodes k d
   key ← text k (codes "key") d
   Ok (shows node key)
 
@@ -149,8 +160,10 @@ unfoldable pub at_node : ℕ → ℕ → Data → List ℕ → Result CommandPar
 at_node nodes k d word =
     if bytes_eq word (codes "down") then lone_node nodes k d >>= (λ node. Ok (downs node))
     else if bytes_eq word (codes "up") then lone_node nodes k d >>= (λ node. Ok (ups node))
-    else if bytes_eq word (codes "deliver") then lone_node nodes k d >>= (λ node. Ok (delivers node))
-    else if bytes_eq word (codes "handoff") then lone_node nodes k d >>= (λ node. Ok (hands_off node))
+    else if bytes_eq word (codes "deliver")
+    then lone_node nodes k d >>= (λ node. Ok (delivers node))
+    else if bytes_eq word (codes "handoff")
+    then lone_node nodes k d >>= (λ node. Ok (hands_off node))
     else Err (UnknownCommand k)
 
 -- the command of this word; a word that names none is a fault of its own
@@ -159,7 +172,7 @@ command_named nodes k d word =
     if bytes_eq word (codes "put") then put_of k d
     else if bytes_eq word (codes "delete") then delete_of k d
     else if bytes_eq word (codes "get") then get_of k d
-    else if bytes_eq word (codes "fault") then fault_of nodes k d
+    else if bytes_eq word (codes "fault") then set_mode_of nodes k d
     else if bytes_eq word (codes "show") then show_of nodes k d
     else at_node nodes k d word
 

@@ -1,5 +1,7 @@
 -- What script a JSON value is, and the first fault of one that is none.
-use Rattle.std.specs.Prelude.{ℕ, ◌+◌, ◌&&◌, nat_le, List, [], ◌∷◌, length, map, codes, Bool, if◌then◌else◌, Option, Some, None, option_and_then, Result, Ok, Err, vec_items}
+use Rattle.std.specs.Prelude.{ℕ, ◌+◌, ◌&&◌, nat_le, List, [], ◌∷◌, length, map, codes, Bool}
+use Rattle.std.specs.Prelude.{if◌then◌else◌, Option, Some, None, option_and_then}
+use Rattle.std.specs.Prelude.{Result, Ok, Err, vec_items}
 use Rattle.std.specs.Str.{is_utf8}
 use Rattle.serde_json.specs.Data.{Data, Items}
 use Rattle.serde_json.specs.Events.{items_len}
@@ -7,11 +9,14 @@ use Rattle.serde_json.specs.Find.{get as member_of, as_str, as_array}
 use Rattle.serde_json.specs.Read.{read as read_text}
 use Rattle.dy_dots.specs.declared.faults.Fault.{Fault}
 use Rattle.dy_dots.specs.declared.faults.Fault.TheVariants.{ScriptSyntax}
+use Rattle.dy_siblings.specs.declared.keys.TheConstants.{MAX_KEY_BYTES}
 use Rattle.dy_script.specs.declared.scripts.Layout.{Layout}
 use Rattle.dy_script.specs.declared.scripts.Layout.TheVariants as layout
 use Rattle.dy_script.specs.declared.scripts.Limits.{Limits}
 use Rattle.dy_script.specs.declared.scripts.Script.{Script}
-use Rattle.dy_script.specs.Members.{◌>>=◌, need, allow_only, optional_list, optional_whole, small, flag, each_of}
+use Rattle.dy_script.specs.declared.scripts.TheConstants.{MAX_COMMANDS}
+use Rattle.dy_script.specs.Members.{◌>>=◌, need, allow_only, small, flag, each_of}
+use Rattle.dy_script.specs.Members.{optional_list, optional_whole}
 use Rattle.dy_script.specs.Orders.{CommandParts, command_parts, command_of}
 use Rattle.dy_script.specs.Tokens.{token_of}
 
@@ -82,8 +87,8 @@ layout_given None (Some d) = derived_of d
 layout_given None None = Err (ScriptSyntax 0)
 layout_given (Some lists) (Some d) = Err (ScriptSyntax 0)
 
-unfoldable pub layout_of : Data → Result LayoutParts Fault
-layout_of d = do
+unfoldable pub tokens_given : Data → Result LayoutParts Fault
+tokens_given d = do
   lists ← optional_list 0 (codes "tokens") d
   layout_given lists (member_of (codes "derived") d)
 
@@ -102,9 +107,11 @@ limits_given (Some d) = do
 unfoldable pub limits_of : Data → Result Limits Fault
 limits_of d = limits_given (member_of (codes "limits") d)
 
--- a key has 1 to 64 bytes
+-- a key has a byte, and their greatest number at most
 unfoldable pub sized_key : List ℕ → Option (List ℕ)
-sized_key letters = if nat_le 1 (length letters) && nat_le (length letters) 64 then Some letters else None
+sized_key letters =
+    if nat_le 1 (length letters) && nat_le (length letters) MAX_KEY_BYTES
+    then Some letters else None
 
 unfoldable pub key_at : ℕ → Data → Result (List ℕ) Fault
 key_at i d = need 0 (option_and_then sized_key (as_str d))
@@ -122,10 +129,15 @@ keys_of d = do
 abbrev pub command_at : ℕ → ℕ → Data → Result CommandParts Fault
 command_at nodes i d = command_of nodes (i + 1) d
 
--- at most 100,000 commands, which is judged before any of them
+-- the commands are not more than their greatest number, which is judged before any of them
+abbrev pub commands_given : ℕ → Items → Result (List CommandParts) Fault
+commands_given nodes list =
+    if nat_le (items_len list) MAX_COMMANDS
+    then each_of (command_at nodes) 0 list else Err (ScriptSyntax 0)
+
 unfoldable pub run_given : ℕ → Option Items → Result (List CommandParts) Fault
 run_given nodes None = Ok []
-run_given nodes (Some list) = if nat_le (items_len list) 100000 then each_of (command_at nodes) 0 list else Err (ScriptSyntax 0)
+run_given nodes (Some list) = commands_given nodes list
 
 unfoldable pub run_of : ℕ → Data → Result (List CommandParts) Fault
 run_of nodes d = do
@@ -137,7 +149,8 @@ run_of nodes d = do
 -- the members of a script
 unfoldable pub script_names : List (List ℕ)
 script_names =
-    codes "n" ∷ codes "r" ∷ codes "w" ∷ codes "tokens" ∷ codes "derived" ∷ codes "limits" ∷ codes "keys" ∷ codes "settled" ∷ codes "run" ∷ []
+    codes "n" ∷ codes "r" ∷ codes "w" ∷ codes "tokens" ∷ codes "derived"
+    ∷ codes "limits" ∷ codes "keys" ∷ codes "settled" ∷ codes "run" ∷ []
 
 -- the script of a value: its own members first, and then its commands
 unfoldable pub script_of : Data → Result ScriptParts Fault
@@ -146,12 +159,21 @@ script_of d = do
   n ← small 0 (codes "n") d
   r ← small 0 (codes "r") d
   w ← small 0 (codes "w") d
-  layout ← layout_of d
+  layout ← tokens_given d
   limits ← limits_of d
   keys ← keys_of d
   settled ← flag 0 (codes "settled") d
   run ← run_of (node_count layout) d
-  Ok (record { n = n; r = r; w = w; layout = layout; limits = limits; keys = keys; settled = settled; run = run })
+  Ok (record {
+    n = n;
+    r = r;
+    w = w;
+    layout = layout;
+    limits = limits;
+    keys = keys;
+    settled = settled;
+    run = run;
+  })
 
 -- the value of a text in UTF-8
 unfoldable pub data_of : List ℕ → Option Data

@@ -1,5 +1,6 @@
 -- What a token's text names.
-use Rattle.std.specs.Prelude.{ℕ, ◌-◌, ◌&&◌, nat_le, List, ◌++◌, length, replicate, Option, Some, None, Result, Ok, Err, if◌then◌else◌}
+use Rattle.std.specs.Prelude.{ℕ, ◌-◌, ◌&&◌, nat_le, List, ◌++◌, length, replicate}
+use Rattle.std.specs.Prelude.{Option, Some, None, Result, Ok, Err, if◌then◌else◌}
 use Rattle.std.specs.Int.{w128, from_be_bytes}
 use Rattle.hex.specs.Hex.{decode_of}
 use Rattle.hex.specs.declared.error.FromHexError.{FromHexError}
@@ -15,4 +16,6 @@ position_read (Err e) = None
 
 -- a text names a position where it is 2 to 32 hexadecimal digits, even in number
 abbrev pub token_of : List ℕ → Option ℕ
-token_of text = if nat_le 2 (length text) && nat_le (length text) 32 then position_read (decode_of text) else None
+token_of text =
+    if nat_le 2 (length text) && nat_le (length text) 32
+    then position_read (decode_of text) else None

@@ -33,7 +33,7 @@ pub enum Command {
     Get { key: String, session: u8 },
     Down { node: usize },
     Up { node: usize },
-    Fault { node: usize, mode: Mode },
+    SetMode { node: usize, mode: Mode },
     Deliver { node: usize },
     Handoff { node: usize },
     Show { node: usize, key: String },

@@ -1,10 +1,12 @@
 ghost use Rattle.std.specs.Prelude.{◌≡◌, map, option_map, string_bytes};
 ghost use Rattle.std.specs.List.{list_all};
 ghost use Rattle.std.specs.Map.{keys_of};
-ghost use Rattle.dy_script.specs.Keys.{is_one_of};
+ghost use Rattle.dy_script.specs.inside.Keys.{is_one_of};
 ghost use Rattle.serde_json.specs.Find.{get as member_of};
 ghost use Rattle.serde_json.specs.View.{view, items_view};
-ghost use Rattle.dy_script.specs.Members.{need, seen, allow_only, text, optional_text, optional_list, optional_whole, optional_small, small, flag, as_whole, as_small};
+ghost use Rattle.dy_script.specs.Members.{need, seen, allow_only, text, small, flag};
+ghost use Rattle.dy_script.specs.Members.{optional_text, optional_list, optional_whole};
+ghost use Rattle.dy_script.specs.Members.{optional_small, as_whole, as_small};
 
 use dy_dots::Fault;
 use serde_json::{Map, Value};
@@ -30,7 +32,8 @@ impl<'a> Members<'a> {
     /// Refuses what is no object, and a member of any other name.
     #[tactic(auto, unfolding(crate::specs::Members::allow_only))]
     pub(crate) fn allow_only(&self, names: &[&str]) -> Result<(), Fault>
-        ensures { result ≡ allow_only self.now.command (map (λ name. name.now) names.now) (view self.now.value.now) }
+        ensures { result ≡ allow_only self.now.command (map (λ name. name.now) names.now)
+            (view self.now.value.now) }
     {
         let Some(object) = self.value.as_object() else {
             return Err(self.fault());
@@ -44,7 +47,8 @@ impl<'a> Members<'a> {
 
     /// The member of this name, where it is there.
     pub(crate) fn get(&self, name: &str) -> Option<&'a Value>
-        ensures { option_map (λ v. view v.now) result ≡ member_of name.now (view self.now.value.now) }
+        ensures { option_map (λ v. view v.now) result
+            ≡ member_of name.now (view self.now.value.now) }
     {
         self.value.get(name)
     }
@@ -52,7 +56,8 @@ impl<'a> Members<'a> {
     /// The text of this name.
     #[tactic(auto, unfolding(crate::specs::Members::text))]
     pub(crate) fn text(&self, name: &str) -> Result<&'a str, Fault>
-        ensures { seen (λ s. s.now) result ≡ text self.now.command name.now (view self.now.value.now) }
+        ensures { seen (λ s. s.now) result
+            ≡ text self.now.command name.now (view self.now.value.now) }
     {
         match self.get(name).and_then(Value::as_str) {
             Some(text) => Ok(text),
@@ -63,7 +68,8 @@ impl<'a> Members<'a> {
     /// The text of this name, where it is there.
     #[tactic(auto, unfolding(crate::specs::Members::optional_text))]
     pub(crate) fn optional_text(&self, name: &str) -> Result<Option<&'a str>, Fault>
-        ensures { seen (option_map (λ s. s.now)) result ≡ optional_text self.now.command name.now (view self.now.value.now) }
+        ensures { seen (option_map (λ s. s.now)) result
+            ≡ optional_text self.now.command name.now (view self.now.value.now) }
     {
         match self.get(name) {
             Some(value) => match value.as_str() {
@@ -77,7 +83,8 @@ impl<'a> Members<'a> {
     /// The elements of the list of this name, where it is there.
     #[tactic(auto, unfolding(crate::specs::Members::optional_list))]
     pub(crate) fn optional_list(&self, name: &str) -> Result<Option<&'a [Value]>, Fault>
-        ensures { seen (option_map (λ vs. items_view vs.now)) result ≡ optional_list self.now.command name.now (view self.now.value.now) }
+        ensures { seen (option_map (λ vs. items_view vs.now)) result
+            ≡ optional_list self.now.command name.now (view self.now.value.now) }
     {
         match self.get(name) {
             Some(value) => match value.as_array() {
@@ -91,7 +98,8 @@ impl<'a> Members<'a> {
     /// The whole number of this name, where it is there.
     #[tactic(auto, unfolding(crate::specs::Members::optional_whole))]
     pub(crate) fn optional_whole(&self, name: &str) -> Result<Option<u64>, Fault>
-        ensures { result ≡ optional_whole self.now.command name.now (view self.now.value.now) }
+        ensures { result
+            ≡ optional_whole self.now.command name.now (view self.now.value.now) }
     {
         match self.get(name) {
             Some(value) => match value.as_u64() {
@@ -105,7 +113,8 @@ impl<'a> Members<'a> {
     /// The whole number from 0 to 255 of this name, where it is there.
     #[tactic(auto, unfolding(crate::specs::Members::optional_small))]
     pub(crate) fn optional_small(&self, name: &str) -> Result<Option<u8>, Fault>
-        ensures { result ≡ optional_small self.now.command name.now (view self.now.value.now) }
+        ensures { result
+            ≡ optional_small self.now.command name.now (view self.now.value.now) }
     {
         match self.get(name) {
             Some(value) => match small_of(value) {
@@ -154,7 +163,8 @@ fn small_of(value: &Value) -> Option<u8>
 
 /// Whether each key is one of the names.
 fn has_only(object: &Map<String, Value>, names: &[&str]) -> bool
-    ensures { result ≡ list_all (λ key. is_one_of names.now (string_bytes key)) (keys_of object.now.entries) }
+    ensures { result ≡ list_all (λ key. is_one_of names.now (string_bytes key))
+        (keys_of object.now.entries) }
 {
     object.keys().all(|key| is_one_of(key.as_str(), names))
 }

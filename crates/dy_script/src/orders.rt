@@ -1,8 +1,13 @@
 ghost use Rattle.std.specs.Prelude.{◌≡◌};
 ghost use Rattle.std.specs.Vec.{vec_items};
 ghost use Rattle.serde_json.specs.View.{view};
-ghost use Rattle.dy_script.specs.Members.{IsReading, allow_only};
-ghost use Rattle.dy_script.specs.Orders.{command_parts, write_parts, node_of, lone_node, mode_of, session_of, bytes_of, value_of, write_of, put_names, put_of, delete_of, get_of, fault_of, show_of, at_node, command_of};
+ghost use Rattle.dy_script.specs.Members.{allow_only};
+ghost use Rattle.dy_script.specs.Orders.{command_parts, write_parts, put_names};
+ghost use Rattle.dy_script.specs.Orders.{node_named, lone_node, mode_of, session_of};
+ghost use Rattle.dy_script.specs.Orders.{bytes_of, value_of, write_of};
+ghost use Rattle.dy_script.specs.Orders.{put_of, delete_of, get_of, set_mode_of, show_of};
+ghost use Rattle.dy_script.specs.Orders.{at_node, command_of};
+ghost use Rattle.dy_script.specs.inside.Readings.{IsReadingOf};
 
 use crate::commands::{Command, Mode, Write};
 use crate::members::Members;
@@ -19,7 +24,7 @@ pub(crate) fn command_of(
     number: u32,
     nodes: usize,
 ) -> Result<Command, Fault>
-    ensures { IsReading command_parts result (command_of nodes number (view value.now)) }
+    ensures { IsReadingOf command_parts result (command_of nodes number (view value.now)) }
 {
     let members = Members {
         value,
@@ -30,7 +35,7 @@ pub(crate) fn command_of(
         "put" => put_of(alloc, members),
         "delete" => delete_of(alloc, members),
         "get" => get_of(alloc, members),
-        "fault" => fault_of(members, nodes),
+        "fault" => set_mode_of(members, nodes),
         "show" => show_of(alloc, members, nodes),
         _ => at_node(word, members, nodes),
     }
@@ -39,7 +44,7 @@ pub(crate) fn command_of(
 /// The command of this word that names a node alone.
 #[tactic(auto, unfolding(crate::specs::Orders::at_node))]
 fn at_node(word: &str, members: Members, nodes: usize) -> Result<Command, Fault>
-    ensures { IsReading command_parts result
+    ensures { IsReadingOf command_parts result
         (at_node nodes members.entry.command (view members.entry.value.now) word.now) }
 {
     match word {
@@ -67,13 +72,13 @@ fn lone_node(members: Members, nodes: usize) -> Result<usize, Fault>
     ensures { result ≡ lone_node nodes members.entry.command (view members.entry.value.now) }
 {
     members.allow_only(&["do", "node"])?;
-    node_of(members, nodes)
+    node_named(members, nodes)
 }
 
 /// The number of the node, which the ring must have.
-#[tactic(auto, unfolding(crate::specs::Orders::node_of))]
-fn node_of(members: Members, nodes: usize) -> Result<usize, Fault>
-    ensures { result ≡ node_of nodes members.entry.command (view members.entry.value.now) }
+#[tactic(auto, unfolding(crate::specs::Orders::node_named))]
+fn node_named(members: Members, nodes: usize) -> Result<usize, Fault>
+    ensures { result ≡ node_named nodes members.entry.command (view members.entry.value.now) }
 {
     match members.get("node").and_then(Value::as_u64) {
         Some(number) if number < nodes as u64 => Ok(number as usize),
@@ -111,7 +116,7 @@ fn session_of(members: Members) -> Result<u8, Fault>
 /// A put, whose value is a text or hexadecimal digits.
 #[tactic(auto, unfolding(crate::specs::Orders::put_of))]
 fn put_of(alloc: Global, members: Members) -> Result<Command, Fault>
-    ensures { IsReading command_parts result
+    ensures { IsReadingOf command_parts result
         (put_of members.entry.command (view members.entry.value.now)) }
 {
     allow_put(members)?;
@@ -131,7 +136,7 @@ fn allow_put(members: Members) -> Result<(), Fault>
 /// A delete, which has no value.
 #[tactic(auto, unfolding(crate::specs::Orders::delete_of))]
 fn delete_of(alloc: Global, members: Members) -> Result<Command, Fault>
-    ensures { IsReading command_parts result
+    ensures { IsReadingOf command_parts result
         (delete_of members.entry.command (view members.entry.value.now)) }
 {
     members.allow_only(&["do", "key", "context", "session", "w"])?;
@@ -142,7 +147,7 @@ fn delete_of(alloc: Global, members: Members) -> Result<Command, Fault>
 /// A get of a session.
 #[tactic(auto, unfolding(crate::specs::Orders::get_of))]
 fn get_of(alloc: Global, members: Members) -> Result<Command, Fault>
-    ensures { IsReading command_parts result
+    ensures { IsReadingOf command_parts result
         (get_of members.entry.command (view members.entry.value.now)) }
 {
     members.allow_only(&["do", "key", "session"])?;
@@ -152,25 +157,25 @@ fn get_of(alloc: Global, members: Members) -> Result<Command, Fault>
 }
 
 /// A node's new mode.
-#[tactic(auto, unfolding(crate::specs::Orders::fault_of))]
-fn fault_of(members: Members, nodes: usize) -> Result<Command, Fault>
-    ensures { IsReading command_parts result
-        (fault_of nodes members.entry.command (view members.entry.value.now)) }
+#[tactic(auto, unfolding(crate::specs::Orders::set_mode_of))]
+fn set_mode_of(members: Members, nodes: usize) -> Result<Command, Fault>
+    ensures { IsReadingOf command_parts result
+        (set_mode_of nodes members.entry.command (view members.entry.value.now)) }
 {
     members.allow_only(&["do", "node", "mode"])?;
-    let node = node_of(members, nodes)?;
+    let node = node_named(members, nodes)?;
     let mode = mode_of(members)?;
-    Ok(Command::Fault { node, mode })
+    Ok(Command::SetMode { node, mode })
 }
 
 /// A question for what a node holds of a key.
 #[tactic(auto, unfolding(crate::specs::Orders::show_of))]
 fn show_of(alloc: Global, members: Members, nodes: usize) -> Result<Command, Fault>
-    ensures { IsReading command_parts result
+    ensures { IsReadingOf command_parts result
         (show_of nodes members.entry.command (view members.entry.value.now)) }
 {
     members.allow_only(&["do", "node", "key"])?;
-    let node = node_of(members, nodes)?;
+    let node = node_named(members, nodes)?;
     let key = String::from_str(alloc, members.text("key")?)?;
     Ok(Command::Show { node, key })
 }
@@ -178,7 +183,7 @@ fn show_of(alloc: Global, members: Members, nodes: usize) -> Result<Command, Fau
 /// The value of a put, given as a text or as hexadecimal digits.
 #[tactic(auto, unfolding(crate::specs::Orders::value_of, crate::specs::Orders::value_given))]
 fn value_of(alloc: Global, members: Members) -> Result<Vec<u8>, Fault>
-    ensures { IsReading vec_items result
+    ensures { IsReadingOf vec_items result
         (value_of members.entry.command (view members.entry.value.now)) }
 {
     let text = members.optional_text("value")?;
@@ -193,7 +198,7 @@ fn value_of(alloc: Global, members: Members) -> Result<Vec<u8>, Fault>
 /// The bytes of hexadecimal digits.
 #[tactic(auto, unfolding(crate::specs::Orders::bytes_of))]
 fn bytes_of(alloc: Global, members: Members, digits: &str) -> Result<Vec<u8>, Fault>
-    ensures { IsReading vec_items result (bytes_of members.entry.command digits.now) }
+    ensures { IsReadingOf vec_items result (bytes_of members.entry.command digits.now) }
 {
     match hex::decode(alloc, digits) {
         Ok(bytes) => Ok(bytes),
@@ -205,7 +210,7 @@ fn bytes_of(alloc: Global, members: Members, digits: &str) -> Result<Vec<u8>, Fa
 /// What a put and a delete say beside the value.
 #[tactic(auto, unfolding(crate::specs::Orders::write_of))]
 fn write_of(alloc: Global, members: Members) -> Result<Write, Fault>
-    ensures { IsReading write_parts result
+    ensures { IsReadingOf write_parts result
         (write_of members.entry.command (view members.entry.value.now)) }
 {
     let session = session_of(members)?;

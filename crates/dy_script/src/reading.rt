@@ -1,8 +1,15 @@
-ghost use Rattle.std.specs.Prelude.{◌≡◌, ◌⊎◌, ◌<◌, ◌≤◌, length, Some, Ok, Err, IfOk, IfErr, OnOk, vec_items, option_map, map, ℕ};
+ghost use Rattle.std.specs.Prelude.{◌≡◌, ◌⊎◌, ◌<◌, ◌≤◌, length, Some, Ok, Err, IfOk, IfErr, OnOk};
+ghost use Rattle.std.specs.Prelude.{vec_items, option_map, map, ℕ};
 ghost use Rattle.serde_json.specs.View.{view, items_view};
-ghost use Rattle.dy_script.specs.Members.{IsReading, allow_only, each_of, seen};
+ghost use Rattle.dy_script.specs.Members.{allow_only, each_of, seen};
 ghost use Rattle.dy_script.specs.Orders.{command_parts};
-ghost use Rattle.dy_script.specs.Reading.{layout_parts, script_parts, node_count, token_at, token_list, tokens_at, token_lists, derived_of, layout_of, limits_of, key_at, keys_of, command_at, run_of, script_names, script_of, data_of, script_of_text};
+ghost use Rattle.dy_script.specs.Reading.{layout_parts, script_parts, script_names, node_count};
+ghost use Rattle.dy_script.specs.Reading.{token_at, token_list, tokens_at, token_lists};
+ghost use Rattle.dy_script.specs.Reading.{derived_of, tokens_given, limits_of, key_at, keys_of};
+ghost use Rattle.dy_script.specs.Reading.{command_at, commands_given, run_of};
+ghost use Rattle.dy_script.specs.Reading.{script_of, data_of, script_of_text};
+ghost use Rattle.dy_script.specs.declared.scripts.TheConstants.{MAX_COMMANDS};
+ghost use Rattle.dy_script.specs.inside.Readings.{IsReadingOf};
 
 use crate::commands::Command;
 use crate::members::Members;
@@ -52,14 +59,14 @@ fn value_of(alloc: Global, bytes: &[u8]) -> Result<Value, Fault>
 /// The script that the value says.
 #[tactic(auto, unfolding(crate::specs::Reading::script_of))]
 fn script_of(alloc: Global, value: &Value) -> Result<Script, Fault>
-    ensures { IsReading script_parts result (script_of (view value.now)) }
+    ensures { IsReadingOf script_parts result (script_of (view value.now)) }
 {
     let members = Members { value, command: 0 };
     allow_script(members)?;
     let n = members.small("n")?;
     let r = members.small("r")?;
     let w = members.small("w")?;
-    let layout = layout_of(alloc, members)?;
+    let layout = tokens_given(alloc, members)?;
     let limits = limits_of(members)?;
     let keys = keys_of(alloc, members)?;
     let settled = members.flag("settled")?;
@@ -79,7 +86,8 @@ fn script_of(alloc: Global, value: &Value) -> Result<Script, Fault>
 /// Refuses a member that a script doesn't have.
 #[tactic(auto, unfolding(crate::specs::Reading::script_names))]
 fn allow_script(members: Members) -> Result<(), Fault>
-    ensures { result ≡ allow_only members.entry.command script_names (view members.entry.value.now) }
+    ensures { result
+        ≡ allow_only members.entry.command script_names (view members.entry.value.now) }
 {
     members.allow_only(&[
         "n", "r", "w", "tokens", "derived", "limits", "keys", "settled", "run",
@@ -97,10 +105,10 @@ fn node_count(layout: &Layout) -> usize
 }
 
 /// The tokens, given or derived, of a script.
-#[tactic(auto, unfolding(crate::specs::Reading::layout_of, crate::specs::Reading::layout_given))]
-fn layout_of(alloc: Global, members: Members) -> Result<Layout, Fault>
+#[tactic(auto, unfolding(crate::specs::Reading::tokens_given, crate::specs::Reading::layout_given))]
+fn tokens_given(alloc: Global, members: Members) -> Result<Layout, Fault>
     requires { members.command ≡ 0 }
-    ensures { IsReading layout_parts result (layout_of (view members.entry.value.now)) }
+    ensures { IsReadingOf layout_parts result (tokens_given (view members.entry.value.now)) }
 {
     let lists = members.optional_list("tokens")?;
     let derived = members.get("derived");
@@ -126,7 +134,7 @@ fn derived_of(value: &Value) -> Result<Layout, Fault>
 /// Each node's tokens.
 #[tactic(auto, unfolding(crate::specs::Reading::token_lists))]
 fn token_lists(alloc: Global, lists: &[Value]) -> Result<Vec<Vec<u128>>, Fault>
-    ensures { IsReading (λ found. map vec_items found.items) result
+    ensures { IsReadingOf (λ found. map vec_items found.items) result
         (token_lists (items_view lists.now)) }
 {
     let mut found = Vec::new(alloc);
@@ -140,7 +148,7 @@ fn token_lists(alloc: Global, lists: &[Value]) -> Result<Vec<Vec<u128>>, Fault>
 /// One node's tokens.
 #[tactic(auto, unfolding(crate::specs::Reading::tokens_at))]
 fn tokens_at(alloc: Global, value: &Value) -> Result<Vec<u128>, Fault>
-    ensures { (i : ℕ) → IsReading vec_items result (tokens_at i (view value.now)) }
+    ensures { (i : ℕ) → IsReadingOf vec_items result (tokens_at i (view value.now)) }
 {
     match value.as_array() {
         Some(texts) => token_list(alloc, texts.as_slice()),
@@ -151,7 +159,7 @@ fn tokens_at(alloc: Global, value: &Value) -> Result<Vec<u128>, Fault>
 /// The tokens of a list.
 #[tactic(auto, unfolding(crate::specs::Reading::token_list))]
 fn token_list(alloc: Global, texts: &[Value]) -> Result<Vec<u128>, Fault>
-    ensures { IsReading vec_items result (token_list (items_view texts.now)) }
+    ensures { IsReadingOf vec_items result (token_list (items_view texts.now)) }
 {
     let mut found = Vec::new(alloc);
     for text in texts {
@@ -203,7 +211,7 @@ fn limits_of(members: Members) -> Result<Limits, Fault>
 #[tactic(auto, unfolding(crate::specs::Reading::keys_of, crate::specs::Reading::keys_given))]
 fn keys_of(alloc: Global, members: Members) -> Result<Vec<Key>, Fault>
     requires { members.command ≡ 0 }
-    ensures { IsReading vec_items result (keys_of (view members.entry.value.now)) }
+    ensures { IsReadingOf vec_items result (keys_of (view members.entry.value.now)) }
 {
     match members.optional_list("keys")? {
         Some(list) => keys_in(alloc, list),
@@ -213,7 +221,7 @@ fn keys_of(alloc: Global, members: Members) -> Result<Vec<Key>, Fault>
 
 /// The keys of a list.
 fn keys_in(alloc: Global, list: &[Value]) -> Result<Vec<Key>, Fault>
-    ensures { IsReading vec_items result (each_of key_at 0 (items_view list.now)) }
+    ensures { IsReadingOf vec_items result (each_of key_at 0 (items_view list.now)) }
 {
     let mut found = Vec::new(alloc);
     for value in list {
@@ -226,7 +234,7 @@ fn keys_in(alloc: Global, list: &[Value]) -> Result<Vec<Key>, Fault>
 /// The key that the value spells.
 #[tactic(auto, unfolding(crate::specs::Reading::key_at, crate::specs::Reading::sized_key))]
 fn key_at(alloc: Global, value: &Value) -> Result<Key, Fault>
-    ensures { (i : ℕ) → IsReading (λ key. key) result (key_at i (view value.now)) }
+    ensures { (i : ℕ) → IsReadingOf (λ key. key) result (key_at i (view value.now)) }
 {
     let Some(text) = value.as_str() else {
         return Err(WRONG_SCRIPT);
@@ -239,27 +247,34 @@ fn key_at(alloc: Global, value: &Value) -> Result<Key, Fault>
 }
 
 /// The commands of a script, on a ring of so many nodes.
-#[tactic(auto, using(crate::proofs::Lists::items_len_view), unfolding(crate::specs::Reading::run_of, crate::specs::Reading::run_given))]
+#[tactic(auto, unfolding(crate::specs::Reading::run_of, crate::specs::Reading::run_given))]
 fn run_of(alloc: Global, members: Members, nodes: usize) -> Result<Vec<Command>, Fault>
     requires { members.command ≡ 0 }
-    ensures { IsReading (λ run. map command_parts run.items) result
+    ensures { IsReadingOf (λ run. map command_parts run.items) result
         (run_of nodes (view members.entry.value.now)) }
 {
     match members.optional_list("run")? {
-        Some(list) => {
-            if list.len() > MAX_COMMANDS {
-                return Err(WRONG_SCRIPT);
-            }
-            commands_in(alloc, list, nodes)
-        }
+        Some(list) => commands_given(alloc, list, nodes),
         None => Ok(Vec::new(alloc)),
     }
 }
 
+/// The commands of a list, unless they are too many.
+#[tactic(auto, using(crate::proofs::ListsRead::items_len_view))]
+fn commands_given(alloc: Global, list: &[Value], nodes: usize) -> Result<Vec<Command>, Fault>
+    ensures { IsReadingOf (λ run. map command_parts run.items) result
+        (commands_given nodes (items_view list.now)) }
+{
+    if list.len() > MAX_COMMANDS {
+        return Err(WRONG_SCRIPT);
+    }
+    commands_in(alloc, list, nodes)
+}
+
 /// The commands of a list, numbered from 1.
 fn commands_in(alloc: Global, list: &[Value], nodes: usize) -> Result<Vec<Command>, Fault>
-    requires { length list.now ≤ 100000 }
-    ensures { IsReading (λ run. map command_parts run.items) result
+    requires { length list.now ≤ MAX_COMMANDS }
+    ensures { IsReadingOf (λ run. map command_parts run.items) result
         (each_of (command_at nodes) 0 (items_view list.now)) }
 {
     let mut found = Vec::new(alloc);

@@ -1,8 +1,8 @@
 ghost use Rattle.std.specs.Prelude.{◌≡◌};
 ghost use Rattle.dy_script.specs.Tokens.{token_of};
 
-/// The position that a token's text names: 2 to 32 hexadecimal digits, even in number, are its first
-/// bytes, and the rest is zero. Takes no memory.
+/// The position that a token's text names: 2 to 32 hexadecimal digits, even in number, are its
+/// first bytes, and the rest is zero. Takes no memory.
 pub fn token(text: &str) -> Option<u128>
     ensures { result ≡ token_of text.now }
 {

@@ -1,4 +1,4 @@
--- A ledger stays one, and each share that agrees with its row belongs to its log.
+-- A ledger stays one, and each share that agrees with its roll belongs to its log.
 use Rattle.std.proofs.Common.{◌≡◌, ℕ, suc, ◌+◌, ◌<◌, List, [], ◌∷◌, ◌++◌, length, set, Option, None, Some, slice_index_or, refl, sym, ap, ◌∙◌, subst, arith}
 use Rattle.std.specs.List.{All}
 use Rattle.std.proofs.lemmas.List.Elements.{All-append, All-weaker, All-cons, All-nil}
@@ -12,8 +12,8 @@ use Rattle.dy_core.proofs.OverLogs.{legal_join}
 use Rattle.dy_shares.specs.declared.entries.Entry.{Entry}
 use Rattle.dy_shares.specs.declared.entries.Done.{Done}
 use Rattle.dy_shares.specs.Shares.{ack_at, first_parts, with_steps, steps_of, IsOwnedStep, AreOwned, BelongsTo, SessionBelongsTo, NodePart, SessionPart, AreAll, Account, HasNode, HasSession}
-use Rattle.dy_shares.specs.Parts.{entries_of, numbered, done_steps, done_acks, AreOf, IsPartOf, IsRowOf, IsLedger, Held, held, done_from, AgreesAsNode, AgreesAsSession}
-use Rattle.dy_shares.proofs.Rows.{row_free, row_opened, row_means, row_grown}
+use Rattle.dy_shares.specs.inside.Parts.{entries_of, numbered, done_steps, done_acks, AreOf, IsPartOf, IsRollOf, IsLedger, Held, held, done_from, AgreesAsNode, AgreesAsSession}
+use Rattle.dy_shares.proofs.Rolls.{roll_free, roll_opened, roll_means, roll_grown}
 use Rattle.std.proofs.lemmas.List.{append-nil}
 use Rattle.dy_shares.proofs.Owners.{place_of_node, place_of_session, steps_of-append, steps_of-entries, done_steps-append, done_steps-numbered, done_acks-append}
 use Rattle.dy_shares.proofs.Showing.{part_belongs}
@@ -26,15 +26,6 @@ module _ (nodes : ℕ) (layout : Layout) where
   legal_more : (log : List Entry) (told : Option ℕ) (ss : List Step) → IsLegal layout (steps_of log) → IsLegalFrom layout (world_after (steps_of log)) ss → IsLegal layout (steps_of (log ++ entries_of told ss))
   legal_more log told ss legal allowed = subst (IsLegal layout) (stored_more (steps_of log) log told ss refl) (legal_join layout empty_world (steps_of log) ss legal allowed)
 
-  pub ledger_first : (row : List (List Done)) → IsRowOf nodes [] nodes row → IsLedger nodes layout [] 0 [] row
-  ledger_first row r =
-      record {
-        stored = refl;
-        row_is = subst (λ n. IsRowOf nodes [] n row) (omega arith) r;
-        owned = All-nil (λ e. IsOwnedStep nodes 0 e.told e.step);
-        legal = tt;
-      }
-
   owned_on : (sessions : ℕ) (told : Option ℕ) (s : Step) → IsOwnedStep nodes sessions told s → IsOwnedStep nodes (sessions + 1) told s
   owned_on sessions told (Issue node key context value) o = o
   owned_on sessions told (Hold holder home row) o = o
@@ -42,61 +33,61 @@ module _ (nodes : ℕ) (layout : Layout) where
   owned_on sessions told (Fetch holder home key) o = o
   owned_on sessions told (Ack key d w) o = (o.0, o.1, omega (arith, o.2))
 
-  module _ (steps : List Step) (sessions : ℕ) (log : List Entry) (row : List (List Done)) (is : IsLedger nodes layout steps sessions log row) where
-    pub ledger_opened : IsLedger nodes layout steps (sessions + 1) log (row ++ [] ∷ [])
+  module _ (steps : List Step) (sessions : ℕ) (log : List Entry) (roll : List (List Done)) (is : IsLedger nodes layout steps sessions log roll) where
+    pub ledger_opened : IsLedger nodes layout steps (sessions + 1) log (roll ++ [] ∷ [])
     ledger_opened =
         record {
           stored = is.stored;
-          row_is = subst (λ n. IsRowOf nodes log n (row ++ [] ∷ [])) (omega arith) (row_opened nodes log (nodes + sessions) row is.row_is);
+          roll_is = subst (λ n. IsRollOf nodes log n (roll ++ [] ∷ [])) (omega arith) (roll_opened nodes log (nodes + sessions) roll is.roll_is);
           owned = All-weaker (λ e. IsOwnedStep nodes sessions e.told e.step) (λ e. IsOwnedStep nodes (sessions + 1) e.told e.step) (λ e. owned_on sessions e.told e.step) log is.owned;
           legal = is.legal;
         }
 
     pub ledger_free : (told : Option ℕ) (ss : List Step) → AreOf nodes None (entries_of told ss) → AreOwned nodes sessions (entries_of told ss) → IsLegalFrom layout (world_after (steps_of log)) ss
-        → IsLedger nodes layout (steps ++ ss) sessions (log ++ entries_of told ss) row
+        → IsLedger nodes layout (steps ++ ss) sessions (log ++ entries_of told ss) roll
     ledger_free told ss free owned allowed =
         record {
           stored = stored_more steps log told ss is.stored;
-          row_is = row_free nodes log (entries_of told ss) (nodes + sessions) row free is.row_is;
+          roll_is = roll_free nodes log (entries_of told ss) (nodes + sessions) roll free is.roll_is;
           owned = All-append (λ e. IsOwnedStep nodes sessions e.told e.step) log (entries_of told ss) is.owned owned;
           legal = legal_more log told ss is.legal allowed;
         }
 
-    pub ledger_grown : (told : Option ℕ) (ss : List Step) (k : ℕ) (own : List Done) → get_elem? row k ≡ some own → AreOf nodes (Some k) (entries_of told ss) → AreOwned nodes sessions (entries_of told ss) → IsLegalFrom layout (world_after (steps_of log)) ss
-        → IsLedger nodes layout (steps ++ ss) sessions (log ++ entries_of told ss) (set row k (own ++ numbered (length log + 1) ss))
+    pub ledger_grown : (told : Option ℕ) (ss : List Step) (k : ℕ) (own : List Done) → get_elem? roll k ≡ some own → AreOf nodes (Some k) (entries_of told ss) → AreOwned nodes sessions (entries_of told ss) → IsLegalFrom layout (world_after (steps_of log)) ss
+        → IsLedger nodes layout (steps ++ ss) sessions (log ++ entries_of told ss) (set roll k (own ++ numbered (length log + 1) ss))
     ledger_grown told ss k own at place owned allowed =
         record {
           stored = stored_more steps log told ss is.stored;
-          row_is = row_grown nodes log told ss (nodes + sessions) row k own place is.row_is at;
+          roll_is = roll_grown nodes log told ss (nodes + sessions) roll k own place is.roll_is at;
           owned = All-append (λ e. IsOwnedStep nodes sessions e.told e.step) log (entries_of told ss) is.owned owned;
           legal = legal_more log told ss is.legal allowed;
         }
 
-    -- a share that agrees with its place is as the log has it
-    pub place_part : (k : ℕ) (own : List Done) → get_elem? row k ≡ some own → IsPartOf nodes layout (record { log = log; sessions = sessions }) (held k own)
-    place_part k own at =
-        let m = row_means nodes log (nodes + sessions) row k own is.row_is at in
+    -- a share that agrees with its seat is as the log has it
+    pub seat_part : (k : ℕ) (own : List Done) → get_elem? roll k ≡ some own → IsPartOf nodes layout (record { log = log; sessions = sessions }) (held k own)
+    seat_part k own at =
+        let m = roll_means nodes log (nodes + sessions) roll k own is.roll_is at in
         record { is_open = m.0; part_is = m.1; owned = is.owned; legal = is.legal }
 
-    -- a node's share that agrees with its place belongs to the log
-    pub node_belongs : (p : NodePart) → p.node < nodes → AgreesAsNode row p → BelongsTo (steps_of log) p
+    -- a node's share that agrees with its seat belongs to the log
+    pub node_belongs : (p : NodePart) → p.node < nodes → AgreesAsNode roll p → BelongsTo (steps_of log) p
     node_belongs p low a =
-        let m = row_means nodes log (nodes + sessions) row p.node a.part is.row_is a.place_has in
+        let m = roll_means nodes log (nodes + sessions) roll p.node a.part is.roll_is a.seat_has in
         part_belongs layout p (steps_of log) is.legal (a.steps_are ∙ (ap done_steps m.1 ∙ place_of_node nodes sessions p.node log low is.owned))
 
-    -- a session's share that agrees with its place, and whose gets match, belongs to the log
-    pub session_belongs : (r : ℕ) (s : SessionPart) → AgreesAsSession nodes r row log s → SessionBelongsTo log r s
+    -- a session's share that agrees with its seat, and whose gets match, belongs to the log
+    pub session_belongs : (r : ℕ) (s : SessionPart) → AgreesAsSession nodes r roll log s → SessionBelongsTo log r s
     session_belongs r s a =
-        let m = row_means nodes log (nodes + sessions) row (nodes + s.session) a.part is.row_is a.place_has in
-        record { acks_are = a.acks_are ∙ (ap done_acks m.1 ∙ place_of_session nodes sessions s.session log is.owned); gets_match = a.gets_match }
+        let m = roll_means nodes log (nodes + sessions) roll (nodes + s.session) a.part is.roll_is a.seat_has in
+        record { acks_are = a.acks_are ∙ (ap done_acks m.1 ∙ place_of_session nodes sessions s.session log is.owned); gets_match = a.gets_match; gets_later = a.gets_later }
 
-    pub all_are : (r : ℕ) (parts : List NodePart) (tellings : List SessionPart) → All (λ p. p.node < nodes) parts → All (AgreesAsNode row) parts → All (AgreesAsSession nodes r row log) tellings
+    pub all_are : (r : ℕ) (parts : List NodePart) (tellings : List SessionPart) → All (λ p. p.node < nodes) parts → All (AgreesAsNode roll) parts → All (AgreesAsSession nodes r roll log) tellings
         → ((node : ℕ) → node < nodes → HasNode node parts) → ((session : ℕ) → session < sessions → HasSession session tellings)
         → AreAll nodes r (record { log = log; sessions = sessions }) parts tellings
     all_are r parts tellings low as_nodes as_sessions each_node each_session =
         record {
           nodes_belong = λ k d within. node_belongs (slice_index_or parts k d) (low k d within) (as_nodes k d within);
-          sessions_belong = All-weaker (AgreesAsSession nodes r row log) (SessionBelongsTo log r) (session_belongs r) tellings as_sessions;
+          sessions_belong = All-weaker (AgreesAsSession nodes r roll log) (SessionBelongsTo log r) (session_belongs r) tellings as_sessions;
           each_node = each_node;
           each_session = each_session;
           each_entry = is.owned;
@@ -106,13 +97,13 @@ module _ (nodes : ℕ) (layout : Layout) where
 pub all_back : {X : Type 0} (P : X → Type 0) (xs rest : List X) (x : X) → xs ≡ rest ++ x ∷ [] → P x → All P rest → All P xs
 all_back P xs rest x is here all = subst (All P) (sym is) (All-append P rest (x ∷ []) all (All-cons P x [] here (All-nil P)))
 
--- a node's share whose row's share has grown by these steps
+-- a node's share whose roll's share has grown by these steps
 pub node_grown : (p : NodePart) (part new : List Done) (at : ℕ) (ss : List Step) → p.steps ≡ done_steps part → new ≡ part ++ numbered at ss → record { node = p.node; steps = done_steps new } ≡ with_steps p ss
 node_grown p part new at ss is grown =
     ap (λ xs. record { node = p.node; steps = xs })
     (ap done_steps grown ∙ (done_steps-append part (numbered at ss) ∙ (ap (λ xs. xs ++ done_steps (numbered at ss)) (sym is) ∙ ap (λ xs. p.steps ++ xs) (done_steps-numbered at ss))))
 
--- the acks of a session's share whose row's share has grown by an ack
+-- the acks of a session's share whose roll's share has grown by an ack
 pub acks_grown : (part new : List Done) (at : ℕ) (s : Step) → new ≡ part ++ numbered at (s ∷ []) → done_acks new ≡ done_acks part ++ ack_at at s
 acks_grown part new at s grown = ap done_acks grown ∙ (done_acks-append part (numbered at (s ∷ [])) ∙ ap (λ xs. done_acks part ++ xs) (append-nil (ack_at at s)))
 

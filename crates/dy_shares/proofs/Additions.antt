@@ -9,18 +9,18 @@ use Rattle.dy_core.specs.Logs.{IsLegalFrom}
 use Rattle.dy_core.specs.declared.steps.Step.{Step}
 use Rattle.dy_core.specs.declared.steps.Step.TheVariants.{Issue, Hold, Release, Fetch, Ack}
 use Rattle.dy_shares.specs.declared.entries.Entry.{Entry}
-use Rattle.dy_shares.specs.Shares.{names, node_of, steps_of, ack_at, acks_from, session_acks, IsOwnedStep, AreOwned, IsAck, IsFetch, NodeStays, SessionStays, untold, told_to}
-use Rattle.dy_shares.specs.Parts.{place_of, entries_of, AreOf}
-use Rattle.dy_shares.proofs.Rows.{names_not, names_none}
+use Rattle.dy_shares.specs.Shares.{names, node_of, steps_of, ack_at, acks_from, session_acks, IsOwnedStep, AreOwned, IsFetch, NodeStays, SessionStays, untold}
+use Rattle.dy_shares.specs.inside.Parts.{seat_of, entries_of, AreOf}
+use Rattle.dy_shares.proofs.Rolls.{names_not}
 use Rattle.dy_shares.proofs.Owners.{steps_of-append, steps_of-entries}
 
 -- what holds of the one entry holds of all
 alone : (P : Entry → Type 0) (e : Entry) → P e → All P (e ∷ [])
 alone P e is = All-cons P e [] is (All-nil P)
 
--- a node's steps are of its place
-pub node_place : (nodes node : ℕ) (ss : List Step) → All (λ s. node_of s ≡ Some node) ss → AreOf nodes (Some node) (entries_of None ss)
-node_place nodes node ss all = All-map (λ e. place_of nodes e ≡ Some node) untold ss all
+-- a node's steps are of its seat
+pub node_seat : (nodes node : ℕ) (ss : List Step) → All (λ s. node_of s ≡ Some node) ss → AreOf nodes (Some node) (entries_of None ss)
+node_seat nodes node ss all = All-map (λ e. seat_of nodes e ≡ Some node) untold ss all
 
 some_is : (a b : ℕ) → Some a ≡ Some b → a ≡ b
 some_is a b e = cc e
@@ -37,20 +37,6 @@ node_owned nodes sessions node ss low all =
     All-map (λ e. IsOwnedStep nodes sessions e.told e.step) untold ss
     (All-weaker (λ s. node_of s ≡ Some node) (IsOwnedStep nodes sessions None) (λ s is. owned_step nodes sessions node s low is) ss all)
 
--- an ack is of its session's place
-pub ack_place : (nodes session : ℕ) (s : Step) → AreOf nodes (Some (nodes + session)) (entries_of (Some session) (s ∷ []))
-ack_place nodes session s = alone (λ e. place_of nodes e ≡ Some (nodes + session)) (told_to session s) refl
-
-ack_is_owned : (nodes sessions session : ℕ) (s : Step) → IsAck s → session < sessions → IsOwnedStep nodes sessions (Some session) s
-ack_is_owned nodes sessions session (Issue n key context value) is low = absurd is
-ack_is_owned nodes sessions session (Hold n home row) is low = absurd is
-ack_is_owned nodes sessions session (Release n home key d) is low = absurd is
-ack_is_owned nodes sessions session (Fetch holder home key) is low = absurd is
-ack_is_owned nodes sessions session (Ack key d w) is low = (session, refl, low)
-
-pub ack_owned : (nodes sessions session : ℕ) (s : Step) → IsAck s → session < sessions → AreOwned nodes sessions (entries_of (Some session) (s ∷ []))
-ack_owned nodes sessions session s is low = alone (λ e. IsOwnedStep nodes sessions e.told e.step) (told_to session s) (ack_is_owned nodes sessions session s is low)
-
 -- a fetch is nobody's
 fetch_is_nobodys : (s : Step) → IsFetch s → node_of s ≡ None
 fetch_is_nobodys (Issue n key context value) is = absurd is
@@ -59,8 +45,8 @@ fetch_is_nobodys (Release n home key d) is = absurd is
 fetch_is_nobodys (Fetch holder home key) is = refl
 fetch_is_nobodys (Ack key d w) is = absurd is
 
-pub fetch_place : (nodes : ℕ) (s : Step) → IsFetch s → AreOf nodes None (entries_of None (s ∷ []))
-fetch_place nodes s is = alone (λ e. place_of nodes e ≡ None) (untold s) (fetch_is_nobodys s is)
+pub fetch_seat : (nodes : ℕ) (s : Step) → IsFetch s → AreOf nodes None (entries_of None (s ∷ []))
+fetch_seat nodes s is = alone (λ e. seat_of nodes e ≡ None) (untold s) (fetch_is_nobodys s is)
 
 fetch_is_owned : (nodes sessions : ℕ) (s : Step) → IsFetch s → IsOwnedStep nodes sessions None s
 fetch_is_owned nodes sessions (Issue n key context value) is = absurd is
@@ -100,24 +86,6 @@ pub others_stay : (log : List Entry) (ss : List Step) (own node : ℕ) → All (
 others_stay log ss own node all apart =
     node_stays log None ss node
     (All-weaker (λ s. node_of s ≡ Some own) (λ s. names node (node_of s) ≡ false) (λ s is. names_not node own (node_of s) apart is) ss all)
-
-one : (P : Step → Type 0) (s : Step) → P s → All P (s ∷ [])
-one P s is = All-cons P s [] is (All-nil P)
-
-pub fetch_leaves : (log : List Entry) (s : Step) (node : ℕ) → IsFetch s → NodeStays log (log ++ entries_of None (s ∷ [])) node
-fetch_leaves log s node is =
-    node_stays log None (s ∷ []) node (one (λ x. names node (node_of x) ≡ false) s (names_none node (node_of s) (fetch_is_nobodys s is)))
-
-ack_is_no_nodes : (s : Step) → IsAck s → node_of s ≡ None
-ack_is_no_nodes (Issue n key context value) is = absurd is
-ack_is_no_nodes (Hold n home row) is = absurd is
-ack_is_no_nodes (Release n home key d) is = absurd is
-ack_is_no_nodes (Fetch holder home key) is = absurd is
-ack_is_no_nodes (Ack key d w) is = refl
-
-pub ack_leaves : (log : List Entry) (s : Step) (session node : ℕ) → IsAck s → NodeStays log (log ++ entries_of (Some session) (s ∷ [])) node
-ack_leaves log s session node is =
-    node_stays log (Some session) (s ∷ []) node (one (λ x. names node (node_of x) ≡ false) s (names_none node (node_of s) (ack_is_no_nodes s is)))
 
 acks_append : (at session : ℕ) (xs ys : List Entry) → acks_from at session (xs ++ ys) ≡ acks_from at session xs ++ acks_from (at + length xs) session ys
 acks_append at session [] ys = ap (λ n. acks_from n session ys) (omega arith)

@@ -5,7 +5,7 @@ use Rattle.std.proofs.lemmas.Bool.Decides.{nat_tests}
 use mathlib.Core.List.{IsPrefix}
 use prog.Atomic.{either}
 use Rattle.logbook.specs.Pages.{Cell, cell, keeps, gives, adds, no_nib, nib, may_write, may_make, step, Moves, Goes}
-use Rattle.dy_shares.specs.Growth.{batons, IsKept, Readies, Looks, Appends}
+use Rattle.dy_shares.specs.inside.Growth.{batons, IsKept, Readies, Looks, Appends}
 use Rattle.dy_shares.proofs.Fronts.{prefix_whole, prefix_length}
 
 module _ {E : Type 0} where

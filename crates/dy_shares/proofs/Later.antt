@@ -1,8 +1,10 @@
 -- What was true of a log stays true of a longer one.
-use Rattle.std.proofs.Common.{◌≡◌, ℕ, zero, suc, ◌-◌, ◌≤◌, List, [], ◌∷◌, ◌++◌, Some, length, slice_get, take, sym, ap, ◌∙◌, subst, arith}
-use Rattle.std.specs.List.{All}
-use Rattle.std.proofs.lemmas.List.{take-append-le}
-use Rattle.std.proofs.lemmas.List.Elements.{All-weaker}
+use Rattle.std.proofs.Common.{◌≡◌, ℕ, zero, suc, ◌-◌, ◌+◌, ◌<◌, List, [], ◌∷◌, ◌++◌, Some, length, slice_get, take, get_or, sym, ap, ◌∙◌, subst, ⊎_elim, arith}
+use Rattle.std.specs.List.{All, Contains}
+use Rattle.std.proofs.lemmas.List.{take-append-le, take_more}
+use Rattle.std.proofs.lemmas.List.Elements.{All-contains, All-weaker, Contains-append_cases}
+use Rattle.dy_siblings.proofs.Members.{not_in_nil, in_cases}
+use Rattle.dy_core.proofs.Keeping.{all_from}
 use Rattle.std.proofs.lemmas.Option.{slice_get_within}
 use mathlib.Core.List.{IsPrefix}
 use Rattle.dy_core.specs.Worlds.{Layout, row_at}
@@ -13,7 +15,7 @@ use Rattle.dy_siblings.specs.Siblings.{IsSameRow}
 use Rattle.dy_core.proofs.OverLogs.{receipt_stays}
 use Rattle.dy_shares.specs.declared.entries.Entry.{Entry}
 use Rattle.dy_shares.specs.Shares.{steps_of, ReceiptParts, IsReceipt, GetTold, GetMatches}
-use Rattle.dy_shares.proofs.Owners.{steps_of-append, steps_of-length}
+use Rattle.dy_shares.proofs.Owners.{steps_of-append}
 
 got_stays : {X : Type 0} (xs ys : List X) (k : ℕ) (x : X) → slice_get xs k ≡ Some x → slice_get (xs ++ ys) k ≡ Some x
 got_stays [] ys k x e = absurd (omega (arith, slice_get_within [] k x e))
@@ -21,7 +23,7 @@ got_stays (y ∷ xs) ys zero x e = e
 got_stays (y ∷ xs) ys (suc k) x e = got_stays xs ys k x e
 
 -- the steps of a front begin those of the log
-steps_begin : (front log : List Entry) → (p : IsPrefix front log) → steps_of front ++ steps_of p.0 ≡ steps_of log
+pub steps_begin : (front log : List Entry) → (p : IsPrefix front log) → steps_of front ++ steps_of p.0 ≡ steps_of log
 steps_begin front log p = sym (steps_of-append front p.0) ∙ ap steps_of p.1
 
 -- a receipt that held at a front holds now
@@ -30,12 +32,6 @@ receipt_later layout front log r legal p holds =
     let is = steps_begin front log p in
     subst (λ ss. IsReceipt ss r) is
     (receipt_stays layout (steps_of front) (steps_of p.0) (subst (IsLegal layout) (sym is) legal) r.key r.dot r.home r.holder holds)
-
--- an answer has its number within the log
-pub answer_within : (front : List Entry) (a : Answer) → IsAnswer (steps_of front) a → a.at ≤ length front
-answer_within front a is =
-    let within = slice_get_within (steps_of front) (a.at - 1) (Fetch a.holder a.home a.key) is.is_fetch in
-    omega (arith, within, is.from_one, steps_of-length front)
 
 answer_on : (ss more : List Step) (a : Answer) → IsAnswer ss a → IsAnswer (ss ++ more) a
 answer_on ss more a is =
@@ -66,3 +62,12 @@ get_later front log r g p is = (
 
 pub gets_later : (front log : List Entry) (r : ℕ) (gs : List GetTold) → IsPrefix front log → All (GetMatches (steps_of front) r) gs → All (GetMatches (steps_of log) r) gs
 gets_later front log r gs p all = All-weaker (GetMatches (steps_of front) r) (GetMatches (steps_of log) r) (λ g. get_later front log r g p) gs all
+
+-- one more
+pub all_more : {X : Type 0} (P : X → Type 0) (xs : List X) (i : ℕ) (x : X) → i < length xs → x ≡ get_or xs i x → All P (take i xs) → P x → All P (take (i + 1) xs)
+all_more P xs i x lt is before this =
+    all_from P (take (i + 1) xs) (λ y inside.
+    ⊎_elim
+    (λ l. All-contains P (take i xs) y before l)
+    (λ r. ⊎_elim (λ same. subst P (is ∙ sym same) this) (λ none. absurd (not_in_nil y none)) (in_cases (get_or xs i x) y [] r))
+    (Contains-append_cases (take i xs) (get_or xs i x ∷ []) y (subst (λ zs. Contains zs y) (take_more xs i x lt) inside)))

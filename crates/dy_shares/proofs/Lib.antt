@@ -1,7 +1,7 @@
 pub mod Fronts
 pub mod Batons
-pub mod Seats
-pub mod Rows
+pub mod Agreements
+pub mod Rolls
 pub mod Owners
 pub mod Showing
 pub mod Later
@@ -9,3 +9,5 @@ pub mod Additions
 pub mod Accounts
 pub mod Sessions
 pub mod Scenes
+pub mod Whole
+pub mod Mergeable

@@ -1,5 +1,5 @@
 -- What a session is told, and its since.
-use Rattle.std.proofs.Common.{◌≡◌, ℕ, ◌+◌, ◌<◌, ◌≤◌, max, List, [], ◌∷◌, ◌++◌, length, map, take, slice_index_or, refl, sym, ap, ◌∙◌, subst, arith, nat_eq}
+use Rattle.std.proofs.Common.{◌⊎◌, inl, inr, ◌≡◌, ℕ, ◌+◌, ◌<◌, ◌≤◌, max, List, [], ◌∷◌, ◌++◌, length, map, take, slice_index_or, sym, ap, ◌∙◌, subst, arith, nat_eq}
 use Rattle.std.specs.List.{All, IsDistinct}
 use Rattle.std.proofs.lemmas.List.{append-nil, append_assoc, get_or_default, map-append, take_more}
 use Rattle.std.proofs.lemmas.List.Elements.{All-append, All-cons, All-nil}
@@ -10,8 +10,8 @@ use Rattle.dy_core.specs.Logs.{Answer, IsAnswer}
 use Rattle.dy_core.specs.declared.steps.Step.{Step}
 use Rattle.dy_core.specs.declared.steps.Step.TheVariants.{Issue, Hold, Release, Fetch, Ack}
 use Rattle.dy_shares.specs.declared.entries.Entry.{Entry}
-use Rattle.dy_shares.specs.Shares.{steps_of, greatest, answer_numbers, since_of, ack_at, AckTold, GetTold, SessionPart, GetMatches, IsAck, with_get, with_ack}
-use Rattle.dy_shares.specs.Parts.{IsSessionShare}
+use Rattle.dy_shares.specs.Shares.{steps_of, greatest, answer_numbers, since_of, ack_at, AckTold, GetTold, SessionPart, GetMatches, IsLater, AreLater, IsAck, with_get, with_ack}
+use Rattle.dy_shares.specs.inside.Parts.{IsSessionShare}
 use Rattle.dy_shares.proofs.Later.{answer_later, gets_later}
 
 pub greatest-append : (xs ys : List ℕ) → greatest (xs ++ ys) ≡ max (greatest xs) (greatest ys)
@@ -44,20 +44,52 @@ since_get : (s : SessionPart) (since : ℕ) (answers : List Answer) → since_of
 since_get s since answers =
     omega (arith, numbers-append s.gets (record { since = since; answers = answers } ∷ []), numbers_one since answers)
 
-pub session_first : (nodes r session : ℕ) (front : List Entry) → IsSessionShare nodes r (nodes + session) 0 front (record { session = session; acks = []; gets = [] })
-session_first nodes r session front =
-    record { place_is = refl; since_is = refl; reached = omega arith; gets_match = All-nil (GetMatches (steps_of front) r) }
+-- one get more, which is later than all
+later_push : (acks : List AckTold) (before gs : List GetTold) (g : GetTold) → AreLater acks before gs → IsLater acks (before ++ gs) g → AreLater acks before (gs ++ g ∷ [])
+later_push acks before [] g all is = (subst (λ b. IsLater acks b g) (append-nil before) is, tt)
+later_push acks before (h ∷ gs) g all is =
+    (all.0, later_push acks (before ++ h ∷ []) gs g all.1 (subst (λ b. IsLater acks b g) (sym (append_assoc before (h ∷ []) gs)) is))
+
+all_below : (xs : List Answer) (n : ℕ) → greatest (map (λ x. x.at) xs) < n → All (λ x. x.at < n) xs
+all_below [] n low = All-nil (λ x. x.at < n)
+all_below (x ∷ xs) n low = All-cons (λ x. x.at < n) x xs (omega (arith, low)) (all_below xs n (omega (arith, low)))
+
+-- one ack more, which is later than all gets
+later_ack : (acks : List AckTold) (a : AckTold) (before gs : List GetTold) → greatest (answer_numbers gs) < a.at → AreLater acks before gs → AreLater (acks ++ a ∷ []) before gs
+later_ack acks a before [] low all = tt
+later_ack acks a before (g ∷ gs) low all =
+    let both = greatest-append (map (λ x. x.at) g.answers) (answer_numbers gs) in
+    let P : AckTold → Type 0 = λ b. (b.at ≤ g.since) ⊎ All (λ x. x.at < b.at) g.answers in (
+      record {
+        than_gets = all.0.than_gets;
+        than_acks = All-append P acks (a ∷ []) all.0.than_acks (All-cons P a [] (inr (all_below g.answers a.at (omega (arith, low, both)))) (All-nil P));
+      },
+      later_ack acks a (before ++ g ∷ []) gs (omega (arith, low, both)) all.1,
+    )
+
+later_step : (acks : List AckTold) (gs : List GetTold) (at : ℕ) (s : Step) → IsAck s → greatest (answer_numbers gs) < at → AreLater acks [] gs → AreLater (acks ++ ack_at at s) [] gs
+later_step acks gs at (Issue n key context value) is low all = absurd is
+later_step acks gs at (Hold n home row) is low all = absurd is
+later_step acks gs at (Release n home key d) is low all = absurd is
+later_step acks gs at (Fetch holder home key) is low all = absurd is
+later_step acks gs at (Ack key d w) is low all = later_ack acks (record { at = at; key = key; dot = d; w = w }) [] gs low all
+
+acks_within : (acks : List AckTold) (answers : List Answer) (n : ℕ) → greatest (map (λ a. a.at) acks) ≤ n → All (λ a. (a.at ≤ n) ⊎ All (λ x. x.at < a.at) answers) acks
+acks_within [] answers n low = All-nil (λ a. (a.at ≤ n) ⊎ All (λ x. x.at < a.at) answers)
+acks_within (a ∷ acks) answers n low =
+    All-cons (λ a. (a.at ≤ n) ⊎ All (λ x. x.at < a.at) answers) a acks (inl (omega (arith, low))) (acks_within acks answers n (omega (arith, low)))
 
 -- a session's share that is told an ack, or a get
 pub session_acked : (nodes r index since since_new at : ℕ) (front front_new : List Entry) (s : SessionPart) (step : Step) → IsSessionShare nodes r index since front s → IsAck step
-    → since_new ≡ max since at → IsPrefix front front_new → since ≤ length front_new → at ≤ length front_new
+    → since_new ≡ max since at → IsPrefix front front_new → since ≤ length front_new → at ≤ length front_new → since < at
     → IsSessionShare nodes r index since_new front_new (with_ack s at step)
-session_acked nodes r index since since_new at front front_new s step is ack new p reached within =
+session_acked nodes r index since since_new at front front_new s step is ack new p reached within after =
     record {
-      place_is = is.place_is;
+      seat_is = is.seat_is;
       since_is = new ∙ (ap (λ n. max n at) is.since_is ∙ sym (since_ack s at step ack));
       reached = omega (arith, new, reached, within);
       gets_match = gets_later front front_new r s.gets p is.gets_match;
+      gets_later = later_step s.acks s.gets at step ack (omega (arith, after, is.since_is)) is.gets_later;
     }
 
 pub session_got : (nodes r index since since_new : ℕ) (front front_new : List Entry) (s : SessionPart) (answers : List Answer) → IsSessionShare nodes r index since front s
@@ -66,12 +98,14 @@ pub session_got : (nodes r index since since_new : ℕ) (front front_new : List 
     → IsSessionShare nodes r index since_new front_new (with_get s (since_of s) answers)
 session_got nodes r index since since_new front front_new s answers is p are new reached count one_key homes later =
     record {
-      place_is = is.place_is;
+      seat_is = is.seat_is;
       since_is = new ∙ (ap (λ n. max n (greatest (map (λ a. a.at) answers))) is.since_is ∙ sym (since_get s (since_of s) answers));
       reached = reached;
       gets_match = All-append (GetMatches (steps_of front_new) r) s.gets (record { since = since_of s; answers = answers } ∷ [])
           (gets_later front front_new r s.gets p is.gets_match)
           (All-cons (GetMatches (steps_of front_new) r) (record { since = since_of s; answers = answers }) [] (one_key.0, record { count_is = count; each_is = are; each_later = later; each_key = one_key.1; homes_distinct = homes }) (All-nil (GetMatches (steps_of front_new) r)));
+      gets_later = later_push s.acks [] s.gets (record { since = since_of s; answers = answers }) is.gets_later
+          (record { than_gets = omega arith; than_acks = acks_within s.acks answers (since_of s) (omega arith) });
     }
 
 -- one answer more is one of a front that begins with both fronts

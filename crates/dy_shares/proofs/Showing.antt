@@ -12,12 +12,13 @@ use Rattle.dy_core.specs.Steps.{IsAllowed, world_after_step, same_place, version
 use Rattle.dy_core.specs.Logs.{world_from, world_after, IsLegalFrom, IsLegal}
 use Rattle.dy_core.specs.declared.steps.Step.{Step}
 use Rattle.dy_core.specs.declared.steps.Step.TheVariants.{Issue, Hold, Release, Fetch, Ack}
-use Rattle.dy_core.proofs.Members.{any_gives, any_from, filter_from, in_tail}
-use Rattle.dy_core.proofs.Sameness.{same_dot_is}
+use Rattle.dy_siblings.proofs.Members.{any_gives, any_from, filter_from, in_tail}
+use Rattle.dy_dots.proofs.SameDots.{same_dot_is}
 use Rattle.dy_core.proofs.Ordered.{same_version}
 use Rattle.dy_core.proofs.Standing.{stands_from, stands_in, place_is}
 use Rattle.dy_core.proofs.Merging.{newest_same}
 use Rattle.dy_core.proofs.Kept.{IsSound, empty_sound, step_sound}
+use Rattle.dy_core.proofs.OverLogs.{log_sound}
 use Rattle.dy_shares.specs.Shares.{names, node_of, node_part, shown_after_step, shown_from, BelongsTo, NodePart}
 
 -- a version of the key and the dot that came along
@@ -217,6 +218,20 @@ part_shows layout i ss legal =
       brought = λ o k d h. absurd (true≢false (sym h));
     }) ss legal
 
+-- so it shows the same rows, too
+rows_shown : (layout : Layout) (i : ℕ) (v w : World) → IsSound layout w → IsShown i v w → (home : ℕ) (key : List ℕ) → IsSameRow (row_at v i home key) (row_at w i home key)
+rows_shown layout i v w sound is home key x = (
+  (λ h.
+      let s = stands_from v i home key x h in
+      stands_in w i home key x (record { made = is.made x s.made; key_is = s.key_is; is_held = sym (is.holdings home key x.dot) ∙ s.is_held })),
+  (λ h.
+      let s = stands_from w i home key x h in
+      let held : v.holdings i home key x.dot ≡ true = is.holdings home key x.dot ∙ s.is_held in
+      let b = is.brought home key x.dot held in
+      let same = same_version w.versions sound.ordered b.version x (is.made b.version b.in_list) s.made (b.key_is ∙ sym s.key_is) b.dot_is in
+      stands_in v i home key x (record { made = subst (Contains v.versions) same b.in_list; key_is = s.key_is; is_held = held })),
+)
+
 -- a node's own steps belong to the log
 pub part_belongs : (layout : Layout) (p : NodePart) (ss : List Step) → IsLegal layout ss → p.steps ≡ filter (λ s. names p.node (node_of s)) ss → BelongsTo ss p
 part_belongs layout p ss legal is =
@@ -225,4 +240,5 @@ part_belongs layout p ss legal is =
       part_is = ap (λ own. record { node = p.node; steps = own }) is;
       shows_holdings = shown.holdings;
       shows_counters = shown.counters;
+      shows_rows = rows_shown layout p.node (shown_from empty_world p.steps) (world_after ss) (log_sound layout ss legal) shown;
     }

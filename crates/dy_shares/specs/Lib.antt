@@ -1,4 +1,3 @@
-pub mod Growth
-pub mod Agreeing
-pub mod Parts
 pub mod Shares
+pub mod Merged
+pub mod inside

@@ -1,34 +1,44 @@
 -- Shares: which part of a log is a node's and which a session's, and what each part shows.
-use Rattle.std.specs.Prelude.{◌≡◌, ℕ, zero, suc, ◌+◌, ◌<◌, ◌⊎◌, ◌==◌, max, Bool, false, Option, None, Some, List, [], ◌∷◌, ◌++◌, map, filter, if◌then◌else◌, refl}
+use Rattle.std.specs.Prelude.{◌≡◌, ℕ, zero, suc, ◌+◌, ◌<◌, ◌≤◌, ◌⊎◌, ◌==◌, max, Bool, false, Option}
+use Rattle.std.specs.Prelude.{None, Some, List, [], ◌∷◌, ◌++◌, map, filter, if◌then◌else◌, refl}
 use Rattle.std.specs.List.{All, Any}
 use Rattle.std.specs.Coded.{Coded, coded×, coded_ℕ, coded_list, code_by}
+use Rattle.logbook.specs.Pages.{Book}
+use Rattle.atomic_table.specs.Seated.{TableId}
 use Rattle.dy_dots.specs.Dots.{dot_code}
 use Rattle.dy_dots.specs.declared.dots.Dot.{Dot}
 use Rattle.dy_siblings.specs.Versions.{version_code}
-use Rattle.dy_siblings.specs.Siblings.{Siblings}
+use Rattle.dy_siblings.specs.Siblings.{Siblings, IsSameRow}
 use Rattle.dy_siblings.specs.declared.versions.Version.{Version}
 use Rattle.dy_ring.specs.Rings.{Tokens}
-use Rattle.dy_core.specs.Worlds.{World, empty_world, layout_of}
+use Rattle.dy_core.specs.Worlds.{World, empty_world, layout_of, row_at}
 use Rattle.dy_core.specs.Steps.{version_made, after_issue, after_hold, after_release}
 use Rattle.dy_core.specs.Covers.{ReceiptHolds}
 use Rattle.dy_core.specs.Logs.{world_after, IsLegalFrom, Answer, MatchesLog}
 use Rattle.dy_core.specs.contracts.steps.Step as step
 use Rattle.dy_core.specs.declared.steps.Step.{Step}
+use Rattle.dy_core.specs.declared.acks.Acked.{Acked}
 use Rattle.dy_core.specs.declared.steps.Step.TheVariants.{Issue, Hold, Release, Fetch, Ack}
 use Rattle.dy_shares.specs.contracts.entries.Entry as entry
 use Rattle.dy_shares.specs.declared.entries.Entry.{Entry}
+
+-- what a blank is seen as: the names of its log and of its roll
+pub record BlankNames : Type 0 where
+  pub book : Book
+  pub table : TableId
 
 -- what a ledger is seen as: its log, and how many sessions it has opened
 pub record Account : Type 0 where
   pub log : List Entry
   pub sessions : ℕ
 
-abbrev pub log_code : Coded (List Entry)
-log_code = coded_list entry.the_row.coded
+-- the codes of a log and of an account
+abbrev pub entries_code : Coded (List Entry)
+entries_code = coded_list entry.the_row.coded
 
 abbrev pub account_code : Coded Account
 account_code =
-    code_by (List Entry × ℕ) (coded× log_code coded_ℕ)
+    code_by (List Entry × ℕ) (coded× entries_code coded_ℕ)
     (λ a. (a.log, a.sessions)) (λ p. record { log = p.0; sessions = p.1 }) (λ _. refl)
 
 -- at first nothing is logged, and no session is open
@@ -95,6 +105,7 @@ pub record NodePart : Type 0 where
   pub node : ℕ
   pub steps : List Step
 
+-- the code of a node's part
 abbrev pub node_part_code : Coded NodePart
 node_part_code =
     code_by (ℕ × List Step) (coded× coded_ℕ (coded_list step.the_row.coded))
@@ -124,6 +135,7 @@ shown_after_step w (Release holder home key d) = after_release w holder home key
 shown_after_step w (Fetch holder home key) = w
 shown_after_step w (Ack key d count) = w
 
+-- the world as far as these steps of one node show it, from this one on
 abbrev pub shown_from : World → List Step → World
 shown_from w [] = w
 shown_from w (s ∷ ss) = shown_from (shown_after_step w s) ss
@@ -136,35 +148,44 @@ shows_held p home key d = (shown_from empty_world p.steps).holdings p.node home 
 abbrev pub shows_counter : NodePart → List ℕ → ℕ
 shows_counter p key = (shown_from empty_world p.steps).counters p.node key
 
+-- the row of a key that a part shows its node to hold for a home
+abbrev pub shown_row : NodePart → ℕ → List ℕ → List Version
+shown_row p home key = row_at (shown_from empty_world p.steps) p.node home key
+
 -- a node's share belongs to a log: it is the node's part, and it shows what the world after the log
--- holds at the node, with the node's counters
+-- holds at the node, with its rows and the node's counters
 pub record BelongsTo (steps : List Step) (p : NodePart) : Type 0 where
   pub part_is : p ≡ node_part p.node steps
   pub shows_holdings : (home : ℕ) (key : List ℕ) (d : Dot) →
       shows_held p home key d ≡ (world_after steps).holdings p.node home key d
   pub shows_counters : (key : List ℕ) →
       shows_counter p key ≡ (world_after steps).counters p.node key
+  pub shows_rows : (home : ℕ) (key : List ℕ) →
+      IsSameRow (shown_row p home key) (row_at (world_after steps) p.node home key)
 
--- what a receipt is seen as: a key and a dot, the home that is covered, and who held it
+-- what a receipt is seen as: a key and a dot, who held it, and the home that is covered
 pub record ReceiptParts : Type 0 where
   pub key : List ℕ
   pub dot : Dot
-  pub home : ℕ
   pub holder : ℕ
+  pub home : ℕ
 
+-- the code of a receipt
 abbrev pub receipt_parts_code : Coded ReceiptParts
 receipt_parts_code =
     code_by (List ℕ × (Dot × (ℕ × ℕ)))
     (coded× (coded_list coded_ℕ) (coded× dot_code (coded× coded_ℕ coded_ℕ)))
-    (λ r. (r.key, (r.dot, (r.home, r.holder))))
-    (λ p. record { key = p.0; dot = p.1.0; home = p.1.1.0; holder = p.1.1.1 }) (λ _. refl)
+    (λ r. (r.key, (r.dot, (r.holder, r.home))))
+    (λ p. record { key = p.0; dot = p.1.0; holder = p.1.1.0; home = p.1.1.1 }) (λ _. refl)
 
+-- the receipt of this key, dot, holder and home
 abbrev pub receipt_parts : List ℕ → Dot → ℕ → ℕ → ReceiptParts
-receipt_parts key dot home holder = record { key = key; dot = dot; home = home; holder = holder }
+receipt_parts key dot holder home =
+    record { key = key; dot = dot; holder = holder; home = home }
 
 -- the receipt holds in the world after the log
 abbrev pub IsReceipt : List Step → ReceiptParts → Type 0
-IsReceipt steps r = ReceiptHolds (world_after steps) r.key r.dot r.home r.holder
+IsReceipt steps r = ReceiptHolds (world_after steps) r.key r.dot r.holder r.home
 
 -- an ack as a session was told it: the number of its step, from 1, and what it acknowledges
 pub record AckTold : Type 0 where
@@ -172,6 +193,10 @@ pub record AckTold : Type 0 where
   pub key : List ℕ
   pub dot : Dot
   pub w : ℕ
+
+-- the session was told of this ack
+abbrev pub IsAckOf : AckTold → Acked → Type 0
+IsAckOf t x = (t.key ≡ x.key) × (t.dot ≡ x.dot) × (t.w ≡ x.w)
 
 -- a get as a session was told it: the session's since before it, and its answers
 pub record GetTold : Type 0 where
@@ -184,6 +209,7 @@ pub record SessionPart : Type 0 where
   pub acks : List AckTold
   pub gets : List GetTold
 
+-- the codes of what a session was told
 abbrev pub ack_told_code : Coded AckTold
 ack_told_code =
     code_by (ℕ × (List ℕ × (Dot × ℕ)))
@@ -212,6 +238,7 @@ session_part_code =
     (λ s. (s.session, (s.acks, s.gets)))
     (λ p. record { session = p.0; acks = p.1.0; gets = p.1.1 }) (λ _. refl)
 
+-- the answer of this number, holder, home, key and row
 abbrev pub answer_of : ℕ → ℕ → ℕ → List ℕ → Siblings → Answer
 answer_of at holder home key row =
     record { at = at; holder = holder; home = home; key = key; row = row.versions }
@@ -266,11 +293,23 @@ since_of s = max (greatest (map (λ a. a.at) s.acks)) (greatest (answer_numbers 
 abbrev pub GetMatches : List Step → ℕ → GetTold → Type 0
 GetMatches steps r g = (key : List ℕ) × MatchesLog steps key r g.since g.answers
 
+-- a get is later than what its session was told before it: no number of the gets before it is above
+-- its since, and each ack is no later than its since, or later than each of its answers
+pub record IsLater (acks : List AckTold) (before : List GetTold) (g : GetTold) : Type 0 where
+  pub than_gets : greatest (answer_numbers before) ≤ g.since
+  pub than_acks : All (λ a. (a.at ≤ g.since) ⊎ All (λ x. x.at < a.at) g.answers) acks
+
+-- each of these gets is later than what was told before it
+abbrev pub AreLater : List AckTold → List GetTold → List GetTold → Type 0
+AreLater acks before [] = Unit {0}
+AreLater acks before (g ∷ gs) = IsLater acks before g × AreLater acks (before ++ g ∷ []) gs
+
 -- a session's share belongs to a log: its acks are those that the log told the session, and each of
--- its gets matches the log
+-- its gets matches the log, and is later than what the session was told before it
 pub record SessionBelongsTo (log : List Entry) (r : ℕ) (s : SessionPart) : Type 0 where
   pub acks_are : s.acks ≡ session_acks s.session log
   pub gets_match : All (GetMatches (steps_of log) r) s.gets
+  pub gets_later : AreLater s.acks [] s.gets
 
 -- the node's part is the same in both logs
 abbrev pub NodeStays : List Entry → List Entry → ℕ → Type 0
@@ -303,12 +342,19 @@ HasSession session parts = Any (λ s. s.session ≡ session) parts
 
 -- the shares are all that were given out, and what they show is all that the log has: each belongs
 -- to the log, each node and session has its own, and each entry is one of theirs, or a fetch
-pub record AreAll (nodes r : ℕ) (a : Account) (parts : List NodePart) (tellings : List SessionPart) : Type 0 where
+pub record AreAll (nodes r : ℕ) (a : Account) (parts : List NodePart) (tellings : List SessionPart)
+    : Type 0 where
   pub nodes_belong : All (BelongsTo (steps_of a.log)) parts
   pub sessions_belong : All (SessionBelongsTo a.log r) tellings
   pub each_node : (node : ℕ) → node < nodes → HasNode node parts
   pub each_session : (session : ℕ) → session < a.sessions → HasSession session tellings
   pub each_entry : AreOwned nodes a.sessions a.log
+
+-- each node and each session has a share among these
+abbrev pub HasAll : ℕ → ℕ → List NodePart → List SessionPart → Type 0
+HasAll nodes sessions parts tellings =
+    ((node : ℕ) → node < nodes → HasNode node parts)
+    × ((session : ℕ) → session < sessions → HasSession session tellings)
 
 -- the share of a node or of a session is missing
 abbrev pub IsMissing : ℕ → ℕ → List NodePart → List SessionPart → Type 0

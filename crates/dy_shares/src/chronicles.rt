@@ -1,9 +1,10 @@
 // A log that one owner extends, and fronts of it that anybody may copy.
-ghost use Rattle.std.specs.Prelude.{◌≡◌, ℕ, zero, suc, ◌+◌, ◌<◌, ◌^◌, ◌++◌, ◌∷◌, [], length, IfSome, MatchBool};
+ghost use Rattle.std.specs.Prelude.{◌≡◌, ℕ, zero, suc, ◌+◌, ◌<◌, ◌^◌, ◌++◌, ◌∷◌, [], length};
+ghost use Rattle.std.specs.Prelude.{IfSome, MatchBool};
 ghost use mathlib.Core.List.{IsPrefix};
 ghost use Rattle.logbook.specs.Pages.{nib, may_write};
-ghost use Rattle.dy_shares.specs.Growth.{head_of};
-ghost use Rattle.dy_shares.specs.Parts.{entries_of};
+ghost use Rattle.dy_shares.specs.inside.Growth.{head_of};
+ghost use Rattle.dy_shares.specs.inside.Parts.{entries_of};
 
 use crate::entries::{Batch, Entry};
 use crate::names::Naming;
@@ -21,7 +22,7 @@ pub struct Law;
 impl Rule<Entries, u64> for Law {
     ghost use Rattle.std.specs.Prelude.{[]};
     ghost use base.Fml.{ftrue};
-    ghost use Rattle.dy_shares.specs.Growth.{IsKept};
+    ghost use Rattle.dy_shares.specs.inside.Growth.{IsKept};
 
     ghost holds = { λ cells log. IsKept cells log };
 
@@ -49,7 +50,7 @@ impl Gain<Entries, u64> for Nothing {
 pub struct Look;
 
 impl Play<Entries, u64> for Look {
-    ghost use Rattle.dy_shares.specs.Growth.{Looks};
+    ghost use Rattle.dy_shares.specs.inside.Growth.{Looks};
 
     ghost then = { Looks };
 }
@@ -58,7 +59,7 @@ impl Play<Entries, u64> for Look {
 pub struct Ready;
 
 impl Play<Entries, u64> for Ready {
-    ghost use Rattle.dy_shares.specs.Growth.{Readies};
+    ghost use Rattle.dy_shares.specs.inside.Growth.{Readies};
 
     ghost then = { Readies };
 }
@@ -67,7 +68,7 @@ impl Play<Entries, u64> for Ready {
 pub struct Append;
 
 impl Play<Entries, u64> for Append {
-    ghost use Rattle.dy_shares.specs.Growth.{Appends};
+    ghost use Rattle.dy_shares.specs.inside.Growth.{Appends};
 
     ghost then = { Appends };
 }
@@ -75,7 +76,7 @@ impl Play<Entries, u64> for Append {
 /// What a step asks for: the entries.
 impl Plain<Batch, Entries, u64> for Append {
     ghost use Rattle.std.specs.Prelude.{None};
-    ghost use Rattle.dy_shares.specs.Parts.{entries_of};
+    ghost use Rattle.dy_shares.specs.inside.Parts.{entries_of};
 
     ghost ask = { λ batch. entries_of batch.told batch.steps.items };
 
@@ -168,13 +169,13 @@ pub struct Chronicle<J: Naming> {
 impl<J: Naming> Model for Chronicle<J> {
     ghost use Rattle.std.specs.Prelude.{◌≡◌, suc, List, length};
     ghost use Rattle.logbook.specs.Pages.{nib, may_write};
-    ghost use Rattle.dy_shares.specs.Growth.{head_of, joined};
-    ghost use Rattle.dy_shares.specs.Shares.{log_code};
+    ghost use Rattle.dy_shares.specs.inside.Growth.{head_of, joined};
+    ghost use Rattle.dy_shares.specs.Shares.{entries_code};
     ghost use Rattle.dy_shares.specs.declared.entries.Entry.{Entry};
 
     ghost Value = { List Entry };
 
-    ghost coded = { log_code };
+    ghost coded = { entries_code };
 
     ghost view = { λ c. joined c.seen.log };
 
@@ -194,13 +195,13 @@ pub struct Front<J: Naming> {
 
 impl<J: Naming> Model for Front<J> {
     ghost use Rattle.std.specs.Prelude.{◌≡◌, List};
-    ghost use Rattle.dy_shares.specs.Growth.{joined};
-    ghost use Rattle.dy_shares.specs.Shares.{log_code};
+    ghost use Rattle.dy_shares.specs.inside.Growth.{joined};
+    ghost use Rattle.dy_shares.specs.Shares.{entries_code};
     ghost use Rattle.dy_shares.specs.declared.entries.Entry.{Entry};
 
     ghost Value = { List Entry };
 
-    ghost coded = { log_code };
+    ghost coded = { entries_code };
 
     ghost view = { λ f. joined f.seen.log };
 

@@ -1,14 +1,14 @@
 // How a ledger ends: who is missing, and every share comes back.
 ghost use Rattle.std.specs.Prelude.{◌≡◌, ℕ, ◌+◌, ◌<◌, Decides, IfSome, IfNone};
 ghost use Rattle.std.specs.List.{All};
-ghost use Rattle.dy_shares.specs.Parts.{AgreesAsNode, AgreesAsSession};
+ghost use Rattle.dy_shares.specs.inside.Parts.{AgreesAsNode, AgreesAsSession};
 ghost use Rattle.dy_shares.specs.Shares.{HasNode, HasSession};
 
 use crate::chronicles::Chronicle;
 use crate::ledgers::Ledger;
 use crate::names::Naming;
 use crate::node_shares::NodeShare;
-use crate::parts::Row;
+use crate::parts::Roll;
 use crate::session_shares::SessionShare;
 
 /// A share is missing. The ledger and all the shares come back, each list in its order.
@@ -75,31 +75,31 @@ pub(crate) fn missing_session<J: Naming>(
     None
 }
 
-// Compares each node's share with its place of the row, for the last time.
-pub(crate) fn end_nodes<J: Naming>(row: &mut Row<J>, mut shares: Vec<NodeShare<J>>)
-    ensures same { row.new ≡ row.old }
+// Compares each node's share with its seat of the roll, for the last time.
+pub(crate) fn end_nodes<J: Naming>(roll: &mut Roll<J>, mut shares: Vec<NodeShare<J>>)
+    ensures same { roll.new ≡ roll.old }
     ensures low { All (λ p. p.node < J.ring.nodes) shares.items }
-    ensures agree { All (AgreesAsNode row.old) shares.items }
+    ensures agree { All (AgreesAsNode roll.old) shares.items }
 {
     while let Some(share) = shares.pop() {
-        share.end(row);
+        share.end(roll);
     }
     shares.destroy_empty();
 }
 
-// Compares each session's share with its place of the row, for the last time, and its gets with the
+// Compares each session's share with its seat of the roll, for the last time, and its gets with the
 // log.
 pub(crate) fn end_sessions<J: Naming>(
-    row: &mut Row<J>,
+    roll: &mut Roll<J>,
     chronicle: &mut Chronicle<J>,
     mut shares: Vec<SessionShare<J>>,
 )
-    ensures row { row.new ≡ row.old }
+    ensures roll { roll.new ≡ roll.old }
     ensures chronicle { chronicle.new ≡ chronicle.old }
-    ensures agree { All (AgreesAsSession J.ring.nodes J.r row.old chronicle.old) shares.items }
+    ensures agree { All (AgreesAsSession J.ring.nodes J.r roll.old chronicle.old) shares.items }
 {
     while let Some(share) = shares.pop() {
-        share.end(row, chronicle);
+        share.end(roll, chronicle);
     }
     shares.destroy_empty();
 }

@@ -1,11 +1,18 @@
-ghost use Rattle.std.specs.Prelude.{◌≡◌, ◌≢◌, ℕ, ◌+◌, ◌<◌, ◌≤◌, ◌++◌, ◌∷◌, ◌↔◌, Option, Some, None, [], map, length, vec_len, vec_capacity, IfOk, IfErr, OnOk, OnErr, IsErrOf, IsOkUnless};
+ghost use Rattle.std.specs.Prelude.{◌≡◌, ◌≢◌, ℕ, ◌+◌, ◌<◌, ◌≤◌, ◌++◌, ◌∷◌, ◌↔◌, Option, Some, None};
+ghost use Rattle.std.specs.Prelude.{[], map, length, vec_len, vec_capacity, IfOk, IfErr, OnOk};
+ghost use Rattle.std.specs.Prelude.{OnErr, IsErrOf, IsOkUnless, MatchBool};
 ghost use Rattle.std.specs.List.{All};
 ghost use mathlib.Core.List.{IsPrefix};
 ghost use Rattle.dy_dots.specs.declared.nodes.TheConstants.{MAX_NODES};
 ghost use Rattle.dy_core.specs.Worlds.{layout_of};
 ghost use Rattle.dy_core.specs.Logs.{IsAnswer, IsLegal};
-ghost use Rattle.dy_shares.specs.Parts.{AreOf, IsPartOf, IsRowOf, entries_of, with_done};
-ghost use Rattle.dy_shares.specs.Shares.{AreAll, AreOwned, BelongsTo, IsAck, IsFetch, IsMissing, IsReceipt, MayFollow, NodeStays, SessionBelongsTo, SessionStays, answer_of, empty_account, first_parts, first_session, node_of, receipt_parts, steps_of, told_to, untold, with_ack, with_entries, with_session, with_steps};
+ghost use Rattle.dy_shares.specs.inside.Parts.{AreOf, IsPartOf, IsRollOf, entries_of, with_done};
+ghost use Rattle.dy_shares.specs.Shares.{AreAll, HasAll, AreOwned, BelongsTo, IsAck, IsFetch};
+ghost use Rattle.dy_shares.specs.Shares.{IsMissing, IsReceipt, MayFollow, NodeStays};
+ghost use Rattle.dy_shares.specs.Shares.{SessionBelongsTo, SessionStays, answer_of, empty_account};
+ghost use Rattle.dy_shares.specs.Shares.{first_parts, first_session, node_of, receipt_parts};
+ghost use Rattle.dy_shares.specs.Shares.{steps_of, told_to, untold, with_ack, with_entries};
+ghost use Rattle.dy_shares.specs.Shares.{with_session, with_steps};
 ghost use Rattle.dy_shares.specs.declared.ledgers.TheConstants.{MAX_SESSIONS};
 
 use crate::chronicles::{Chronicle, Front};
@@ -15,14 +22,14 @@ use crate::endings::{
 use crate::entries::Batch;
 use crate::names::{Blank, Naming};
 use crate::node_shares::NodeShare;
-use crate::parts::{Row, Share};
+use crate::parts::{Roll, Share};
 use crate::receipts::Receipt;
 use crate::seens::Seen;
 use crate::session_shares::SessionShare;
 use crate::sinces::Since;
-use dy_core::Step;
+use dy_core::{Place, Step};
 use dy_dots::{Dot, Fault, NodeId};
-use dy_siblings::Key;
+use dy_siblings::{Key, Row};
 use std::alloc::{AllocError, Global};
 use std::marker::Model;
 
@@ -37,13 +44,13 @@ pub struct Ledger<J: Naming> {
     sessions: usize,
     steps: Vec<Step>,
     chronicle: Chronicle<J>,
-    row: Row<J>,
+    roll: Roll<J>,
 }
 
 impl<J: Naming> Model for Ledger<J> {
     ghost use Rattle.std.specs.Prelude.{◌≡◌};
     ghost use Rattle.dy_core.specs.Worlds.{layout_of};
-    ghost use Rattle.dy_shares.specs.Parts.{IsLedger};
+    ghost use Rattle.dy_shares.specs.inside.Parts.{IsLedger};
     ghost use Rattle.dy_shares.specs.Shares.{Account, account_code};
 
     ghost Value = { Account };
@@ -54,7 +61,8 @@ impl<J: Naming> Model for Ledger<J> {
 
     ghost invariant = { λ l.
         (l.nodes ≡ J.ring.nodes)
-        × IsLedger J.ring.nodes (layout_of J.ring J.n) l.steps.items l.sessions l.chronicle l.row };
+        × IsLedger J.ring.nodes (layout_of J.ring J.n) l.steps.items l.sessions l.chronicle
+        l.roll };
 }
 
 impl<J: Naming> Ledger<J> {
@@ -72,16 +80,16 @@ impl<J: Naming> Ledger<J> {
         ensures memory { IsOkUnless result Fault.OutOfMemory }
     {
         let mut shares = Vec::with_capacity(alloc, nodes as usize)?;
-        let Blank { chronicle, row } = blank;
-        let mut row = row.named();
-        open_nodes(&mut row, &mut shares, nodes as usize);
+        let Blank { chronicle, roll } = blank;
+        let mut roll = roll.named();
+        open_nodes(&mut roll, &mut shares, nodes as usize);
         let ledger = Ledger {
             alloc,
             nodes,
             sessions: 0,
             steps: Vec::new(alloc),
             chronicle: chronicle.named(),
-            row,
+            roll,
         };
         Ok((ledger, shares))
     }
@@ -98,7 +106,7 @@ impl<J: Naming> Ledger<J> {
             return Err(Fault::TooMany);
         }
         let number = self.sessions;
-        let share = self.row.open(self.nodes as usize + number);
+        let share = self.roll.open(self.nodes as usize + number);
         self.sessions += 1;
         Ok(SessionShare::new(self.alloc, number, share, self.chronicle.front()))
     }
@@ -124,7 +132,7 @@ impl<J: Naming> Ledger<J> {
         ensures share { share.new ≡ share.old }
         ensures belongs { BelongsTo (steps_of self.old.log) share.old }
     {
-        self.row.compare(&mut share.share);
+        self.roll.compare(&mut share.share);
     }
 
     /// The share lent is the session's part of the log. Takes no memory.
@@ -134,7 +142,7 @@ impl<J: Naming> Ledger<J> {
         ensures belongs { SessionBelongsTo self.old.log J.r share.old }
     {
         self.chronicle.learn(share.front());
-        self.row.compare(&mut share.share);
+        self.roll.compare(&mut share.share);
     }
 
     /// Adds steps of one node to the log, all or none, and to the node's share.
@@ -170,6 +178,7 @@ impl<J: Naming> Ledger<J> {
             SessionStays self.old.log self.new.log session }
     {
         self.agree_session(share);
+        self.chronicle.learn(&share.front);
         let steps = alone(self.alloc, step)?;
         let number = self.steps.len() + 1;
         let session = share.number;
@@ -203,14 +212,14 @@ impl<J: Naming> Ledger<J> {
         Ok(())
     }
 
-    // Adds steps of one place of the row to the log, all or none, and to its share.
+    // Adds steps of one seat of the roll to the log, all or none, and to its share.
     fn append(
         &mut self,
         share: &mut Share<J>,
         told: Option<usize>,
         steps: Vec<Step>,
     ) -> Result<(), Fault>
-        requires place { AreOf J.ring.nodes (Some share.old.index) (entries_of told steps.items) }
+        requires seat { AreOf J.ring.nodes (Some share.old.index) (entries_of told steps.items) }
         requires owned { share.old.index < J.ring.nodes + self.old.sessions →
             AreOwned J.ring.nodes self.old.sessions (entries_of told steps.items) }
         requires allowed { MayFollow J.ring J.n self.old.log steps.items }
@@ -221,40 +230,35 @@ impl<J: Naming> Ledger<J> {
         ensures memory { IsOkUnless result Fault.OutOfMemory }
         ensures belongs { IsPartOf J.ring.nodes (layout_of J.ring J.n) self.old share.old }
     {
-        self.row.compare(share);
+        self.roll.compare(share);
         self.steps.reserve(steps.len())?;
         let first = self.steps.len() + 1;
         let batch = Batch { told, first, steps };
         if !self.chronicle.append(&batch) {
             return Err(Fault::OutOfMemory);
         }
-        self.row.grow(share, &batch);
+        self.roll.grow(share, &batch);
         move_all(&mut self.steps, batch.steps);
         Ok(())
     }
 
     /// A receipt of what is covered as the log stands. Takes no memory.
-    pub fn receipt(&self, key: Key, dot: Dot, home: NodeId, holder: NodeId) -> Receipt<J>
-        requires { IsReceipt (steps_of self.now.log) (receipt_parts key dot home holder) }
-        ensures { result ≡ receipt_parts key dot home holder }
+    pub fn receipt(&self, key: Key, dot: Dot, place: Place) -> Receipt<J>
+        requires { IsReceipt (steps_of self.now.log)
+            (receipt_parts key dot place.holder place.home) }
+        ensures { result ≡ receipt_parts key dot place.holder place.home }
     {
-        Receipt::new(key, dot, home, holder, self.chronicle.front())
+        Receipt::new(key, dot, place, self.chronicle.front())
     }
 
     /// An answer that the log has. Takes no memory.
-    pub fn seen(
-        &self,
-        at: usize,
-        holder: NodeId,
-        home: NodeId,
-        key: Key,
-        row: dy_siblings::Row,
-    ) -> Seen<J>
-        requires is { IsAnswer (steps_of self.now.log) (answer_of at holder home key row) }
+    pub fn seen(&self, at: usize, place: Place, key: Key, row: Row) -> Seen<J>
+        requires is { IsAnswer (steps_of self.now.log)
+            (answer_of at place.holder place.home key row) }
         requires of_key { row.key ≡ key }
-        ensures { result ≡ answer_of at holder home key row }
+        ensures { result ≡ answer_of at place.holder place.home key row }
     {
-        Seen::new(at, holder, home, key, row, self.chronicle.front())
+        Seen::new(at, place, key, row, self.chronicle.front())
     }
 
     /// How many steps the log has. Takes no memory.
@@ -287,6 +291,16 @@ impl<J: Naming> Ledger<J> {
         self.chronicle.learn(receipt.front());
     }
 
+    /// Each of the receipts holds as the log stands now, whatever came between. Takes no memory.
+    pub fn learn_receipts(&mut self, receipts: &[Receipt<J>])
+        ensures log { self.new ≡ self.old }
+        ensures hold { All (IsReceipt (steps_of self.old.log)) receipts.now }
+    {
+        for receipt in receipts {
+            self.learn_receipt(receipt);
+        }
+    }
+
     /// The log has the answer at its number, whatever came between. Takes no memory.
     pub fn learn_seen(&mut self, seen: &Seen<J>)
         ensures log { self.new ≡ self.old }
@@ -301,6 +315,21 @@ impl<J: Naming> Ledger<J> {
         ensures reached { since.now ≤ length self.old.log }
     {
         self.chronicle.learn(since.front());
+    }
+
+    /// Whether the share of a node or of a session is missing among these. Takes no memory.
+    pub fn lacks(&self, nodes: &[NodeShare<J>], sessions: &[SessionShare<J>]) -> bool
+        ensures { MatchBool result
+            (IsMissing J.ring.nodes self.now.sessions nodes.now sessions.now)
+            (HasAll J.ring.nodes self.now.sessions nodes.now sessions.now) }
+    {
+        if let Some(_node) = missing_node(nodes, self.nodes as usize) {
+            return true;
+        }
+        if let Some(_session) = missing_session(sessions, self.sessions) {
+            return true;
+        }
+        false
     }
 
     /// Ends the ledger and gives its steps, where each of its shares is handed in; otherwise the
@@ -338,10 +367,10 @@ impl<J: Naming> Ledger<J> {
             sessions: _,
             steps,
             mut chronicle,
-            mut row,
+            mut roll,
         } = self;
-        end_nodes(&mut row, nodes);
-        end_sessions(&mut row, &mut chronicle, sessions);
+        end_nodes(&mut roll, nodes);
+        end_sessions(&mut roll, &mut chronicle, sessions);
         Ok(steps)
     }
 
@@ -353,25 +382,25 @@ impl<J: Naming> Ledger<J> {
             sessions: _,
             steps: _,
             chronicle: _,
-            row: _,
+            roll: _,
         } = self;
         drop_nodes(nodes);
         drop_sessions(sessions);
     }
 }
 
-// Opens a place of the row for each node, and gives its share.
-fn open_nodes<J: Naming>(row: &mut Row<J>, shares: &mut Vec<NodeShare<J>>, nodes: usize)
-    requires row { row.old ≡ [] }
+// Opens a seat of the roll for each node, and gives its share.
+fn open_nodes<J: Naming>(roll: &mut Roll<J>, shares: &mut Vec<NodeShare<J>>, nodes: usize)
+    requires roll { roll.old ≡ [] }
     requires shares { shares.old.items ≡ [] }
     requires room { vec_len shares.old + nodes ≤ vec_capacity shares.old }
     requires nodes { nodes ≡ J.ring.nodes }
     requires small { nodes ≤ MAX_NODES }
-    ensures row { IsRowOf J.ring.nodes [] J.ring.nodes row.new }
+    ensures roll { IsRollOf J.ring.nodes [] J.ring.nodes roll.new }
     ensures shares { shares.new.items ≡ first_parts J.ring.nodes }
 {
     for number in 0..nodes {
-        let share = row.open(number);
+        let share = roll.open(number);
         shares.push_reserved(NodeShare::new(NodeId::nth(number), share));
     }
 }

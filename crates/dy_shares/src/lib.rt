@@ -5,7 +5,9 @@
 mod chronicles;
 mod endings;
 mod entries;
+pub mod laws;
 mod ledgers;
+mod mergings;
 mod names;
 mod node_shares;
 mod parts;
@@ -20,6 +22,7 @@ pub use chronicles::Front;
 pub use endings::EndRefused;
 pub use entries::Entry;
 pub use ledgers::{Ledger, MAX_SESSIONS};
+pub use mergings::Merging;
 pub use names::{Blank, Naming};
 pub use node_shares::NodeShare;
 pub use receipts::Receipt;

@@ -1,7 +1,7 @@
 ghost use Rattle.std.specs.Prelude.{IsOkUnless};
 
 use crate::chronicles::BlankChronicle;
-use crate::parts::BlankRow;
+use crate::parts::BlankRoll;
 use dy_dots::Fault;
 use std::alloc::Global;
 use std::marker::{Brand, Model};
@@ -21,7 +21,7 @@ pub trait Naming {
 
     ghost r: { ℕ };
 
-    // Its log, and its row of shares.
+    // Its log, and its roll of shares.
     ghost book: { Book };
 
     ghost table: { TableId };
@@ -29,7 +29,7 @@ pub trait Naming {
 
 impl Naming for Brand {
     ghost use Rattle.std.specs.Prelude.{[]};
-    ghost use Rattle.dy_shares.specs.Agreeing.{no_table};
+    ghost use Rattle.dy_shares.specs.inside.Agreeing.{no_table};
 
     ghost ring = { record { nodes = 0; tokens = [] } };
 
@@ -42,32 +42,32 @@ impl Naming for Brand {
     ghost table = { no_table };
 }
 
-/// A log and a row of shares that have no name yet. A program makes it first, and then picks the
+/// A log and a roll of shares that have no name yet. A program makes it first, and then picks the
 /// name by it.
 #[derive(Drop)]
 pub struct Blank {
     pub(crate) chronicle: BlankChronicle,
-    pub(crate) row: BlankRow,
+    pub(crate) roll: BlankRoll,
 }
 
 impl Model for Blank {
-    ghost use Rattle.dy_shares.specs.Growth.{BlankNames};
+    ghost use Rattle.dy_shares.specs.Shares.{BlankNames};
 
     ghost Value = { BlankNames };
 
     ghost view = { λ b.
-        record { book = b.chronicle.seen.book; table = b.row.table.shared.table_id } };
+        record { book = b.chronicle.seen.book; table = b.roll.table.shared.table_id } };
 }
 
 impl Blank {
-    /// A log without a step, and a row without a share.
+    /// A log without a step, and a roll without a share.
     pub fn new(alloc: Global) -> Result<Blank, Fault>
         ensures memory { IsOkUnless result Fault.OutOfMemory }
     {
-        let row = BlankRow::new(alloc)?;
+        let roll = BlankRoll::new(alloc)?;
         let Some(chronicle) = BlankChronicle::new() else {
             return Err(Fault::OutOfMemory);
         };
-        Ok(Blank { chronicle, row })
+        Ok(Blank { chronicle, roll })
     }
 }

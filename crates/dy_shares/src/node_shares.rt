@@ -1,8 +1,8 @@
 ghost use Rattle.std.specs.Prelude.{◌≡◌, ◌<◌};
-ghost use Rattle.dy_shares.specs.Parts.{AgreesAsNode, done_steps};
+ghost use Rattle.dy_shares.specs.inside.Parts.{AgreesAsNode, done_steps};
 
 use crate::names::Naming;
-use crate::parts::{Row, Share};
+use crate::parts::{Roll, Share};
 use dy_dots::NodeId;
 use std::marker::Model;
 
@@ -15,7 +15,7 @@ pub struct NodeShare<J: Naming> {
 
 impl<J: Naming> Model for NodeShare<J> {
     ghost use Rattle.std.specs.Prelude.{◌≡◌, ◌<◌};
-    ghost use Rattle.dy_shares.specs.Parts.{done_steps};
+    ghost use Rattle.dy_shares.specs.inside.Parts.{done_steps};
     ghost use Rattle.dy_shares.specs.Shares.{NodePart, node_part_code};
 
     ghost Value = { NodePart };
@@ -28,7 +28,7 @@ impl<J: Naming> Model for NodeShare<J> {
 }
 
 impl<J: Naming> NodeShare<J> {
-    // The share of a place as its node's.
+    // The share of a seat as its node's.
     pub(crate) fn new(node: NodeId, share: Share<J>) -> NodeShare<J>
         requires place { share.index ≡ node }
         requires valid { node < J.ring.nodes }
@@ -45,14 +45,14 @@ impl<J: Naming> NodeShare<J> {
         self.node
     }
 
-    // Compares the share with its place of the row, for the last time.
-    pub(crate) fn end(self, row: &mut Row<J>)
-        ensures same { row.new ≡ row.old }
+    // Compares the share with its seat of the roll, for the last time.
+    pub(crate) fn end(self, roll: &mut Roll<J>)
+        ensures same { roll.new ≡ roll.old }
         ensures low { self.node < J.ring.nodes }
-        ensures agrees { AgreesAsNode row.old self }
+        ensures agrees { AgreesAsNode roll.old self }
     {
         let NodeShare { node: _, share } = self;
-        row.end(share);
+        roll.end(share);
     }
 
     // Only a ledger that ends lets a share go.

@@ -1,19 +1,19 @@
-// A row of shares, each of which agrees with its place in the row.
+// A roll of shares, each of which agrees with its seat in the roll.
 ghost use Rattle.std.specs.Prelude.{◌≡◌, ◌<◌, ◌++◌, ◌∷◌, [], length, slice_set};
 ghost use mathlib.Core.Option.{some};
 ghost use lib.ListN.{get_elem?};
-ghost use Rattle.dy_shares.specs.Agreeing.{knower};
-ghost use Rattle.dy_shares.specs.Parts.{held, with_done};
+ghost use Rattle.dy_shares.specs.inside.Agreeing.{knower};
+ghost use Rattle.dy_shares.specs.inside.Parts.{held, with_done};
 
 use crate::entries::{Batch, Done};
 use crate::names::Naming;
-use atomic_table::{Badge, Join, Play, Seat, Split, Table, TableRule};
+use atomic_table::{Badge, Join, Play, Seat as Party, Split, Table, TableRule};
 use std::alloc::{AllocError, Global};
 use std::collections::LinkedList;
 use std::marker::{Model, PhantomData};
 use std::mem;
 
-/// What a seat knows: the keeper of the row all parts, and a share its index and its own part. No
+/// What a party knows: the keeper of the roll all parts, and a share its seat and its own part. No
 /// value of it is made.
 pub struct View {
     pub keeps: bool,
@@ -23,12 +23,12 @@ pub struct View {
     pub own: LinkedList<Done>,
 }
 
-/// The rule of the row.
+/// The rule of the roll.
 pub struct Agreement;
 
 impl TableRule<Batch, View, ()> for Agreement {
     ghost use Rattle.std.specs.Prelude.{[]};
-    ghost use Rattle.dy_shares.specs.Agreeing.{Agree, knower};
+    ghost use Rattle.dy_shares.specs.inside.Agreeing.{Agree, knower};
 
     ghost holds = { λ key s. Agree s.views };
 
@@ -39,37 +39,37 @@ impl TableRule<Batch, View, ()> for Agreement {
 pub struct Compare;
 
 impl Play<Batch, View> for Compare {
-    ghost use Rattle.dy_shares.specs.Agreeing.{Compares};
+    ghost use Rattle.dy_shares.specs.inside.Agreeing.{Compares};
 
     ghost then = { Compares };
 }
 
-/// The keeper changes the share that it holds, and its place in the row.
+/// The keeper changes the share that it holds, and its seat in the roll.
 pub struct Grow;
 
 impl Play<Batch, View> for Grow {
-    ghost use Rattle.dy_shares.specs.Agreeing.{Grows};
-    ghost use Rattle.dy_shares.specs.Parts.{numbered};
+    ghost use Rattle.dy_shares.specs.inside.Agreeing.{Grows};
+    ghost use Rattle.dy_shares.specs.inside.Parts.{numbered};
 
     ghost then = { Grows (λ batch. numbered batch.first batch.steps.items) };
 }
 
-/// A new place, and its share.
+/// A new seat, and its share.
 pub struct Opens;
 
 impl Split<View> for Opens {
-    ghost use Rattle.dy_shares.specs.Agreeing.{opened, newest};
+    ghost use Rattle.dy_shares.specs.inside.Agreeing.{opened, newest_share};
 
     ghost left = { opened };
 
-    ghost right = { newest };
+    ghost right = { newest_share };
 }
 
 /// The keeper takes a share in, and gives it out again.
 pub struct Lends;
 
 impl Split<View> for Lends {
-    ghost use Rattle.dy_shares.specs.Agreeing.{alone, lent};
+    ghost use Rattle.dy_shares.specs.inside.Agreeing.{alone, lent};
 
     ghost left = { alone };
 
@@ -77,7 +77,7 @@ impl Split<View> for Lends {
 }
 
 impl Join<View> for Lends {
-    ghost use Rattle.dy_shares.specs.Agreeing.{holding, nobody};
+    ghost use Rattle.dy_shares.specs.inside.Agreeing.{holding, nobody};
 
     ghost both = { holding };
 
@@ -86,42 +86,42 @@ impl Join<View> for Lends {
 
 type Desk = Table<Batch, View, (), Agreement, Global>;
 
-/// A row with no place, not named yet.
+/// A roll with no seat, not named yet.
 #[derive(Drop)]
-pub struct BlankRow {
+pub struct BlankRoll {
     pub table: Desk,
-    seat: Seat<Batch, View>,
+    keeper: Party<Batch, View>,
     pub ghost words: { 0 < table.shared.table_id.words },
-    pub ghost fits: { seat.table_id ≡ table.shared.table_id },
-    pub ghost empty: { seat.me ≡ (knower [], []) },
+    pub ghost fits: { keeper.table_id ≡ table.shared.table_id },
+    pub ghost empty: { keeper.me ≡ (knower [], []) },
 }
 
 /// All parts. To a contract it is the list of them.
 #[derive(Drop)]
-pub struct Row<J: Naming> {
+pub struct Roll<J: Naming> {
     table: Desk,
-    seat: Seat<Batch, View>,
+    keeper: Party<Batch, View>,
     of: PhantomData<J>,
 }
 
-impl<J: Naming> Model for Row<J> {
+impl<J: Naming> Model for Roll<J> {
     ghost use Rattle.std.specs.Prelude.{◌≡◌, ◌<◌, List, []};
-    ghost use Rattle.dy_shares.specs.Agreeing.{knower};
+    ghost use Rattle.dy_shares.specs.inside.Agreeing.{knower};
     ghost use Rattle.dy_shares.specs.declared.entries.Done.{Done};
-    ghost use Rattle.dy_shares.specs.Parts.{parts_code};
+    ghost use Rattle.dy_shares.specs.inside.Parts.{parts_code};
 
     ghost Value = { List (List Done) };
 
     ghost coded = { parts_code };
 
-    ghost view = { λ r. r.seat.me.0.parts };
+    ghost view = { λ r. r.keeper.me.0.parts };
 
     ghost invariant = { λ r.
-        (r.table.shared.table_id ≡ J.table) × (r.seat.table_id ≡ J.table)
-        × (0 < r.table.shared.table_id.words) × (r.seat.me ≡ (knower r.seat.me.0.parts, [])) };
+        (r.table.shared.table_id ≡ J.table) × (r.keeper.table_id ≡ J.table)
+        × (0 < r.table.shared.table_id.words) × (r.keeper.me ≡ (knower r.keeper.me.0.parts, [])) };
 }
 
-/// A share of one place. It must be handed in. To a contract it is its index and its part.
+/// A share of one seat. It must be handed in. To a contract it is its index and its part.
 pub struct Share<J: Naming> {
     index: usize,
     badge: Badge<View>,
@@ -130,8 +130,8 @@ pub struct Share<J: Naming> {
 
 impl<J: Naming> Model for Share<J> {
     ghost use Rattle.std.specs.Prelude.{◌≡◌, [], ◌∷◌};
-    ghost use Rattle.dy_shares.specs.Agreeing.{share_of, part_of};
-    ghost use Rattle.dy_shares.specs.Parts.{Held, held, held_code};
+    ghost use Rattle.dy_shares.specs.inside.Agreeing.{share_of, part_of};
+    ghost use Rattle.dy_shares.specs.inside.Parts.{Held, held, held_code};
 
     ghost Value = { Held };
 
@@ -144,20 +144,20 @@ impl<J: Naming> Model for Share<J> {
         × (s.badge.views ≡ share_of s.index (part_of s.badge.views) ∷ []) };
 }
 
-impl BlankRow {
-    pub(crate) fn new(alloc: Global) -> Result<BlankRow, AllocError> {
-        let (table, seat) = Table::of_words(alloc, &[0], &())?;
-        Ok(BlankRow { table, seat })
+impl BlankRoll {
+    pub(crate) fn new(alloc: Global) -> Result<BlankRoll, AllocError> {
+        let (table, keeper) = Table::of_words(alloc, &[0], &())?;
+        Ok(BlankRoll { table, keeper })
     }
 
-    pub(crate) fn named<J: Naming>(self) -> Row<J>
+    pub(crate) fn named<J: Naming>(self) -> Roll<J>
         requires { self.table.shared.table_id ≡ J.table }
         ensures { result ≡ [] }
     {
-        let BlankRow { table, seat } = self;
-        Row {
+        let BlankRoll { table, keeper } = self;
+        Roll {
             table,
-            seat,
+            keeper,
             of: PhantomData,
         }
     }
@@ -179,49 +179,49 @@ impl<J: Naming> Share<J> {
     }
 }
 
-impl<J: Naming> Row<J> {
-    // A new place at the end, and its share. `index` is how many there are.
+impl<J: Naming> Roll<J> {
+    // A new seat at the end, and its share. `index` is how many there are.
     pub(crate) fn open(&mut self, index: usize) -> Share<J>
         requires { index ≡ length self.old }
-        ensures row { self.new ≡ self.old ++ [] ∷ [] }
+        ensures roll { self.new ≡ self.old ++ [] ∷ [] }
         ensures share { result ≡ held index [] }
     {
         let table = &self.table;
-        let seat = table.shared.split_seat::<Opens>(&mut self.seat);
+        let party = table.shared.split_seat::<Opens>(&mut self.keeper);
         Share {
             index,
-            badge: seat.into_badge(),
+            badge: party.into_badge(),
             of: PhantomData,
         }
     }
 
-    // The share agrees with its place.
+    // The share agrees with its seat.
     pub(crate) fn compare(&mut self, share: &mut Share<J>)
         ensures same { (self.new ≡ self.old) × (share.new ≡ share.old) }
         ensures agree { get_elem? self.old share.old.index ≡ some share.old.part }
     {
-        let seat = mem::replace(&mut share.badge, Badge::blank()).into_seat::<Batch>();
+        let party = mem::replace(&mut share.badge, Badge::blank()).into_seat::<Batch>();
         let table = &self.table;
-        table.shared.join_seat::<Lends>(&mut self.seat, seat);
-        table.shared.load::<Compare>(&mut self.seat, 0);
-        let seat = table.shared.split_seat::<Lends>(&mut self.seat);
-        share.badge = seat.into_badge();
+        table.shared.join_seat::<Lends>(&mut self.keeper, party);
+        table.shared.load::<Compare>(&mut self.keeper, 0);
+        let party = table.shared.split_seat::<Lends>(&mut self.keeper);
+        share.badge = party.into_badge();
     }
 
-    // The steps go to the share and to its place.
+    // The steps go to the share and to its seat.
     pub(crate) fn grow(&mut self, share: &mut Share<J>, batch: &Batch)
-        ensures row { self.new ≡ slice_set self.old share.old.index
+        ensures roll { self.new ≡ slice_set self.old share.old.index
             (with_done share.old batch.now.first batch.now.steps.items).part }
         ensures share { share.new ≡ with_done share.old batch.now.first batch.now.steps.items }
     {
-        let seat = mem::replace(&mut share.badge, Badge::blank()).into_seat::<Batch>();
+        let party = mem::replace(&mut share.badge, Badge::blank()).into_seat::<Batch>();
         let table = &self.table;
-        table.shared.join_seat::<Lends>(&mut self.seat, seat);
+        table.shared.join_seat::<Lends>(&mut self.keeper, party);
         table
             .shared
-            .compare_exchange_with::<Grow>(&mut self.seat, 0, 0, 0, batch);
-        let seat = table.shared.split_seat::<Lends>(&mut self.seat);
-        share.badge = seat.into_badge();
+            .compare_exchange_with::<Grow>(&mut self.keeper, 0, 0, 0, batch);
+        let party = table.shared.split_seat::<Lends>(&mut self.keeper);
+        share.badge = party.into_badge();
     }
 
     // The share comes back for good.

@@ -3,6 +3,7 @@ ghost use Rattle.dy_shares.specs.Shares.{IsReceipt, receipt_parts, steps_of};
 
 use crate::chronicles::Front;
 use crate::names::Naming;
+use dy_core::Place;
 use dy_dots::{Dot, Fault, NodeId};
 use dy_siblings::Key;
 use std::alloc::Global;
@@ -14,41 +15,34 @@ use std::marker::Model;
 pub struct Receipt<J: Naming> {
     key: Key,
     dot: Dot,
-    home: NodeId,
-    holder: NodeId,
+    place: Place,
     front: Front<J>,
 }
 
 impl<J: Naming> Model for Receipt<J> {
-    ghost use Rattle.dy_shares.specs.Shares.{ReceiptParts, receipt_parts, receipt_parts_code, IsReceipt, steps_of};
+    ghost use Rattle.dy_shares.specs.Shares.{ReceiptParts, receipt_parts, receipt_parts_code};
+    ghost use Rattle.dy_shares.specs.Shares.{IsReceipt, steps_of};
 
     ghost Value = { ReceiptParts };
 
     ghost coded = { receipt_parts_code };
 
-    ghost view = { λ r. receipt_parts r.key r.dot r.home r.holder };
+    ghost view = { λ r. receipt_parts r.key r.dot r.place.holder r.place.home };
 
     ghost invariant = { λ r.
-        IsReceipt (steps_of r.front) (receipt_parts r.key r.dot r.home r.holder) };
+        IsReceipt (steps_of r.front) (receipt_parts r.key r.dot r.place.holder r.place.home) };
 }
 
 impl<J: Naming> Receipt<J> {
     // What holds of the log as it stood at the front.
-    pub(crate) fn new(
-        key: Key,
-        dot: Dot,
-        home: NodeId,
-        holder: NodeId,
-        front: Front<J>,
-    ) -> Receipt<J>
-        requires { IsReceipt (steps_of front) (receipt_parts key dot home holder) }
-        ensures { result ≡ receipt_parts key dot home holder }
+    pub(crate) fn new(key: Key, dot: Dot, place: Place, front: Front<J>) -> Receipt<J>
+        requires { IsReceipt (steps_of front) (receipt_parts key dot place.holder place.home) }
+        ensures { result ≡ receipt_parts key dot place.holder place.home }
     {
         Receipt {
             key,
             dot,
-            home,
-            holder,
+            place,
             front,
         }
     }
@@ -67,18 +61,18 @@ impl<J: Naming> Receipt<J> {
         self.dot
     }
 
-    /// The home that is covered. Takes no memory.
-    pub fn home(&self) -> NodeId
-        ensures { result ≡ self.now.home }
-    {
-        self.home
-    }
-
     /// Who held the version for the home. Takes no memory.
     pub fn holder(&self) -> NodeId
         ensures { result ≡ self.now.holder }
     {
-        self.holder
+        self.place.holder
+    }
+
+    /// The home that is covered. Takes no memory.
+    pub fn home(&self) -> NodeId
+        ensures { result ≡ self.now.home }
+    {
+        self.place.home
     }
 
     // The log as it stood, at which it was made.
@@ -96,8 +90,7 @@ impl<J: Naming> Receipt<J> {
         Ok(Receipt {
             key: self.key.try_clone(alloc)?,
             dot: self.dot,
-            home: self.home,
-            holder: self.holder,
+            place: self.place,
             front: self.front.copied(),
         })
     }

@@ -1,9 +1,11 @@
 ghost use Rattle.std.specs.Prelude.{◌≡◌, ◌≤◌, length, IfOk, IsOkUnless};
-ghost use Rattle.dy_core.specs.Logs.{IsAnswer};
+ghost use Rattle.dy_core.specs.Worlds.{layout_of};
+ghost use Rattle.dy_core.specs.Logs.{IsAnswer, IsLegal};
 ghost use Rattle.dy_shares.specs.Shares.{answer_of, steps_of};
 
 use crate::chronicles::Front;
 use crate::names::Naming;
+use dy_core::Place;
 use dy_dots::{Fault, NodeId};
 use dy_siblings::{Key, Row};
 use std::alloc::Global;
@@ -14,8 +16,7 @@ use std::marker::Model;
 #[derive(Drop)]
 pub struct Seen<J: Naming> {
     at: usize,
-    holder: NodeId,
-    home: NodeId,
+    place: Place,
     key: Key,
     row: Row,
     front: Front<J>,
@@ -23,38 +24,32 @@ pub struct Seen<J: Naming> {
 
 impl<J: Naming> Model for Seen<J> {
     ghost use Rattle.std.specs.Prelude.{◌≡◌};
-    ghost use Rattle.dy_core.specs.Logs.{Answer, IsAnswer};
+    ghost use Rattle.dy_core.specs.Worlds.{layout_of};
+    ghost use Rattle.dy_core.specs.Logs.{Answer, IsAnswer, IsLegal};
     ghost use Rattle.dy_shares.specs.Shares.{answer_code, answer_of, steps_of};
 
     ghost Value = { Answer };
 
     ghost coded = { answer_code };
 
-    ghost view = { λ s. answer_of s.at s.holder s.home s.key s.row };
+    ghost view = { λ s. answer_of s.at s.place.holder s.place.home s.key s.row };
 
     ghost invariant = { λ s.
-        IsAnswer (steps_of s.front) (answer_of s.at s.holder s.home s.key s.row)
-        × (s.row.key ≡ s.key) };
+        IsAnswer (steps_of s.front) (answer_of s.at s.place.holder s.place.home s.key s.row)
+        × (s.row.key ≡ s.key) × IsLegal (layout_of J.ring J.n) (steps_of s.front) };
 }
 
 impl<J: Naming> Seen<J> {
     // What the log has at this number as it stood at the front.
-    pub(crate) fn new(
-        at: usize,
-        holder: NodeId,
-        home: NodeId,
-        key: Key,
-        row: Row,
-        front: Front<J>,
-    ) -> Seen<J>
-        requires is { IsAnswer (steps_of front) (answer_of at holder home key row) }
+    pub(crate) fn new(at: usize, place: Place, key: Key, row: Row, front: Front<J>) -> Seen<J>
+        requires is { IsAnswer (steps_of front) (answer_of at place.holder place.home key row) }
         requires of_key { row.key ≡ key }
-        ensures { result ≡ answer_of at holder home key row }
+        requires legal { IsLegal (layout_of J.ring J.n) (steps_of front) }
+        ensures { result ≡ answer_of at place.holder place.home key row }
     {
         Seen {
             at,
-            holder,
-            home,
+            place,
             key,
             row,
             front,
@@ -72,14 +67,14 @@ impl<J: Naming> Seen<J> {
     pub fn holder(&self) -> NodeId
         ensures { result ≡ self.now.holder }
     {
-        self.holder
+        self.place.holder
     }
 
     /// The home that it answered for. Takes no memory.
     pub fn home(&self) -> NodeId
         ensures { result ≡ self.now.home }
     {
-        self.home
+        self.place.home
     }
 
     /// The key that was asked for. Takes no memory.
@@ -103,8 +98,7 @@ impl<J: Naming> Seen<J> {
     {
         Ok(Seen {
             at: self.at,
-            holder: self.holder,
-            home: self.home,
+            place: self.place,
             key: self.key.try_clone(alloc)?,
             row: self.row.try_clone(alloc)?,
             front: self.front.copied(),
@@ -114,6 +108,7 @@ impl<J: Naming> Seen<J> {
     // The log as it stood, at which it was made.
     pub(crate) fn front(&self) -> &Front<J>
         ensures is { IsAnswer (steps_of result.now) self.now }
+        ensures legal { IsLegal (layout_of J.ring J.n) (steps_of result.now) }
         ensures reached { self.now.at ≤ length result.now }
     {
         &self.front

@@ -1,13 +1,14 @@
-ghost use Rattle.std.specs.Prelude.{◌≡◌, ℕ, ◌+◌, ◌<◌, ◌≤◌, max, nat_eq, map, length, List, [], OnOk, OnErr, IsOkUnless};
+ghost use Rattle.std.specs.Prelude.{◌≡◌, ℕ, ◌+◌, ◌<◌, ◌≤◌, max, nat_eq, map, length, List, []};
+ghost use Rattle.std.specs.Prelude.{OnOk, OnErr, IsOkUnless};
 ghost use Rattle.std.specs.List.{All, IsDistinct};
 ghost use mathlib.Core.List.{IsPrefix};
 ghost use Rattle.dy_core.specs.Logs.{Answer, IsAnswer};
-ghost use Rattle.dy_shares.specs.Parts.{AgreesAsSession, held};
+ghost use Rattle.dy_shares.specs.inside.Parts.{AgreesAsSession, held};
 ghost use Rattle.dy_shares.specs.Shares.{first_session, greatest, since_of, steps_of, with_get};
 
 use crate::chronicles::{Chronicle, Front};
 use crate::names::Naming;
-use crate::parts::{Row, Share};
+use crate::parts::{Roll, Share};
 use crate::seens::Seen;
 use crate::sinces::Since;
 use dy_dots::Fault;
@@ -43,7 +44,7 @@ pub struct SessionShare<J: Naming> {
 }
 
 impl<J: Naming> Model for SessionShare<J> {
-    ghost use Rattle.dy_shares.specs.Parts.{IsSessionShare, told_parts};
+    ghost use Rattle.dy_shares.specs.inside.Parts.{IsSessionShare, told_parts};
     ghost use Rattle.dy_shares.specs.Shares.{SessionPart, session_part_code};
 
     ghost Value = { SessionPart };
@@ -60,7 +61,7 @@ impl<J: Naming> Model for SessionShare<J> {
 impl<J: Naming> SessionShare<J> {
     ghost use Rattle.dy_shares.specs.Shares.{GetMatches};
 
-    // The share of a place as its session's, which was told nothing yet.
+    // The share of a seat as its session's, which was told nothing yet.
     pub(crate) fn new(
         alloc: Global,
         number: usize,
@@ -125,11 +126,11 @@ impl<J: Naming> SessionShare<J> {
         &self.front
     }
 
-    // Compares the share with its place of the row, for the last time, and its gets with the log.
-    pub(crate) fn end(self, row: &mut Row<J>, chronicle: &mut Chronicle<J>)
-        ensures row { row.new ≡ row.old }
+    // Compares the share with its seat of the roll, for the last time, and its gets with the log.
+    pub(crate) fn end(self, roll: &mut Roll<J>, chronicle: &mut Chronicle<J>)
+        ensures roll { roll.new ≡ roll.old }
         ensures chronicle { chronicle.new ≡ chronicle.old }
-        ensures agrees { AgreesAsSession J.ring.nodes J.r row.old chronicle.old self }
+        ensures agrees { AgreesAsSession J.ring.nodes J.r roll.old chronicle.old self }
     {
         let SessionShare {
             number: _,
@@ -138,7 +139,7 @@ impl<J: Naming> SessionShare<J> {
             since: _,
             front,
         } = self;
-        row.end(share);
+        roll.end(share);
         chronicle.learn(&front);
     }
 

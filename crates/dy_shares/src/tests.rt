@@ -1,126 +1,12 @@
-ghost use Rattle.std.specs.Prelude.{◌≡◌, []};
-ghost use Rattle.std.specs.List.{All};
+ghost use Rattle.std.specs.Prelude.{◌≡◌};
 
 mod scenes;
 mod watched;
 
-use crate::{Blank, EndRefused, Ledger, Naming, NodeShare, Seen};
-use dy_core::Step;
-use dy_dots::{Context, Fault};
-use dy_siblings::{Key, Row};
+use crate::{Blank, EndRefused, Ledger, Naming};
+use dy_dots::Fault;
 use std::alloc::Global;
 use std::marker::Brand;
-use std::sync::{Mutex, Wait};
-use std::thread::{Threads, for_each_mut};
-
-// A node that has made no step fetches from itself, and then makes a version.
-fn look_and_write<J: Naming>(
-    alloc: Global,
-    ledger: &mut Ledger<J>,
-    share: &mut NodeShare<J>,
-) -> Result<Seen<J>, Fault>
-    requires { share.old.steps ≡ [] }
-{
-    let node = share.node();
-    let key = Key::new(alloc, b"k")?;
-    let asked = key.try_clone(alloc)?;
-    let of_row = key.try_clone(alloc)?;
-    let of_seen = key.try_clone(alloc)?;
-    let mut steps = Vec::with_capacity(alloc, 1)?;
-    steps.push_reserved(Step::Issue {
-        node,
-        key,
-        context: Context::new(alloc),
-        value: None,
-    });
-    ledger.agree(share);
-    ledger.fetch_step(Step::Fetch {
-        holder: node,
-        home: node,
-        key: asked,
-    })?;
-    let at = ledger.steps().len();
-    let seen = ledger.seen(at, node, node, of_seen, Row::new(alloc, of_row));
-    ledger.node_steps(share, steps)?;
-    Ok(seen)
-}
-
-// One thread: it steps under the lock, takes the answer out of it, and spends the answer under the
-// lock later, whatever the other thread did in between.
-fn work<J: Naming>(
-    rt: &impl Wait,
-    alloc: Global,
-    ledger: &Mutex<Ledger<J>>,
-    share: &mut NodeShare<J>,
-)
-    requires { share.old.steps ≡ [] }
-{
-    let made = {
-        let mut guard = ledger.lock(rt);
-        look_and_write(alloc, &mut *guard, share)
-    };
-    if let Ok(seen) = made {
-        let mut guard = ledger.lock(rt);
-        let ledger = &mut *guard;
-        ledger.learn_seen(&seen);
-        let found = ledger.steps().get(seen.at() - 1).is_some();
-        prove!(found);
-    }
-}
-
-// Each node's thread.
-fn beside<J: Naming + Send + Sync, R: Threads + Wait + Sync>(
-    rt: &R,
-    alloc: Global,
-    ledger: &Mutex<Ledger<J>>,
-    shares: &mut [NodeShare<J>],
-)
-    requires { All (λ p. p.steps ≡ []) shares.old }
-{
-    for_each_mut(rt, shares, 2, &|_, share| work(rt, alloc, ledger, share));
-}
-
-// Two threads step with a share each, and hand in.
-fn two<J: Naming + Send + Sync, R: Threads + Wait + Sync>(
-    rt: &R,
-    alloc: Global,
-    blank: Blank,
-) -> Result<Vec<Step>, Fault>
-    requires named { blank ≡ record { book = J.book; table = J.table } }
-    requires nodes { J.ring.nodes ≡ 2 }
-{
-    let (ledger, mut nodes) = Ledger::<J>::open(alloc, blank, 2)?;
-    let shared = Mutex::new(ledger);
-    beside(rt, alloc, &shared, nodes.as_mut_slice());
-    match shared.into_inner().end(nodes, Vec::new(alloc)) {
-        Ok(steps) => Ok(steps),
-        Err(refused) => {
-            refused.abandon();
-            Err(Fault::SharesMissing)
-        }
-    }
-}
-
-// How many versions the node made.
-fn made_by(steps: &[Step], number: u8) -> usize {
-    steps
-        .iter()
-        .filter(|step| matches!(step, Step::Issue { node, .. } if node.number() == number))
-        .count()
-}
-
-#[test]
-fn two_threads_hand_in(rt: HostRuntime) -> Result<(), Fault> {
-    let blank = Blank::new(rt.alloc())?;
-    let steps = two::<Brand, _>(&rt, rt.alloc(), blank)?;
-    let fetches = steps
-        .iter()
-        .filter(|step| matches!(step, Step::Fetch { .. }))
-        .count();
-    assert!(&rt; made_by(steps.as_slice(), 0) == 1 && made_by(steps.as_slice(), 1) == 1);
-    assert!(&rt; fetches == 2 && steps.len() == 4);
-    Ok(())
-}
 
 // A session's share is kept back, and then handed in.
 fn missing<J: Naming>(alloc: Global, blank: Blank) -> Result<bool, Fault>

@@ -2,34 +2,30 @@
 use Rattle.std.proofs.Common.{◌≡◌, ℕ, Bool, true, false, ◌&&◌, not, List, ◌++◌, Option, Some, None, refl, sym, ap, ◌∙◌, ⊎_elim}
 use Rattle.std.specs.Prelude.{nat_eq}
 use Rattle.std.specs.List.{list_any, Contains}
-use Rattle.std.specs.Cmp.Lexicographic.{pointwise, bytes_decides}
+use Rattle.std.specs.Cmp.Lexicographic.{pointwise}
 use Rattle.std.specs.FinSet as set
 use Rattle.std.proofs.lemmas.Bool.{and_parts, and_from, true≢false, not-true, not_from_false, cases_Bool}
 use Rattle.std.proofs.lemmas.List.Elements.{Contains-append_left, Contains-append_right, Contains-append_cases}
 use Rattle.dy_dots.specs.Dots.{DotSet, same_dot}
-use Rattle.dy_dots.proofs.Sets.{dot_total}
-use Rattle.dy_siblings.specs.Versions.{VersionParts, same_value, same_version, do_conflict}
+use Rattle.dy_dots.proofs.Sets.{dot_total, same_dots}
+use Rattle.dy_siblings.specs.Versions.{VersionParts}
+use Rattle.dy_siblings.specs.inside.Conflicts.{same_value, same_version, do_conflict}
 use Rattle.dy_siblings.specs.Siblings.{AreOneByDot, Rise}
-use Rattle.dy_siblings.specs.Merging.{do_lists_conflict}
+use Rattle.dy_siblings.specs.inside.Merging.{do_lists_conflict}
+use Rattle.dy_siblings.proofs.SameKeys.{same_key_is, same_key_self}
 use Rattle.dy_siblings.proofs.Members.{any_gives, any_from, none_from}
-use Rattle.dy_siblings.proofs.Dots.{same_dot_is, same_dot_self, same_dots}
+use Rattle.dy_dots.proofs.SameDots.{same_dot_is, same_dot_self}
 use Rattle.dy_siblings.proofs.Rising.{one_in_rising}
-
-same_bytes_self : (a : List ℕ) → pointwise nat_eq a a ≡ true
-same_bytes_self a = (bytes_decides a a).1 refl
-
-same_bytes_is : (a b : List ℕ) → pointwise nat_eq a b ≡ true → a ≡ b
-same_bytes_is a b e = (bytes_decides a b).0 e
 
 same_value_is : (x y : Option (List ℕ)) → same_value x y ≡ true → x ≡ y
 same_value_is None None e = refl
-same_value_is (Some a) (Some b) e = ap Some (same_bytes_is a b e)
+same_value_is (Some a) (Some b) e = ap Some (same_key_is a b e)
 same_value_is None (Some b) e = absurd (true≢false (sym e))
 same_value_is (Some a) None e = absurd (true≢false (sym e))
 
 same_value_self : (x : Option (List ℕ)) → same_value x x ≡ true
 same_value_self None = refl
-same_value_self (Some a) = same_bytes_self a
+same_value_self (Some a) = same_key_self a
 
 subset_self : (s : DotSet) → set.is_subset s s ≡ true
 subset_self s = set.contains-is_subset dot_total s s (λ d e. e)
@@ -49,7 +45,7 @@ same_version_is u v e =
     let name = and_parts (pointwise nat_eq u.key v.key) (same_dot u.dot v.dot) halves.0 in
     let rest = and_parts (set.is_subset u.past v.past && set.is_subset v.past u.past) (same_value u.value v.value) halves.1 in
     let pasts = and_parts (set.is_subset u.past v.past) (set.is_subset v.past u.past) rest.0 in
-    let k : u.key ≡ v.key = same_bytes_is u.key v.key name.0 in
+    let k : u.key ≡ v.key = same_key_is u.key v.key name.0 in
     let d : u.dot ≡ v.dot = same_dot_is u.dot v.dot name.1 in
     let p : u.past ≡ v.past = one_set u.past v.past pasts.0 pasts.1 in
     let x : u.value ≡ v.value = same_value_is u.value v.value rest.1 in
@@ -58,7 +54,7 @@ same_version_is u v e =
 same_version_self : (u : VersionParts) → same_version u u ≡ true
 same_version_self u =
     and_from (pointwise nat_eq u.key u.key && same_dot u.dot u.dot) ((set.is_subset u.past u.past && set.is_subset u.past u.past) && same_value u.value u.value)
-    (and_from (pointwise nat_eq u.key u.key) (same_dot u.dot u.dot) (same_bytes_self u.key) (same_dot_self u.dot))
+    (and_from (pointwise nat_eq u.key u.key) (same_dot u.dot u.dot) (same_key_self u.key) (same_dot_self u.dot))
     (and_from (set.is_subset u.past u.past && set.is_subset u.past u.past) (same_value u.value u.value)
     (and_from (set.is_subset u.past u.past) (set.is_subset u.past u.past) (subset_self u.past) (subset_self u.past))
     (same_value_self u.value))

@@ -3,11 +3,12 @@ use Rattle.std.proofs.Common.{◌≡◌, false, ◌||◌, List, [], ◌∷◌, r
 use Rattle.std.specs.List.{list_any}
 use Rattle.std.proofs.lemmas.Bool.{and_parts, cases_Bool}
 use Rattle.dy_dots.specs.Dots.{IsDotBefore, same_dot}
-use Rattle.dy_siblings.specs.Versions.{VersionParts, same_version, do_conflict}
+use Rattle.dy_siblings.specs.Versions.{VersionParts}
+use Rattle.dy_siblings.specs.inside.Conflicts.{same_version, do_conflict}
 use Rattle.dy_siblings.specs.Siblings.{Rise, RiseAfter}
-use Rattle.dy_siblings.specs.Merging.{do_lists_conflict}
+use Rattle.dy_siblings.specs.inside.Merging.{do_lists_conflict}
 use Rattle.dy_siblings.proofs.Members.{none_from}
-use Rattle.dy_siblings.proofs.Dots.{same_dot_is}
+use Rattle.dy_dots.proofs.SameDots.{same_dot_is}
 use Rattle.dy_siblings.proofs.Rising.{after_all, before_not_self, rise_earlier, tail_rises}
 
 -- what is left of both lists conflicts where the whole lists do

@@ -1,5 +1,6 @@
-pub mod Dots
+pub mod Histories
 pub mod Members
+pub mod SameKeys
 pub mod Rising
 pub mod Walking
 pub mod Merges

@@ -5,11 +5,14 @@ use Rattle.std.specs.FinSet as set
 use Rattle.std.proofs.lemmas.Bool.{cases_Bool, or_cases, or_right, true≢false, not-true, not_from_false}
 use Rattle.std.proofs.lemmas.List.Elements.{All-contains, Contains-append_left, Contains-append_right, Contains-append_cases}
 use Rattle.std.proofs.lemmas.List.Folds.{list_any-append}
+use Rattle.std.proofs.lemmas.List.{append-nil}
 use Rattle.dy_dots.specs.Dots.{DotNumbers, same_dot}
 use Rattle.dy_siblings.specs.Versions.{VersionParts, IsVersion, in_history, with_value}
 use Rattle.dy_siblings.specs.Siblings.{AreClosed, IsSameRow, context_of, covers, is_past, merge, newest}
 use Rattle.dy_siblings.proofs.Members.{not_in_nil, in_head, in_tail, in_cases, any_gives, any_from, none_from, filter_in, filter_from}
-use Rattle.dy_siblings.proofs.Dots.{same_dot_is, same_dots, in_context, in_union}
+use Rattle.dy_dots.proofs.SameDots.{same_dot_is}
+use Rattle.dy_dots.proofs.Sets.{same_dots, in_union}
+use Rattle.dy_siblings.proofs.Histories.{in_context}
 
 newest_from : (vs : List VersionParts) (v : VersionParts) → Contains (newest vs) v → Contains vs v × (is_past vs v.dot ≡ false)
 newest_from vs v h = let f = filter_from (λ x. not (is_past vs x.dot)) vs v h in (f.0, not-true (is_past vs v.dot) f.1)
@@ -36,6 +39,15 @@ swapped s t v h = ⊎_elim (λ l. Contains-append_right t s v l) (λ r. Contains
 
 pub commutes : (s t : List VersionParts) → IsSameRow (merge s t) (merge t s)
 commutes s t = same_newest (s ++ t) (t ++ s) (λ v. (swapped s t v, swapped t s v))
+
+-- what is merged with no version stays, where none of its versions is past
+pub unmerged : (s : List VersionParts) → All (λ v. is_past s v.dot ≡ false) s → IsSameRow s (merge s [])
+unmerged s own =
+    let itself : s ++ [] ≡ s = append-nil s in
+    λ v. (
+      (λ h. subst (λ l. Contains (newest l) v) (sym itself) (newest_in s v h (All-contains (λ x. is_past s x.dot ≡ false) s v own h))),
+      (λ h. (newest_from s v (subst (λ l. Contains (newest l) v) itself h)).0),
+    )
 
 pub idempotent : (s : List VersionParts) → All (λ v. is_past s v.dot ≡ false) s → IsSameRow (merge s s) s
 idempotent s none v = (

@@ -6,7 +6,7 @@ use Rattle.std.proofs.lemmas.Bool.{true≢false}
 use Rattle.std.proofs.lemmas.List.Elements.{All-filter, All-weaker}
 use Rattle.dy_dots.specs.Dots.{DotNumbers, IsDotBefore}
 use Rattle.dy_siblings.specs.Versions.{VersionParts, IsVersion}
-use Rattle.dy_siblings.specs.Merging.{IsFirst}
+use Rattle.dy_siblings.specs.inside.Merging.{IsFirst}
 use Rattle.dy_siblings.specs.Siblings.{Rise, RiseAfter, IsSameRow, IsSiblingSet, is_past}
 use Rattle.dy_siblings.proofs.Members.{not_in_nil, in_head, in_tail, in_cases}
 

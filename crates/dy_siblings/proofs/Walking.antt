@@ -8,9 +8,9 @@ use Rattle.std.proofs.lemmas.List.Folds.{list_any-append}
 use Rattle.dy_dots.specs.Dots.{DotNumbers, DotSet, dot_cmp}
 use Rattle.dy_siblings.specs.Versions.{VersionParts, IsVersion}
 use Rattle.dy_siblings.specs.Siblings.{AreOneByDot, IsSameRow, IsSiblingSet, Rise, is_past}
-use Rattle.dy_siblings.specs.Merging.{IsFirst, IsAlone, IsShared, IsMerge, IsNext, IsUnionOutside, with_pasts}
+use Rattle.dy_siblings.specs.inside.Merging.{IsFirst, IsAlone, IsShared, IsMerge, IsNextVersion, IsUnionOutside, with_pasts}
 use Rattle.dy_siblings.proofs.Members.{not_in_nil, in_head, in_tail, in_cases, none_from, any_from, filter_in, filter_from}
-use Rattle.dy_siblings.proofs.Dots.{in_with_pasts}
+use Rattle.dy_siblings.proofs.Histories.{in_with_pasts}
 use Rattle.dy_siblings.proofs.Rising.{rise_skip, rise_put}
 
 -- the version is kept where the set lacks its dot
@@ -160,7 +160,7 @@ module _ (past : DotSet) (a b out left right : List VersionParts) (v : VersionPa
       mine : (u : VersionParts) → set.contains past u.dot ≡ false → u ≡ v → Contains new u
       mine u e same = subst (Contains new) (sym same) (kept_self past out v new k (ap (λ x. set.contains past x.dot) (sym same) ∙ e))
 
-  pub walks_on : AreOneByDot (a ++ b) → Walks past a b out left right → IsNext left right v l r → Kept past out v new → Walks past a b new l r
+  pub walks_on : AreOneByDot (a ++ b) → Walks past a b out left right → IsNextVersion left right v l r → Kept past out v new → Walks past a b new l r
   walks_on one w (inl next) k = alone_left w next k
   walks_on one w (inr (inl next)) k = alone_right w next k
   walks_on one w (inr (inr next)) k = shared one w next k

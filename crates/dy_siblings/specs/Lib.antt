@@ -1,4 +1,4 @@
-pub mod Merging
 pub mod Siblings
 pub mod Sizes
 pub mod Versions
+pub mod inside

@@ -1,17 +1,20 @@
 -- Rows: the versions of one key of which none follows another.
-use Rattle.std.specs.Prelude.{◌≡◌, ℕ, ◌++◌, ◌↔◌, not, nat_eq, Bool, true, false, List, [], ◌∷◌, Contains, refl}
+use Rattle.std.specs.Prelude.{◌≡◌, ℕ, ◌++◌, ◌↔◌, not, nat_eq, Bool, true, false, List, [], ◌∷◌}
+use Rattle.std.specs.Prelude.{Contains, refl}
 use Rattle.std.specs.Cmp.Lexicographic.{pointwise}
 use Rattle.std.specs.List.{list_any, filter, filter_map, All}
 use Rattle.std.specs.Coded.{Coded, code_by, coded×, coded_ℕ, coded_list}
 use Rattle.std.specs.FinSet as set
 use Rattle.dy_dots.specs.Dots.{DotNumbers, DotSet, same_dot, IsDotBefore}
-use Rattle.dy_siblings.specs.Versions.{VersionParts, IsVersion, history_of, in_history, present, version_code}
+use Rattle.dy_siblings.specs.Versions.{VersionParts, IsVersion, history_of, in_history, present}
+use Rattle.dy_siblings.specs.Versions.{version_code}
 
 -- what a row is seen as: its key, and its versions in the order of their dots
 pub record Siblings : Type 0 where
   pub key : List ℕ
   pub versions : List VersionParts
 
+-- how a row's key and versions are told apart
 abbrev pub siblings_code : Coded Siblings
 siblings_code =
     code_by (List ℕ × List VersionParts) (coded× (coded_list coded_ℕ) (coded_list version_code))
@@ -48,9 +51,9 @@ context_of [] = set.empty
 context_of (v ∷ vs) = set.union (history_of v) (context_of vs)
 
 -- the versions' own dots
-abbrev pub dots_of : List VersionParts → DotSet
-dots_of [] = set.empty
-dots_of (v ∷ vs) = set.insert (dots_of vs) v.dot
+abbrev pub own_dots : List VersionParts → DotSet
+own_dots [] = set.empty
+own_dots (v ∷ vs) = set.insert (own_dots vs) v.dot
 
 -- the versions but that of the dot
 abbrev pub without : List VersionParts → DotNumbers → List VersionParts

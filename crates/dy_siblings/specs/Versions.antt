@@ -1,6 +1,5 @@
 -- A version of a key, and its history.
-use Rattle.std.specs.Prelude.{◌≡◌, ℕ, ◌&&◌, ◌||◌, not, nat_eq, Bool, true, false, List, Option, Some, None, option_map, refl}
-use Rattle.std.specs.Cmp.Lexicographic.{pointwise}
+use Rattle.std.specs.Prelude.{◌≡◌, ℕ, ◌&&◌, ◌||◌, not, Bool, false, List, Option, option_map, refl}
 use Rattle.std.specs.Coded.{Coded, code_by, coded×, coded_ℕ, coded_list, coded_option}
 use Rattle.std.specs.FinSet as set
 use Rattle.dy_dots.specs.Dots.{DotNumbers, DotSet, dot_code, dot_set_code, same_dot}
@@ -33,23 +32,6 @@ precedes u v = set.contains v.past u.dot
 abbrev pub are_concurrent : VersionParts → VersionParts → Bool
 are_concurrent u v = not (in_history u v.dot) && not (in_history v u.dot)
 
--- whether two values are both absent, or the same bytes
-abbrev pub same_value : Option (List ℕ) → Option (List ℕ) → Bool
-same_value None None = true
-same_value (Some a) (Some b) = pointwise nat_eq a b
-same_value None (Some b) = false
-same_value (Some a) None = false
-
--- whether two versions are the same in all that they say
-abbrev pub same_version : VersionParts → VersionParts → Bool
-same_version u v =
-    (pointwise nat_eq u.key v.key && same_dot u.dot v.dot)
-    && ((set.is_subset u.past v.past && set.is_subset v.past u.past) && same_value u.value v.value)
-
--- whether two versions have one dot, and are not the same
-abbrev pub do_conflict : VersionParts → VersionParts → Bool
-do_conflict u v = same_dot u.dot v.dot && not (same_version u v)
-
 -- the value, where it is present, with the version's dot
 abbrev pub present : VersionParts → Option (DotNumbers × List ℕ)
 present v = option_map (λ value. (v.dot, value)) v.value
@@ -58,10 +40,12 @@ present v = option_map (λ value. (v.dot, value)) v.value
 abbrev pub with_value : (VersionParts → Option (List ℕ)) → VersionParts → VersionParts
 with_value value_of v = record { key = v.key; dot = v.dot; past = v.past; value = value_of v }
 
+-- how a version's parts are told apart
 abbrev pub version_code : Coded VersionParts
 version_code =
     code_by (List ℕ × (DotNumbers × (DotSet × Option (List ℕ))))
-    (coded× (coded_list coded_ℕ) (coded× dot_code (coded× dot_set_code (coded_option (coded_list coded_ℕ)))))
+    (coded× (coded_list coded_ℕ)
+    (coded× dot_code (coded× dot_set_code (coded_option (coded_list coded_ℕ)))))
     (λ v. (v.key, (v.dot, (v.past, v.value))))
     (λ p. record { key = p.0; dot = p.1.0; past = p.1.1.0; value = p.1.1.1 })
     (λ _. refl)

@@ -7,12 +7,16 @@ ghost use Rattle.std.specs.Ordering.{nat_cmp, as_partial_cmp};
 ghost use Rattle.std.proofs.Common.{rules};
 ghost use Rattle.std.specs.Arc.{arc_slice_items};
 ghost use Rattle.dy_siblings.specs.Sizes.{IsKey};
+ghost use Rattle.dy_siblings.specs.declared.keys.TheConstants.{MAX_KEY_BYTES};
 
 use dy_dots::Fault;
 use std::alloc::Global;
 use std::cmp::Ordering;
 use std::marker::Model;
 use std::sync::ArcSlice;
+
+/// How many bytes a key has at most.
+pub const MAX_KEY_BYTES: usize = 64;
 
 /// A key: 1 to 64 bytes.
 #[derive(Debug, Drop)]
@@ -29,18 +33,15 @@ impl Model for Key {
 }
 
 impl Key {
-    /// How many bytes it has at most.
-    pub const MAX_BYTES: usize = 64;
-
     /// A key of these bytes; KeySize where they are none or more than 64.
     pub fn new(alloc: Global, bytes: &[u8]) -> Result<Key, Fault>
         ensures size { IsErrOf result Fault.KeySize ↔
-            ((length bytes.now ≡ 0) ⊎ (64 < length bytes.now)) }
+            ((length bytes.now ≡ 0) ⊎ (MAX_KEY_BYTES < length bytes.now)) }
         ensures value { IfOk result (λ key. key ≡ bytes.now) }
         ensures errors { IfErr result (λ fault.
             (fault ≡ Fault.KeySize) ⊎ (fault ≡ Fault.OutOfMemory)) }
     {
-        if bytes.is_empty() || bytes.len() > Self::MAX_BYTES {
+        if bytes.is_empty() || bytes.len() > MAX_KEY_BYTES {
             return Err(Fault::KeySize);
         }
         Ok(Key {

@@ -1,7 +1,9 @@
 ghost use Rattle.std.specs.Prelude.{◌≡◌, ◌++◌, map, IfOk, IfSome, IfNone, OnOk, IsOkUnless, []};
+ghost use Rattle.std.specs.Prelude.{◌↔◌, IsTrue};
 ghost use Rattle.std.specs.FinSet as set;
-ghost use Rattle.dy_siblings.specs.Merging.{do_lists_conflict, IsMerge, IsNext, IsUnionOutside};
-ghost use Rattle.dy_siblings.specs.Merging.{with_pasts, with_histories, with_dots};
+ghost use Rattle.dy_siblings.specs.inside.Merging.{do_lists_conflict, IsMerge, IsNextVersion};
+ghost use Rattle.dy_siblings.specs.inside.Merging.{IsUnionOutside, with_pasts, with_histories};
+ghost use Rattle.dy_siblings.specs.inside.Merging.{with_dots};
 ghost use Rattle.dy_siblings.specs.Siblings.{AreOneByDot, Rise, present_values};
 
 use crate::values::Value;
@@ -25,7 +27,7 @@ fn split_next<'a>(
     a: &'a [Version],
     b: &'a [Version],
 ) -> Option<(&'a Version, &'a [Version], &'a [Version])>
-    ensures some { IfSome result (λ p. IsNext a.now b.now p.0.now p.1.now p.2.now) }
+    ensures some { IfSome result (λ p. IsNextVersion a.now b.now p.0.now p.1.now p.2.now) }
     ensures none { IfNone result ((a.now ≡ []) × (b.now ≡ [])) }
 {
     match (a.split_first(), b.split_first()) {
@@ -111,6 +113,25 @@ pub(crate) fn merged(alloc: Global, a: &[Version], b: &[Version]) -> Result<Vec<
     union_outside(alloc, &past, a, b)
 }
 
+/// Whether the lists have the same versions in the same order.
+pub(crate) fn are_same(a: &[Version], b: &[Version]) -> bool
+    ensures { IsTrue result ↔ (a.now ≡ b.now) }
+{
+    let mut left = a;
+    let mut right = b;
+    while let Some((mine, rest)) = left.split_first() {
+        let Some((theirs, others)) = right.split_first() else {
+            return false;
+        };
+        if !mine.is_same(theirs) {
+            return false;
+        }
+        left = rest;
+        right = others;
+    }
+    right.is_empty()
+}
+
 /// Copies of the versions.
 pub(crate) fn copied(alloc: Global, versions: &[Version]) -> Result<Vec<Version>, Fault>
     ensures ok { IfOk result (λ copies. copies.items ≡ versions.now) }
@@ -137,7 +158,7 @@ pub(crate) fn context_of(alloc: Global, versions: &[Version]) -> Result<Context,
 }
 
 /// The versions' own dots.
-pub(crate) fn dots_of(alloc: Global, versions: &[Version]) -> Result<Context, Fault>
+pub(crate) fn own_dots(alloc: Global, versions: &[Version]) -> Result<Context, Fault>
     ensures ok { IfOk result (λ dots. dots ≡ with_dots set.empty versions.now) }
     ensures memory { IsOkUnless result Fault.OutOfMemory }
 {

@@ -1,5 +1,5 @@
 ghost use Rattle.std.specs.Prelude.{◌≡◌, ◌++◌, ◌↔◌, map, [], ◌∷◌, IfOk, OnOk, OnErr, IsOkUnless};
-ghost use Rattle.std.specs.Prelude.{IsTrue};
+ghost use Rattle.std.specs.Prelude.{IsTrue, IsOk};
 
 use crate::keys::Key;
 use crate::merging;
@@ -31,7 +31,7 @@ impl Model for Row {
 
 impl Row {
     ghost use Rattle.dy_siblings.specs.Siblings.{AreOneByDot, IsSameRow, IsSiblingSet, covers};
-    ghost use Rattle.dy_siblings.specs.Siblings.{merge, context_of, dots_of, without};
+    ghost use Rattle.dy_siblings.specs.Siblings.{merge, context_of, own_dots, without};
     ghost use Rattle.dy_siblings.specs.Siblings.{present_values};
 
     /// The row of the key that has no version. Takes no memory.
@@ -95,7 +95,32 @@ impl Row {
             && !merging::lists_conflict(self.versions.as_slice(), other.versions.as_slice())
     }
 
-    /// Keeps of the versions of both rows those whose dot lies in the past of none of them.
+    /// Whether the other row has the same key and the same versions, in one pass over both. Takes
+    /// no memory.
+    pub fn is_same(&self, other: &Row) -> bool
+        ensures { IsTrue result ↔ (self.now ≡ other.now) }
+    {
+        self.key == other.key
+            && merging::are_same(self.versions.as_slice(), other.versions.as_slice())
+    }
+
+    /// The merge of both rows, as a row of its own.
+    pub fn merged(&self, alloc: Global, other: &Row) -> Result<Row, Fault>
+        requires one_key { self.now.key ≡ other.now.key }
+        requires agree { AreOneByDot (self.now.versions ++ other.now.versions) }
+        ensures ok { IfOk result (λ row.
+            IsSameRow row.versions (merge self.now.versions other.now.versions)) }
+        ensures key { IfOk result (λ row. row.key ≡ self.now.key) }
+        ensures valid { IfOk result (λ row. IsSiblingSet row.key row.versions) }
+        ensures memory { IsOkUnless result Fault.OutOfMemory }
+    {
+        let key = self.key.try_clone(alloc)?;
+        let versions = merging::merged(alloc, self.versions.as_slice(), other.versions.as_slice())?;
+        Ok(Row { key, versions })
+    }
+
+    /// Keeps of the versions of both rows those whose dot lies in the past of none of them. Takes
+    /// no memory where the other has no version.
     pub fn merge(&mut self, alloc: Global, other: &Row) -> Result<(), Fault>
         requires one_key { self.old.key ≡ other.now.key }
         requires agree { AreOneByDot (self.old.versions ++ other.now.versions) }
@@ -104,13 +129,14 @@ impl Row {
         ensures valid { IsSiblingSet self.new.key self.new.versions }
         ensures key { self.new.key ≡ self.old.key }
         ensures err { OnErr result (self.new ≡ self.old) }
+        ensures spared { other.now.versions ≡ [] → IsOk result }
         ensures memory { IsOkUnless result Fault.OutOfMemory }
     {
-        self.versions = merging::merged(
-            alloc,
-            self.versions.as_slice(),
-            other.versions.as_slice(),
-        )?;
+        let mine = self.versions.as_slice();
+        if other.is_empty() {
+            return Ok(());
+        }
+        self.versions = merging::merged(alloc, mine, other.versions.as_slice())?;
         Ok(())
     }
 
@@ -124,10 +150,10 @@ impl Row {
 
     /// The versions' own dots.
     pub fn dots(&self, alloc: Global) -> Result<Context, Fault>
-        ensures ok { IfOk result (λ dots. dots ≡ dots_of self.now.versions) }
+        ensures ok { IfOk result (λ dots. dots ≡ own_dots self.now.versions) }
         ensures memory { IsOkUnless result Fault.OutOfMemory }
     {
-        merging::dots_of(alloc, self.versions.as_slice())
+        merging::own_dots(alloc, self.versions.as_slice())
     }
 
     /// Drops the version of the dot, where there is one. Takes no memory.
@@ -150,6 +176,7 @@ impl Row {
     /// A copy.
     pub fn try_clone(&self, alloc: Global) -> Result<Row, Fault>
         ensures ok { IfOk result (λ row. row ≡ self.now) }
+        ensures valid { IfOk result (λ row. IsSiblingSet row.key row.versions) }
         ensures memory { IsOkUnless result Fault.OutOfMemory }
     {
         Ok(Row {

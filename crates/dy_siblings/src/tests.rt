@@ -1,110 +1,183 @@
+mod growths;
+
 use crate::{Key, Row, Value, Version};
 use dy_dots::{Context, Dot, NodeId};
 use std::alloc::Global;
-use std::test::Fail;
 
-fn dot_of(node: u8, counter: u32) -> Result<Dot, Fail> {
-    let node = NodeId::new(node).ok_or("a node")?;
-    Ok(Dot::new(node, counter).ok_or("a dot")?)
+// The dot `node:counter`.
+fn dot_of(node: u8, counter: u32) -> Option<Dot> {
+    Dot::new(NodeId::new(node)?, counter)
 }
 
-// The version `node:counter` of the key `k`, whose past the text spells; no bytes are a deletion.
-fn version(
-    alloc: Global,
-    name: (u8, u32),
-    past: &str,
-    bytes: Option<&[u8]>,
-) -> Result<Version, Fail> {
-    let dot = dot_of(name.0, name.1)?;
-    let past = Context::read_text(alloc, past)?;
+// The key `k`.
+fn key(alloc: Global) -> Option<Key> {
+    Key::new(alloc, b"k".as_slice()).ok()
+}
+
+// The version of the key `k` that stores this.
+fn storing(alloc: Global, dot: Dot, past: Context, value: Option<Value>) -> Option<Version> {
     if past.contains(dot) {
-        return Err(Fail::new("a past without the dot"));
+        return None;
     }
-    let value = match bytes {
-        Some(bytes) => Some(Value::new(alloc, bytes)?),
-        None => None,
-    };
-    Ok(Version::new(Key::new(alloc, b"k".as_slice())?, dot, past, value))
+    Version::new(alloc, key(alloc)?, dot, past, value).ok()
 }
 
-fn merge(alloc: Global, row: &mut Row, other: &Row) -> Result<(), Fail> {
-    if !row.agrees(other) {
-        return Err(Fail::new("rows that agree"));
+// The deletion of the key `k` whose past the text spells.
+fn deletion(alloc: Global, name: (u8, u32), past: &str) -> Option<Version> {
+    let dot = dot_of(name.0, name.1)?;
+    storing(alloc, dot, Context::read_text(alloc, past).ok()?, None)
+}
+
+// The version of the key `k` with these bytes, whose past the text spells.
+fn version(alloc: Global, name: (u8, u32), past: &str, bytes: &[u8]) -> Option<Version> {
+    let dot = dot_of(name.0, name.1)?;
+    let value = Value::new(alloc, bytes).ok()?;
+    storing(
+        alloc,
+        dot,
+        Context::read_text(alloc, past).ok()?,
+        Some(value),
+    )
+}
+
+fn merge(alloc: Global, row: &mut Row, other: &Row) -> bool {
+    row.agrees(other) && row.merge(alloc, other).is_ok()
+}
+
+fn add(alloc: Global, row: &mut Row, version: Option<Version>) -> bool {
+    let Some(version) = version else {
+        return false;
+    };
+    match Row::of(alloc, version) {
+        Ok(other) => merge(alloc, row, &other),
+        Err(_fault) => false,
     }
-    row.merge(alloc, other)?;
-    Ok(())
 }
 
 // The row of these versions, merged one by one; all store the byte `v`.
-fn row_of(alloc: Global, versions: &[((u8, u32), &str)]) -> Result<Row, Fail> {
-    let mut row = Row::new(alloc, Key::new(alloc, b"k".as_slice())?);
+fn row_of(alloc: Global, versions: &[((u8, u32), &str)]) -> Option<Row> {
+    let mut row = Row::new(alloc, key(alloc)?);
     for (name, past) in versions {
-        let one = Row::of(alloc, version(alloc, *name, *past, Some(b"v".as_slice()))?)?;
-        merge(alloc, &mut row, &one)?;
+        if !add(
+            alloc,
+            &mut row,
+            version(alloc, *name, *past, b"v".as_slice()),
+        ) {
+            return None;
+        }
     }
-    Ok(row)
+    Some(row)
 }
 
-// The dots of the row's versions, in its order, as text.
-fn shown(alloc: Global, row: &Row) -> Result<String, Fail> {
-    let mut text = String::new(alloc);
+fn is_named(dot: Dot, node: u8, counter: u32) -> bool {
+    dot.node().number() == node && dot.counter() == counter
+}
+
+// Whether these are the dots of the row's versions, in its order.
+fn has_dots(row: &Row, names: &[(u8, u32)]) -> bool {
+    let mut left = names;
     for version in row.versions() {
-        text.push_str(format!(in alloc; "{} ", version.dot())?.as_str())?;
+        match left.split_first() {
+            Some((name, rest)) if is_named(version.dot(), name.0, name.1) => left = rest,
+            _ => return false,
+        }
     }
-    Ok(text)
+    left.is_empty()
 }
 
-fn text_of(alloc: Global, context: &Context) -> Result<String, Fail> {
+// Whether the text spells the set.
+fn is_spelt(alloc: Global, context: &Context, wanted: &str) -> bool {
     let mut text = String::new(alloc);
-    context.write_text(alloc, &mut text)?;
-    Ok(text)
+    context.write_text(alloc, &mut text).is_ok() && text.as_str() == wanted
 }
 
 // Whether the dot lies in the past of one of the row's versions.
 fn is_past(row: &Row, dot: Dot) -> bool {
-    row.versions()
-        .iter()
-        .any(|version| version.past().contains(dot))
-}
-
-// Adds the dots of the row's versions that lie in the past of neither row, and are not there yet.
-fn add_newest(dots: &mut Vec<Dot>, row: &Row, other: &Row) -> Result<(), Fail> {
     for version in row.versions() {
-        let dot = version.dot();
-        if !is_past(row, dot) && !is_past(other, dot) && !dots.contains(&dot) {
-            dots.push(dot)?;
+        if version.past().contains(dot) {
+            return true;
         }
     }
-    Ok(())
+    false
 }
 
-// Whether merging gives what the plain body gives, which goes over all pairs.
-fn is_plain_merge(alloc: Global, a: &Row, b: &Row) -> Result<bool, Fail> {
-    let mut wanted = Vec::new(alloc);
-    add_newest(&mut wanted, a, b)?;
-    add_newest(&mut wanted, b, a)?;
-    wanted.sort()?;
-    let mut both = a.try_clone(alloc)?;
-    merge(alloc, &mut both, b)?;
-    let mut dots = Vec::new(alloc);
-    for version in both.versions() {
-        dots.push(version.dot())?;
+// Whether the row has a version of this dot.
+fn has_version(row: &Row, dot: Dot) -> bool {
+    for version in row.versions() {
+        if version.dot() == dot {
+            return true;
+        }
     }
-    Ok(dots == wanted)
+    false
 }
 
-// The row of those of the versions whose bit the number has.
-fn chosen(alloc: Global, versions: &[((u8, u32), &str)], number: u32) -> Result<Row, Fail> {
-    let mut row = Row::new(alloc, Key::new(alloc, b"k".as_slice())?);
+// Whether `whole` has just those of the row's versions that lie in the past of neither row.
+fn has_newest(whole: &Row, row: &Row, other: &Row) -> bool {
+    for version in row.versions() {
+        let dot = version.dot();
+        let is_newest = !is_past(row, dot) && !is_past(other, dot);
+        if has_version(whole, dot) != is_newest {
+            return false;
+        }
+    }
+    true
+}
+
+// Whether the dots of the row's versions rise, and each is of a version of one of the others.
+fn is_of(whole: &Row, row: &Row, other: &Row) -> bool {
+    let mut last = None;
+    for version in whole.versions() {
+        let dot = version.dot();
+        if last >= Some(dot) || !has_version(row, dot) && !has_version(other, dot) {
+            return false;
+        }
+        last = Some(dot);
+    }
+    true
+}
+
+// Whether both ways to merge give what the plain body gives, which goes over all pairs.
+fn is_plain_merge(alloc: Global, a: &Row, b: &Row) -> bool {
+    if !a.agrees(b) {
+        return false;
+    }
+    let Ok(whole) = a.merged(alloc, b) else {
+        return false;
+    };
+    let Ok(mut copy) = a.try_clone(alloc) else {
+        return false;
+    };
+    merge(alloc, &mut copy, b)
+        && copy.is_same(&whole)
+        && is_of(&whole, a, b)
+        && has_newest(&whole, a, b)
+        && has_newest(&whole, b, a)
+}
+
+// The row of those of six versions whose bit the number has.
+fn chosen(alloc: Global, number: u32) -> Option<Row> {
+    let mut row = Row::new(alloc, key(alloc)?);
     let mut left = number;
-    for (name, past) in versions {
-        if left % 2 == 1 {
-            let one = Row::of(alloc, version(alloc, *name, *past, None)?)?;
-            merge(alloc, &mut row, &one)?;
+    for (name, past) in [
+        ((0, 1), "-"),
+        ((0, 2), "n0:1"),
+        ((1, 1), "-"),
+        ((1, 2), "n0:1 n1:1"),
+        ((2, 1), "n0:1-2"),
+        ((3, 1), "n0:1-2 n1:1-2"),
+    ] {
+        if left % 2 == 1 && !add(alloc, &mut row, deletion(alloc, name, past)) {
+            return None;
         }
         left /= 2;
     }
-    Ok(row)
+    Some(row)
+}
+
+fn merges_plainly(alloc: Global, i: u32, j: u32) -> Option<bool> {
+    let a = chosen(alloc, i)?;
+    let b = chosen(alloc, j)?;
+    Some(is_plain_merge(alloc, &a, &b))
 }
 
 #[test]
@@ -116,116 +189,161 @@ fn keys_have_1_to_64_bytes(rt: HostRuntime) {
     }
 }
 
+// Whether a value of so many bytes is made, and its copy is equal.
+fn is_value(alloc: Global, len: usize) -> Option<bool> {
+    let mut bytes = Vec::new(alloc);
+    bytes.resize(len, 7).ok()?;
+    match Value::new(alloc, bytes.as_slice()) {
+        Ok(value) => Some(value.try_clone(alloc).ok()? == value && value.as_bytes().len() == len),
+        Err(_fault) => Some(false),
+    }
+}
+
 #[test]
 fn values_have_up_to_4096_bytes(rt: HostRuntime) {
-    let bytes = [7; 4_097];
     for (len, wanted) in [(0, true), (4_096, true), (4_097, false)] {
-        let value = Value::new(rt.alloc(), &bytes[..len]);
-        assert_eq!(rt; value.is_ok(), wanted, "{len} bytes");
+        assert_eq!(rt; is_value(rt.alloc(), len), Some(wanted), "{len} bytes");
     }
 }
 
-#[test]
-fn keys_go_by_their_bytes(rt: HostRuntime) -> Result<(), Fail> {
-    let low = Key::new(rt.alloc(), b"a".as_slice())?;
-    let high = Key::new(rt.alloc(), b"ab".as_slice())?;
-    assert!(rt; low < high && low != high);
-    assert!(rt; low.try_clone(rt.alloc())? == low);
-    assert_eq!(rt; high.as_bytes().len(), 2);
-    Ok(())
+fn go_by_their_bytes(alloc: Global) -> Option<bool> {
+    let low = Key::new(alloc, b"a".as_slice()).ok()?;
+    let high = Key::new(alloc, b"ab".as_slice()).ok()?;
+    let copy = low.try_clone(alloc).ok()?;
+    Some(low < high && low != high && copy == low && high.as_bytes().len() == 2)
 }
 
 #[test]
-fn siblings_stay_and_followers_replace(rt: HostRuntime) -> Result<(), Fail> {
+fn keys_go_by_their_bytes(rt: HostRuntime) {
+    assert_eq!(rt; go_by_their_bytes(rt.alloc()), Some(true));
+}
+
+// Whether the row of these versions has these dots.
+fn leave(alloc: Global, versions: &[((u8, u32), &str)], names: &[(u8, u32)]) -> Option<bool> {
+    let row = row_of(alloc, versions)?;
+    Some(has_dots(&row, names))
+}
+
+#[test]
+fn siblings_stay_and_followers_replace(rt: HostRuntime) {
     for (first, second, wanted) in [
-        (((3, 1), "-"), ((3, 2), "-"), "n3:1 n3:2 "),
-        (((3, 1), "-"), ((3, 2), "n3:1"), "n3:2 "),
-        (((3, 2), "n3:1"), ((3, 1), "-"), "n3:2 "),
+        (((3, 1), "-"), ((3, 2), "-"), [(3, 1), (3, 2)].as_slice()),
+        (((3, 1), "-"), ((3, 2), "n3:1"), [(3, 2)].as_slice()),
+        (((3, 2), "n3:1"), ((3, 1), "-"), [(3, 2)].as_slice()),
     ] {
-        let row = row_of(rt.alloc(), &[first, second])?;
-        assert_eq!(rt; shown(rt.alloc(), &row)?.as_str(), wanted);
+        assert_eq!(rt; leave(rt.alloc(), &[first, second], wanted), Some(true));
     }
-    Ok(())
+}
+
+fn differ_when_absent(alloc: Global) -> Option<bool> {
+    let absent = deletion(alloc, (0, 1), "-")?;
+    let empty = version(alloc, (0, 1), "-", &[])?;
+    Some(absent.value().is_none() && empty.value().is_some() && !absent.is_same(&empty))
 }
 
 #[test]
-fn absent_and_empty_values_differ(rt: HostRuntime) -> Result<(), Fail> {
-    let absent = version(rt.alloc(), (0, 1), "-", None)?;
-    let empty = version(rt.alloc(), (0, 1), "-", Some(&[]))?;
-    assert!(rt; absent.value().is_none() && empty.value().is_some());
-    assert!(rt; !absent.is_same(&empty));
-    Ok(())
+fn absent_and_empty_values_differ(rt: HostRuntime) {
+    assert_eq!(rt; differ_when_absent(rt.alloc()), Some(true));
 }
 
-#[test]
-fn deletions_stay_and_give_no_value(rt: HostRuntime) -> Result<(), Fail> {
-    let deleted = Row::of(rt.alloc(), version(rt.alloc(), (0, 1), "-", None)?)?;
-    let mut row = row_of(rt.alloc(), &[((1, 1), "-")])?;
-    merge(rt.alloc(), &mut row, &deleted)?;
-    assert_eq!(rt; shown(rt.alloc(), &row)?.as_str(), "n0:1 n1:1 ");
-    let context = row.context(rt.alloc())?;
-    assert_eq!(rt; text_of(rt.alloc(), &context)?.as_str(), "n0:1 n1:1");
-    let values = row.values(rt.alloc())?;
-    assert_eq!(rt; values.len(), 1);
-    for (dot, value) in values.as_slice() {
-        assert!(rt; *dot == dot_of(1, 1)? && value.as_bytes().len() == 1);
+// Whether the row's one present value is the byte `v` of the dot.
+fn has_value(alloc: Global, row: &Row, dot: Dot) -> bool {
+    match row.values(alloc) {
+        Ok(values) => match values.as_slice().split_first() {
+            Some((one, [])) => one.0 == dot && one.1.as_bytes() == b"v".as_slice(),
+            _ => false,
+        },
+        Err(_fault) => false,
     }
-    Ok(())
+}
+
+fn deletions_stay(alloc: Global) -> Option<bool> {
+    let mut row = row_of(alloc, [((1, 1), "-")].as_slice())?;
+    if !add(alloc, &mut row, deletion(alloc, (0, 1), "-")) {
+        return None;
+    }
+    let context = row.context(alloc).ok()?;
+    Some(
+        has_dots(&row, &[(0, 1), (1, 1)])
+            && is_spelt(alloc, &context, "n0:1 n1:1")
+            && has_value(alloc, &row, dot_of(1, 1)?),
+    )
 }
 
 #[test]
-fn rows_cover_what_their_versions_follow(rt: HostRuntime) -> Result<(), Fail> {
-    let row = row_of(rt.alloc(), &[((0, 2), "n0:1"), ((1, 3), "n0:1 n1:1")])?;
+fn deletions_stay_and_give_no_value(rt: HostRuntime) {
+    assert_eq!(rt; deletions_stay(rt.alloc()), Some(true));
+}
+
+// Two siblings that follow versions which are gone.
+fn followers(alloc: Global) -> Option<Row> {
+    row_of(alloc, &[((0, 2), "n0:1"), ((1, 3), "n0:1 n1:1")])
+}
+
+// Whether the row of the followers covers the dot.
+fn is_covered(alloc: Global, node: u8, counter: u32) -> Option<bool> {
+    Some(followers(alloc)?.covers(dot_of(node, counter)?))
+}
+
+// Whether the text spells the own dots of the followers.
+fn are_spelt(alloc: Global, wanted: &str) -> Option<bool> {
+    let dots = followers(alloc)?.dots(alloc).ok()?;
+    Some(is_spelt(alloc, &dots, wanted))
+}
+
+#[test]
+fn rows_cover_what_their_versions_follow(rt: HostRuntime) {
     for (node, counter, wanted) in [(0, 1, true), (1, 1, true), (1, 2, false), (1, 3, true)] {
-        assert_eq!(rt;
-            row.covers(dot_of(node, counter)?),
-            wanted,
-            "n{node}:{counter}"
-        );
+        let is_covered = is_covered(rt.alloc(), node, counter);
+        assert_eq!(rt; is_covered, Some(wanted), "n{node}:{counter}");
     }
-    let dots = row.dots(rt.alloc())?;
-    assert_eq!(rt; text_of(rt.alloc(), &dots)?.as_str(), "n0:2 n1:3");
-    Ok(())
+    assert_eq!(rt; are_spelt(rt.alloc(), "n0:2 n1:3"), Some(true));
 }
 
-#[test]
-fn removes_one_version(rt: HostRuntime) -> Result<(), Fail> {
-    let row = row_of(rt.alloc(), &[((0, 2), "n0:1"), ((1, 3), "n0:1 n1:1")])?;
-    let mut copy = row.try_clone(rt.alloc())?;
+fn removes_from_a_copy(alloc: Global) -> Option<bool> {
+    let row = followers(alloc)?;
+    let mut copy = row.try_clone(alloc).ok()?;
     copy.remove(dot_of(0, 2)?);
-    assert_eq!(rt; shown(rt.alloc(), &copy)?.as_str(), "n1:3 ");
-    assert_eq!(rt; row.versions().len(), 2);
-    assert!(rt; !copy.is_empty() && copy.key() == row.key());
-    Ok(())
+    Some(
+        has_dots(&copy, &[(1, 3)])
+            && row.versions().len() == 2
+            && !copy.is_empty()
+            && copy.key() == row.key(),
+    )
 }
 
 #[test]
-fn versions_follow_or_are_concurrent(rt: HostRuntime) -> Result<(), Fail> {
-    let first = version(rt.alloc(), (0, 1), "-", None)?;
-    let second = version(rt.alloc(), (0, 2), "n0:1", None)?;
-    let other = version(rt.alloc(), (1, 1), "-", None)?;
-    assert!(rt; first.precedes(&second) && !second.precedes(&first));
-    assert!(rt; !first.is_concurrent(&second) && first.is_concurrent(&other));
-    assert!(rt; second.is_same(&second.try_clone(rt.alloc())?));
-    Ok(())
+fn removes_one_version(rt: HostRuntime) {
+    assert_eq!(rt; removes_from_a_copy(rt.alloc()), Some(true));
+}
+
+fn follow(alloc: Global) -> Option<bool> {
+    let first = deletion(alloc, (0, 1), "-")?;
+    let second = deletion(alloc, (0, 2), "n0:1")?;
+    Some(first.precedes(&second) && !second.precedes(&first) && !first.is_concurrent(&second))
+}
+
+fn are_apart(alloc: Global) -> Option<bool> {
+    let first = deletion(alloc, (0, 1), "-")?;
+    let other = deletion(alloc, (1, 1), "-")?;
+    Some(first.is_concurrent(&other) && first.is_same(&first.try_clone(alloc).ok()?))
 }
 
 #[test]
-fn merges_as_the_plain_body_does(rt: HostRuntime) -> Result<(), Fail> {
-    let versions = [
-        ((0, 1), "-"),
-        ((0, 2), "n0:1"),
-        ((1, 1), "-"),
-        ((1, 2), "n0:1 n1:1"),
-        ((2, 1), "n0:1-2"),
-        ((3, 1), "n0:1-2 n1:1-2"),
-    ];
+fn versions_follow_or_are_concurrent(rt: HostRuntime) {
+    assert_eq!(rt; follow(rt.alloc()), Some(true));
+    assert_eq!(rt; are_apart(rt.alloc()), Some(true));
+}
+
+#[test]
+fn merges_as_the_plain_body_does(rt: HostRuntime) {
     for i in 0..64 {
-        let a = chosen(rt.alloc(), versions.as_slice(), i)?;
         for j in 0..64 {
-            let b = chosen(rt.alloc(), versions.as_slice(), j)?;
-            assert!(rt; is_plain_merge(rt.alloc(), &a, &b)?, "rows {i} and {j}");
+            assert_eq!(rt;
+                merges_plainly(rt.alloc(), i, j),
+                Some(true),
+                "rows {i} and {j}"
+            );
         }
     }
-    Ok(())
 }

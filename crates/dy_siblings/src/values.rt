@@ -5,11 +5,15 @@ ghost use Rattle.std.specs.Cmp.Rules.{comparing};
 ghost use Rattle.std.proofs.Common.{rules};
 ghost use Rattle.std.specs.Arc.{arc_slice_items};
 ghost use Rattle.dy_siblings.specs.Sizes.{IsValue};
+ghost use Rattle.dy_siblings.specs.declared.values.TheConstants.{MAX_VALUE_BYTES};
 
 use dy_dots::Fault;
 use std::alloc::Global;
 use std::marker::Model;
 use std::sync::ArcSlice;
+
+/// How many bytes a value has at most.
+pub const MAX_VALUE_BYTES: usize = 4_096;
 
 /// What a version stores: up to 4,096 bytes.
 #[derive(Debug, Drop)]
@@ -26,17 +30,14 @@ impl Model for Value {
 }
 
 impl Value {
-    /// How many bytes it has at most.
-    pub const MAX_BYTES: usize = 4_096;
-
     /// A value of these bytes; ValueSize where they are more than 4,096.
     pub fn new(alloc: Global, bytes: &[u8]) -> Result<Value, Fault>
-        ensures size { IsErrOf result Fault.ValueSize ↔ (4096 < length bytes.now) }
+        ensures size { IsErrOf result Fault.ValueSize ↔ (MAX_VALUE_BYTES < length bytes.now) }
         ensures value { IfOk result (λ value. value ≡ bytes.now) }
         ensures errors { IfErr result (λ fault.
             (fault ≡ Fault.ValueSize) ⊎ (fault ≡ Fault.OutOfMemory)) }
     {
-        if bytes.len() > Self::MAX_BYTES {
+        if bytes.len() > MAX_VALUE_BYTES {
             return Err(Fault::ValueSize);
         }
         Ok(Value {

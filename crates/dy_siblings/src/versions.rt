@@ -8,46 +8,74 @@ use crate::values::Value;
 use dy_dots::{Context, Dot, Fault};
 use std::alloc::Global;
 use std::marker::Model;
+use std::sync::Arc;
 
-/// One write of a key: the dot that names it, the dots that it causally follows, and what it
-/// stores (Preguiça et al., dotted version vectors, section 4, with an exact set for the vector).
-/// A deletion stores no value, which is told apart from an empty one.
+// What a version says.
 #[derive(Debug, Drop)]
-pub struct Version {
+struct Parts {
     key: Key,
     dot: Dot,
     past: Context,
     value: Option<Value>,
 }
 
+/// One write of a key: the dot that names it, the dots that it causally follows, and what it
+/// stores (Preguiça et al., dotted version vectors, section 4, with an exact set for the vector).
+/// A deletion stores no value, which is told apart from an empty one. Copies share what they say.
+#[derive(Debug, Drop)]
+pub struct Version {
+    parts: Arc<Parts>,
+}
+
 impl Model for Version {
+    ghost use Rattle.std.specs.Arc.{arc_value};
     ghost use Rattle.dy_siblings.specs.Versions.{VersionParts, version_code, IsVersion};
 
     ghost Value = { VersionParts };
 
     ghost coded = { version_code };
 
-    ghost view = { λ v. record { key = v.key; dot = v.dot; past = v.past; value = v.value } };
+    ghost view = { λ v. record {
+      key = (arc_value v.parts).key;
+      dot = (arc_value v.parts).dot;
+      past = (arc_value v.parts).past;
+      value = (arc_value v.parts).value;
+    } };
 
-    ghost invariant = { λ v. IsVersion
-        (record { key = v.key; dot = v.dot; past = v.past; value = v.value }) };
+    ghost invariant = { λ v. IsVersion (record {
+      key = (arc_value v.parts).key;
+      dot = (arc_value v.parts).dot;
+      past = (arc_value v.parts).past;
+      value = (arc_value v.parts).value;
+    }) };
 }
 
 impl Version {
     ghost use Rattle.dy_siblings.specs.Versions.{IsVersion, in_history, precedes, are_concurrent};
-    ghost use Rattle.dy_siblings.specs.Versions.{same_version, do_conflict};
+    ghost use Rattle.dy_siblings.specs.inside.Conflicts.{same_version, do_conflict};
 
-    /// The version of these parts. Takes no memory.
-    pub fn new(key: Key, dot: Dot, past: Context, value: Option<Value>) -> Version
+    /// The version of these parts.
+    pub fn new(
+        alloc: Global,
+        key: Key,
+        dot: Dot,
+        past: Context,
+        value: Option<Value>,
+    ) -> Result<Version, Fault>
         requires { set.contains past dot ≡ false }
-        ensures { result ≡ record { key = key; dot = dot; past = past; value = value } }
+        ensures value { IfOk result (λ version. version ≡
+            record { key = key; dot = dot; past = past; value = value }) }
+        ensures memory { IsOkUnless result Fault.OutOfMemory }
     {
-        Version {
+        let parts = Parts {
             key,
             dot,
             past,
             value,
-        }
+        };
+        Ok(Version {
+            parts: Arc::new(alloc, parts)?,
+        })
     }
 
     /// The key that it is a version of. Takes no memory.
@@ -55,7 +83,7 @@ impl Version {
         ensures value { result.now ≡ self.now.key }
         ensures valid { IsVersion self.now }
     {
-        &self.key
+        &self.parts.key
     }
 
     /// The dot that names it. Takes no memory.
@@ -63,7 +91,7 @@ impl Version {
         ensures value { result ≡ self.now.dot }
         ensures valid { IsVersion self.now }
     {
-        self.dot
+        self.parts.dot
     }
 
     /// The dots that it causally follows; its own is not among them. Takes no memory.
@@ -71,35 +99,35 @@ impl Version {
         ensures value { result.now ≡ self.now.past }
         ensures valid { IsVersion self.now }
     {
-        &self.past
+        &self.parts.past
     }
 
     /// What it stores; a deletion stores nothing. Takes no memory.
     pub fn value(&self) -> Option<&Value>
         ensures { option_copied result ≡ self.now.value }
     {
-        self.value.as_ref()
+        self.parts.value.as_ref()
     }
 
     /// Whether the dot is its own or one that it follows. Takes no memory.
     pub fn covers(&self, dot: Dot) -> bool
         ensures { result ≡ in_history self.now dot }
     {
-        self.dot == dot || self.past.contains(dot)
+        self.parts.dot == dot || self.parts.past.contains(dot)
     }
 
     /// Whether the other causally follows this one. Takes no memory.
     pub fn precedes(&self, other: &Version) -> bool
         ensures { result ≡ precedes self.now other.now }
     {
-        other.past.contains(self.dot)
+        other.parts.past.contains(self.parts.dot)
     }
 
     /// Whether neither follows the other, and they are two. Takes no memory.
     pub fn is_concurrent(&self, other: &Version) -> bool
         ensures { result ≡ are_concurrent self.now other.now }
     {
-        !self.covers(other.dot) && !other.covers(self.dot)
+        !self.covers(other.parts.dot) && !other.covers(self.parts.dot)
     }
 
     /// Whether the other is the same in all that it says. Takes no memory.
@@ -113,23 +141,24 @@ impl Version {
     fn says_same(&self, other: &Version) -> bool
         ensures { result ≡ same_version self.now other.now }
     {
-        let same_name = self.key == other.key && self.dot == other.dot;
-        let same_past = other.past.includes(&self.past) && self.past.includes(&other.past);
-        same_name && (same_past && self.value == other.value)
+        let same_name = self.parts.key == other.parts.key && self.parts.dot == other.parts.dot;
+        let same_past = other.parts.past.includes(&self.parts.past)
+            && self.parts.past.includes(&other.parts.past);
+        same_name && (same_past && self.parts.value == other.parts.value)
     }
 
     // Whether the other has its dot, and is not the same.
     pub(crate) fn conflicts(&self, other: &Version) -> bool
         ensures { result ≡ do_conflict self.now other.now }
     {
-        self.dot == other.dot && !self.says_same(other)
+        self.parts.dot == other.parts.dot && !self.says_same(other)
     }
 
     // Whether this is its dot.
     pub(crate) fn has_dot(&self, dot: Dot) -> bool
         ensures { result ≡ same_dot self.now.dot dot }
     {
-        self.dot == dot
+        self.parts.dot == dot
     }
 
     // Whether its dot comes before that of the other.
@@ -138,24 +167,17 @@ impl Version {
         ensures no { result ≡ false →
             IsDotBefore other.now.dot self.now.dot ⊎ (other.now.dot ≡ self.now.dot) }
     {
-        let (dot, later) = (self.dot, other.dot);
+        let (dot, later) = (self.parts.dot, other.parts.dot);
         dot.node() < later.node() || dot.node() == later.node() && dot.counter() < later.counter()
     }
 
-    /// A copy.
-    pub fn try_clone(&self, alloc: Global) -> Result<Version, Fault>
+    /// A copy, which shares what the version says.
+    pub fn try_clone(&self, _alloc: Global) -> Result<Version, Fault>
         ensures value { IfOk result (λ version. version ≡ self.now) }
         ensures memory { IsOkUnless result Fault.OutOfMemory }
     {
-        let copied = match &self.value {
-            Some(value) => Some(value.try_clone(alloc)?),
-            None => None,
-        };
         Ok(Version {
-            key: self.key.try_clone(alloc)?,
-            dot: self.dot,
-            past: self.past.try_clone(alloc)?,
-            value: copied,
+            parts: self.parts.clone()?,
         })
     }
 }

@@ -8,6 +8,18 @@ fn written(alloc: Global, context: &Context) -> Result<String, Fault> {
     Ok(text)
 }
 
+/// Whether the context is written as the text.
+fn is_written(alloc: Global, context: &Context, text: &str) -> Result<bool, Fault> {
+    let own = written(alloc, context)?;
+    Ok(own.as_str() == text)
+}
+
+/// Whether the set of the text is written as that text.
+fn is_read_back(alloc: Global, text: &str) -> Result<bool, Fault> {
+    let context = Context::read_text(alloc, text)?;
+    is_written(alloc, &context, text)
+}
+
 fn is_refused(alloc: Global, text: &str) -> bool {
     match Context::read_text(alloc, text) {
         Ok(_context) => false,
@@ -17,7 +29,6 @@ fn is_refused(alloc: Global, text: &str) -> bool {
 
 #[test]
 fn reads_what_it_writes(rt: HostRuntime) -> Result<(), Fail> {
-    let alloc = rt.alloc();
     for text in [
         "-",
         "n0:1",
@@ -26,15 +37,13 @@ fn reads_what_it_writes(rt: HostRuntime) -> Result<(), Fail> {
         "n0:1-100000",
         "n0:1-50000 n31:950001-1000000",
     ] {
-        let context = Context::read_text(alloc, text)?;
-        assert_eq!(rt; written(alloc, &context)?.as_str(), text);
+        assert!(rt; is_read_back(rt.alloc(), text)?, "{text}");
     }
     Ok(())
 }
 
 #[test]
 fn refuses_other_texts(rt: HostRuntime) {
-    let alloc = rt.alloc();
     for text in [
         "",
         "n0:1,2",
@@ -66,41 +75,48 @@ fn refuses_other_texts(rt: HostRuntime) {
         "--",
         "n0:1\n",
     ] {
-        assert!(rt; is_refused(alloc, text), "{text:?}");
+        assert!(rt; is_refused(rt.alloc(), text), "{text:?}");
     }
 }
 
 #[test]
-fn joins_runs(rt: HostRuntime) -> Result<(), Fail> {
-    let alloc = rt.alloc();
-    let node = NodeId::new(0).ok_or("a node")?;
-    let dot = Dot::new(node, 2).ok_or("a dot")?;
-    let mut context = Context::read_text(alloc, "n0:1,3")?;
+fn a_dot_joins_runs(rt: HostRuntime) -> Result<(), Fail> {
+    let dot = Dot::new(NodeId::nth(0), 2).ok_or("a dot")?;
+    let mut context = Context::read_text(rt.alloc(), "n0:1,3")?;
     assert!(rt; !context.contains(dot));
     context.insert(dot)?;
     assert!(rt; context.contains(dot));
-    assert_eq!(rt; written(alloc, &context)?.as_str(), "n0:1-3");
+    assert!(rt; is_written(rt.alloc(), &context, "n0:1-3")?);
+    Ok(())
+}
 
-    let mut context = Context::read_text(alloc, "n0:1,5")?;
-    let other = Context::read_text(alloc, "n0:2-4 n3:2")?;
-    context.union(alloc, &other)?;
-    assert_eq!(rt; written(alloc, &context)?.as_str(), "n0:1-5 n3:2");
-    assert!(rt; context.includes(&other));
-    assert!(rt; !other.includes(&context));
-    assert_eq!(rt; context.runs().len(), 2);
-    assert_eq!(rt; context.len(), 6);
-    assert!(rt; !context.is_empty());
+/// How many runs and dots it has, and whether it is empty.
+fn sizes(context: &Context) -> (usize, usize, bool) {
+    (context.runs().len(), context.len(), context.is_empty())
+}
+
+#[test]
+fn a_union_joins_runs(rt: HostRuntime) -> Result<(), Fail> {
+    let mut context = Context::read_text(rt.alloc(), "n0:1,5")?;
+    let other = Context::read_text(rt.alloc(), "n0:2-4 n3:2")?;
+    context.union(rt.alloc(), &other)?;
+    assert!(rt; is_written(rt.alloc(), &context, "n0:1-5 n3:2")?);
+    assert!(rt; context.includes(&other) && !other.includes(&context));
+    assert_eq!(rt; sizes(&context), (2, 6, false));
     Ok(())
 }
 
 #[test]
 fn begins_empty(rt: HostRuntime) -> Result<(), Fail> {
-    let alloc = rt.alloc();
-    let context = Context::new(alloc);
-    assert!(rt; context.is_empty());
-    assert_eq!(rt; context.len(), 0);
-    assert_eq!(rt; written(alloc, &context)?.as_str(), "-");
-    let same = Context::read_text(alloc, "n4:2")?.try_clone(alloc)?;
-    assert_eq!(rt; written(alloc, &same)?.as_str(), "n4:2");
+    let context = Context::new(rt.alloc());
+    assert_eq!(rt; sizes(&context), (0, 0, true));
+    assert!(rt; is_written(rt.alloc(), &context, "-")?);
+    Ok(())
+}
+
+#[test]
+fn a_clone_is_the_same(rt: HostRuntime) -> Result<(), Fail> {
+    let same = Context::read_text(rt.alloc(), "n4:2")?.try_clone(rt.alloc())?;
+    assert!(rt; is_written(rt.alloc(), &same, "n4:2")?);
     Ok(())
 }

@@ -1,68 +1,96 @@
 //! Calls whose growth may be refused: the store is as before, and the same call then answers what
-//! it would have. Run with each allocation failing in turn, one a run.
+//! it would have. Run with each allocation refused in turn, one a run.
 
-use super::{dot, node};
+use super::{deletion, dot_of};
 use crate::HintStore;
-use dy_dots::{Context, Dot, Fault};
-use dy_siblings::{Key, Row, Version};
+use dy_dots::{Fault, NodeId};
+use dy_siblings::Row;
 use std::alloc::Global;
 use std::test::Fail;
 
-// The row of the key with a deletion, that follows nothing.
-fn deletion(alloc: Global, key: &[u8], dot: Dot) -> Result<Row, Fault> {
-    let (key, past) = (Key::new(alloc, key)?, Context::new(alloc));
-    if past.contains(dot) {
-        return Ok(Row::new(alloc, key));
-    }
-    Row::of(alloc, Version::new(key, dot, past, None))
+// Why a scene stopped: something was wrong, or this call was refused for memory.
+#[derive(Clone, Copy, PartialEq, Drop)]
+enum Stop {
+    Wrong,
+    Row,
+    PutRow,
+    List,
 }
 
-// The row of the key, made anew where memory ran out.
-fn made(rt: &HostRuntime, key: &[u8]) -> Result<Row, Fail> {
-    let dot = dot(1)?;
-    match deletion(rt.alloc(), key, dot) {
+fn name_of(stop: Stop) -> &'static str {
+    match stop {
+        Stop::Wrong => "nothing",
+        Stop::Row => "row",
+        Stop::PutRow => "put_row",
+        Stop::List => "list",
+    }
+}
+
+fn refused(call: Stop, fault: Fault) -> Stop {
+    if fault == Fault::OutOfMemory {
+        call
+    } else {
+        Stop::Wrong
+    }
+}
+
+// The row of the key with a deletion.
+fn row_of(alloc: Global, key: &[u8]) -> Result<Row, Stop> {
+    let Some(dot) = dot_of(1) else {
+        return Err(Stop::Wrong);
+    };
+    match deletion(alloc, key, dot) {
         Ok(row) => Ok(row),
-        Err(fault) => {
-            println!(rt; "refused row {fault}")?;
-            Ok(deletion(rt.alloc(), key, dot)?)
-        }
+        Err(fault) => Err(refused(Stop::Row, fault)),
     }
 }
 
-// Puts the row for the home, again where memory ran out.
-fn put(rt: &HostRuntime, store: &mut HintStore, home: u8, key: &[u8]) -> Result<(), Fail> {
-    let row = made(rt, key)?;
-    let again = made(rt, key)?;
-    if let Err(fault) = store.put_row(node(home)?, row) {
-        println!(rt; "refused put_row {fault}")?;
-        if store.row(node(home)?, again.key()).is_some() {
-            return Err("a refused put_row left a hint".into());
-        }
-        store.put_row(node(home)?, again)?;
-    }
-    Ok(())
-}
-
-// How many hints are listed, asked for again where memory ran out.
-fn listed(rt: &HostRuntime, store: &HintStore) -> Result<usize, Fail> {
-    match store.list(rt.alloc()) {
-        Ok(hints) => Ok(hints.len()),
+// Puts the first row; a refusal leaves none, and the second is then put.
+fn put_one(store: &mut HintStore, home: NodeId, row: Row, again: Row) -> Result<(), Stop> {
+    match store.put_row(home, row) {
+        Ok(()) => Ok(()),
         Err(fault) => {
-            println!(rt; "refused list {fault}")?;
-            if fault != Fault::OutOfMemory {
-                return Err("a list that fails with memory".into());
+            if store.row(home, again.key()).is_none() && store.put_row(home, again).is_ok() {
+                Err(refused(Stop::PutRow, fault))
+            } else {
+                Err(Stop::Wrong)
             }
-            Ok(store.list(rt.alloc())?.len())
         }
     }
+}
+
+fn put(alloc: Global, store: &mut HintStore, home: u8, key: &[u8]) -> Result<(), Stop> {
+    let Some(home) = NodeId::new(home) else {
+        return Err(Stop::Wrong);
+    };
+    let row = row_of(alloc, key)?;
+    let again = row_of(alloc, key)?;
+    put_one(store, home, row, again)
+}
+
+// How many hints are listed.
+fn listed(alloc: Global, store: &HintStore) -> Result<usize, Stop> {
+    match store.list(alloc) {
+        Ok(hints) => Ok(hints.len()),
+        Err(fault) => Err(refused(Stop::List, fault)),
+    }
+}
+
+fn scene(alloc: Global, store: &mut HintStore) -> Result<bool, Stop> {
+    for (home, key) in [(2, b"a".as_slice()), (0, b"a"), (2, b"b")] {
+        put(alloc, store, home, key)?;
+    }
+    Ok(listed(alloc, store)? == 3)
 }
 
 #[test]
 fn survive_a_refused_growth(rt: HostRuntime) -> Result<(), Fail> {
-    let mut store = HintStore::new(rt.alloc());
-    put(&rt, &mut store, 2, b"a".as_slice())?;
-    put(&rt, &mut store, 0, b"a".as_slice())?;
-    put(&rt, &mut store, 2, b"b".as_slice())?;
-    assert_eq!(rt; listed(&rt, &store)?, 3);
+    let mut answer = scene(rt.alloc(), &mut HintStore::new(rt.alloc()));
+    if let Err(stop) = answer {
+        assert!(rt; stop != Stop::Wrong);
+        println!(rt; "refused {}", name_of(stop))?;
+        answer = scene(rt.alloc(), &mut HintStore::new(rt.alloc()));
+    }
+    assert!(rt; answer.is_ok_and(|is_right| is_right));
     Ok(())
 }

@@ -1,82 +1,117 @@
 //! Calls whose growth may be refused: the store is as before, and the same call then answers what
-//! it would have. Run with each allocation failing in turn, one a run.
+//! it would have. Run with each allocation refused in turn, one a run.
 
-use super::dot;
+use super::{deletion, dot_of};
 use crate::NodeStore;
-use dy_dots::{Context, Dot, Fault};
-use dy_siblings::{Key, Row, Version};
+use dy_dots::Fault;
+use dy_siblings::{Key, Row};
 use std::alloc::Global;
 use std::test::Fail;
 
-// The row of the key with a deletion, that follows nothing.
-fn deletion(alloc: Global, key: &[u8], dot: Dot) -> Result<Row, Fault> {
-    let (key, past) = (Key::new(alloc, key)?, Context::new(alloc));
-    if past.contains(dot) {
-        return Ok(Row::new(alloc, key));
-    }
-    Row::of(alloc, Version::new(key, dot, past, None))
+// Why a scene stopped: something was wrong, or this call was refused for memory.
+#[derive(Clone, Copy, PartialEq, Drop)]
+enum Stop {
+    Wrong,
+    Row,
+    PutRow,
+    UseCounter,
+    List,
 }
 
-// The row of the key, made anew where memory ran out.
-fn made(rt: &HostRuntime, key: &[u8]) -> Result<Row, Fail> {
-    let dot = dot(1)?;
-    match deletion(rt.alloc(), key, dot) {
+fn name_of(stop: Stop) -> &'static str {
+    match stop {
+        Stop::Wrong => "nothing",
+        Stop::Row => "row",
+        Stop::PutRow => "put_row",
+        Stop::UseCounter => "use_counter",
+        Stop::List => "list",
+    }
+}
+
+fn refused(call: Stop, fault: Fault) -> Stop {
+    if fault == Fault::OutOfMemory {
+        call
+    } else {
+        Stop::Wrong
+    }
+}
+
+// The row of the key with a deletion.
+fn row_of(alloc: Global, key: &[u8]) -> Result<Row, Stop> {
+    let Some(dot) = dot_of(1) else {
+        return Err(Stop::Wrong);
+    };
+    match deletion(alloc, key, dot) {
         Ok(row) => Ok(row),
+        Err(fault) => Err(refused(Stop::Row, fault)),
+    }
+}
+
+// Puts the first row; a refusal leaves none, and the second is then put.
+fn put_one(store: &mut NodeStore, row: Row, again: Row) -> Result<(), Stop> {
+    match store.put_row(row) {
+        Ok(()) => Ok(()),
         Err(fault) => {
-            println!(rt; "refused row {fault}")?;
-            Ok(deletion(rt.alloc(), key, dot)?)
-        }
-    }
-}
-
-// Puts the row, again where memory ran out.
-fn put(rt: &HostRuntime, store: &mut NodeStore, key: &[u8]) -> Result<(), Fail> {
-    let row = made(rt, key)?;
-    let again = made(rt, key)?;
-    if let Err(fault) = store.put_row(row) {
-        println!(rt; "refused put_row {fault}")?;
-        if store.row(again.key()).is_some() {
-            return Err("a refused put_row left a row".into());
-        }
-        store.put_row(again)?;
-    }
-    Ok(())
-}
-
-// Uses the counter 3, again where memory ran out.
-fn used(rt: &HostRuntime, store: &mut NodeStore, key: &Key) -> Result<(), Fail> {
-    if let Err(fault) = store.use_counter(key, 3) {
-        println!(rt; "refused use_counter {fault}")?;
-        if store.next_counter(key, 9) != Ok(1) {
-            return Err("a refused use_counter used one".into());
-        }
-        store.use_counter(key, 3)?;
-    }
-    Ok(())
-}
-
-// How many rows are listed, asked for again where memory ran out.
-fn listed(rt: &HostRuntime, store: &NodeStore) -> Result<usize, Fail> {
-    match store.list(rt.alloc()) {
-        Ok(rows) => Ok(rows.len()),
-        Err(fault) => {
-            println!(rt; "refused list {fault}")?;
-            if fault != Fault::OutOfMemory {
-                return Err("a list that fails with memory".into());
+            if store.row(again.key()).is_none() && store.put_row(again).is_ok() {
+                Err(refused(Stop::PutRow, fault))
+            } else {
+                Err(Stop::Wrong)
             }
-            Ok(store.list(rt.alloc())?.len())
         }
     }
+}
+
+fn put(alloc: Global, store: &mut NodeStore, key: &[u8]) -> Result<(), Stop> {
+    let row = row_of(alloc, key)?;
+    let again = row_of(alloc, key)?;
+    put_one(store, row, again)
+}
+
+fn is_next(store: &NodeStore, key: &Key, counter: u32) -> bool {
+    match store.next_counter(key, 9) {
+        Ok(next) => next == counter,
+        Err(_fault) => false,
+    }
+}
+
+// Uses the counter 3; a refusal uses none, and it is then used.
+fn use_three(store: &mut NodeStore, key: &Key) -> Result<(), Stop> {
+    match store.use_counter(key, 3) {
+        Ok(()) => Ok(()),
+        Err(fault) => {
+            if is_next(store, key, 1) && store.use_counter(key, 3).is_ok() {
+                Err(refused(Stop::UseCounter, fault))
+            } else {
+                Err(Stop::Wrong)
+            }
+        }
+    }
+}
+
+// How many rows are listed.
+fn listed(alloc: Global, store: &NodeStore) -> Result<usize, Stop> {
+    match store.list(alloc) {
+        Ok(rows) => Ok(rows.len()),
+        Err(fault) => Err(refused(Stop::List, fault)),
+    }
+}
+
+fn scene(alloc: Global, store: &mut NodeStore) -> Result<bool, Stop> {
+    put(alloc, store, b"a".as_slice())?;
+    put(alloc, store, b"b".as_slice())?;
+    let row = row_of(alloc, b"a".as_slice())?;
+    use_three(store, row.key())?;
+    Ok(is_next(store, row.key(), 4) && listed(alloc, store)? == 2)
 }
 
 #[test]
 fn survive_a_refused_growth(rt: HostRuntime) -> Result<(), Fail> {
-    let mut store = NodeStore::new(rt.alloc());
-    put(&rt, &mut store, b"a".as_slice())?;
-    put(&rt, &mut store, b"b".as_slice())?;
-    let row = made(&rt, b"a".as_slice())?;
-    used(&rt, &mut store, row.key())?;
-    assert_eq!(rt; store.next_counter(row.key(), 9), Ok(4));
-    assert_eq!(rt; listed(&rt, &store)?, 2);
+    let mut answer = scene(rt.alloc(), &mut NodeStore::new(rt.alloc()));
+    if let Err(stop) = answer {
+        assert!(rt; stop != Stop::Wrong);
+        println!(rt; "refused {}", name_of(stop))?;
+        answer = scene(rt.alloc(), &mut NodeStore::new(rt.alloc()));
+    }
+    assert!(rt; answer.is_ok_and(|is_right| is_right));
     Ok(())
 }

@@ -1,9 +1,9 @@
-ghost use Rattle.std.specs.Prelude.{◌≡◌, [], None, Some, IfOk, IfSome};
+ghost use Rattle.std.specs.Prelude.{◌≡◌, ◌∷◌, [], None, Some, IfOk, IfSome, IsTrue};
 ghost use Rattle.std.specs.FinSet as set;
 ghost use Rattle.dy_core.specs.declared.steps.Step.TheVariants.{Hold, Issue};
-ghost use Rattle.dy_shares.specs.Shares.{empty_account, node_of, receipt_parts};
+ghost use Rattle.dy_shares.specs.Shares.{MayFollow, empty_account, node_of, receipt_parts};
 
-use dy_core::{Step, World};
+use dy_core::{Place, Step, World};
 use dy_dots::{Context, Dot, Fault, NodeId};
 use dy_shares::{Ledger, Naming, NodeShare, Receipt};
 use dy_siblings::{Key, Row};
@@ -37,23 +37,31 @@ impl<J: Naming> Model for Watched<J> {
 fn making(alloc: Global, node: NodeId, key: &Key) -> Result<Step, Fault>
     ensures { IfOk result (λ step. step ≡ Issue node key.now set.empty None) }
 {
+    let key = key.try_clone(alloc)?;
     Ok(Step::Issue {
         node,
-        key: key.try_clone(alloc)?,
+        key,
         context: Context::new(alloc),
         value: None,
     })
 }
 
 // The holder holds the row for the home.
-fn holding(alloc: Global, holder: NodeId, home: NodeId, row: &Row) -> Result<Step, Fault>
-    ensures { IfOk result (λ step. step ≡ Hold holder home row.now) }
+fn holding(alloc: Global, place: Place, row: &Row) -> Result<Step, Fault>
+    ensures { IfOk result (λ step. step ≡ Hold place.holder place.home row.now) }
 {
-    Ok(Step::Hold {
-        holder,
-        home,
-        row: row.try_clone(alloc)?,
-    })
+    let row = row.try_clone(alloc)?;
+    let Place { holder, home } = place;
+    Ok(Step::Hold { holder, home, row })
+}
+
+// The one step.
+fn alone(alloc: Global, step: Step) -> Result<Vec<Step>, Fault>
+    ensures { IfOk result (λ steps. steps.items ≡ step ∷ []) }
+{
+    let mut steps = Vec::with_capacity(alloc, 1)?;
+    steps.push_reserved(step);
+    Ok(steps)
 }
 
 impl<J: Naming> Watched<J> {
@@ -77,6 +85,39 @@ impl<J: Naming> Watched<J> {
         ledger
     }
 
+    // Whether the step is allowed now.
+    fn allows(&self, alloc: Global, step: &Step) -> Result<bool, Fault>
+        ensures { IfOk result
+            (λ yes. IsTrue yes → MayFollow J.ring J.n self.now.log (step.now ∷ [])) }
+    {
+        if !self.is_whole {
+            return Ok(false);
+        }
+        self.world.allows(alloc, step)
+    }
+
+    // Makes the step, which is given twice, in the world and in the log.
+    fn make(
+        &mut self,
+        alloc: Global,
+        share: &mut NodeShare<J>,
+        steps: Vec<Step>,
+        same: Step,
+    ) -> Result<bool, Fault>
+        requires own { node_of same ≡ Some share.old.node }
+        requires same { steps.items ≡ same ∷ [] }
+        requires allowed { MayFollow J.ring J.n self.old.log (same ∷ []) }
+    {
+        if !self.is_whole {
+            return Ok(false);
+        }
+        self.is_whole = false;
+        let _row = self.world.apply(alloc, same)?;
+        self.ledger.node_steps(share, steps)?;
+        self.is_whole = true;
+        Ok(true)
+    }
+
     // Whether the step, which is given twice, was allowed and came to the log.
     fn node_step(
         &mut self,
@@ -88,16 +129,11 @@ impl<J: Naming> Watched<J> {
         requires own { node_of step ≡ Some share.old.node }
         requires same { same ≡ step }
     {
-        if !self.is_whole || !self.world.allows(alloc, &step)? {
+        if !self.allows(alloc, &step)? {
             return Ok(false);
         }
-        let mut steps = Vec::with_capacity(alloc, 1)?;
-        steps.push_reserved(step);
-        self.is_whole = false;
-        let _row = self.world.apply(alloc, same)?;
-        self.ledger.node_steps(share, steps)?;
-        self.is_whole = true;
-        Ok(true)
+        let steps = alone(alloc, step)?;
+        self.make(alloc, share, steps, same)
     }
 
     // The share's node makes its first version of the key.
@@ -129,20 +165,23 @@ impl<J: Naming> Watched<J> {
             return Ok(None);
         };
         let holder = share.node();
+        let place = Place { holder, home };
         let row = Row::of(alloc, version.try_clone(alloc)?)?;
-        let step = holding(alloc, holder, home, &row)?;
-        let same = holding(alloc, holder, home, &row)?;
+        let step = holding(alloc, place, &row)?;
+        let same = holding(alloc, place, &row)?;
         let _held = self.node_step(alloc, share, step, same)?;
-        Ok(self.receipt(key.try_clone(alloc)?, dot, home, holder))
+        Ok(self.receipt(key.try_clone(alloc)?, dot, place))
     }
 
     // A receipt, where the holder covers the dot for the home now.
-    fn receipt(&self, key: Key, dot: Dot, home: NodeId, holder: NodeId) -> Option<Receipt<J>>
-        ensures { IfSome result (λ receipt. receipt ≡ receipt_parts key dot home holder) }
+    fn receipt(&self, key: Key, dot: Dot, place: Place) -> Option<Receipt<J>>
+        ensures { IfSome result
+            (λ receipt. receipt ≡ receipt_parts key dot place.holder place.home) }
     {
-        if !self.is_whole || !self.world.place_covers(holder, home, &key, dot) {
+        let Place { holder, home } = place;
+        if !self.is_whole || !self.world.place_covers(place, &key, dot) {
             return None;
         }
-        Some(self.ledger.receipt(key, dot, home, holder))
+        Some(self.ledger.receipt(key, dot, Place { holder, home }))
     }
 }

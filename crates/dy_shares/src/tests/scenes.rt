@@ -1,11 +1,11 @@
-ghost use Rattle.std.specs.Prelude.{◌≡◌, [], IfOk};
+ghost use Rattle.std.specs.Prelude.{◌≡◌, [], IfOk, IfSome};
 
-use super::watched::Watched;
-use crate::{Blank, Ledger, Naming, NodeShare, Receipt, SessionShare};
-use dy_core::{Step, World};
+use super::watched::{Watched, place_of};
+use crate::{Blank, Ledger, Merging, Naming, NodeShare, Receipt, Seen, SessionShare};
+use dy_core::{Place, Step, World};
 use dy_dots::{Context, Dot, Fault, NodeId};
 use dy_ring::Ring;
-use dy_siblings::Key;
+use dy_siblings::{Key, Row};
 use std::alloc::Global;
 use std::marker::Brand;
 use std::sync::{Mutex, Wait};
@@ -34,24 +34,20 @@ fn three_nodes(alloc: Global, n: u8) -> Result<World, Fault>
     World::new(alloc, ring, n)
 }
 
-// The node of the share makes its first version of the key.
-fn issue<J: Naming>(
+// The node of the share makes its first version of the key, and holds it for itself.
+fn issue_and_hold<J: Naming>(
     alloc: Global,
     watched: &mut Watched<J>,
     share: &mut NodeShare<J>,
     key: &Key,
+    context: &Context,
 ) -> Result<Option<Dot>, Fault> {
-    let node = share.node();
-    let step = Step::Issue {
-        node,
-        key: key.try_clone(alloc)?,
-        context: Context::new(alloc),
-        value: None,
-    };
-    if !watched.node_step(alloc, share, step)? {
+    let Some(dot) = watched.issue(alloc, share, key, context)? else {
         return Ok(None);
-    }
-    Ok(Dot::new(node, 1))
+    };
+    let node = share.node();
+    watched.hold(alloc, share, node, key, dot)?;
+    Ok(Some(dot))
 }
 
 // A node makes a version, holds it for itself, and gives a receipt.
@@ -59,36 +55,61 @@ fn make_version<J: Naming>(
     alloc: Global,
     watched: &mut Watched<J>,
     share: &mut NodeShare<J>,
+    key: Key,
 ) -> Result<Option<Receipt<J>>, Fault> {
-    let node = share.node();
-    let key = Key::new(alloc, b"a")?;
-    let Some(dot) = issue(alloc, watched, share, &key)? else {
-        return Ok(None);
-    };
-    let _held = watched.hold(alloc, share, node, &key, dot)?;
-    Ok(watched.receipt(key, dot, node, node))
+    let made = issue_and_hold(alloc, watched, share, &key, &Context::new(alloc))?;
+    match made {
+        Some(dot) => Ok(watched.receipt(key, dot, Place::own(share.node()))),
+        None => Ok(None),
+    }
 }
 
-// One thread: it takes a receipt out of the lock, and spends it under the lock later, whatever the
-// others did in between. A fetch tells in the log that it was spent.
+// A fetch tells in the log that the receipt was spent.
+fn spend<J: Naming>(alloc: Global, watched: &mut Watched<J>, receipt: &Receipt<J>) {
+    if watched.spend(receipt) == Some(true) {
+        let place = place_of(receipt);
+        let _seen = watched.fetch(alloc, place, receipt.key()).is_ok();
+    }
+}
+
+// What the node of the share answers for itself, taken out of the lock.
+fn ask<J: Naming>(
+    rt: &impl Wait,
+    alloc: Global,
+    lock: &Mutex<Watched<J>>,
+    node: NodeId,
+    key: &Key,
+) -> Option<Seen<J>> {
+    let mut guard = lock.lock(rt);
+    match guard.fetch(alloc, Place::own(node), key) {
+        Ok(seen) => seen,
+        Err(_) => None,
+    }
+}
+
+// One thread: it takes an answer and a receipt out of the lock, and spends them under it later,
+// whatever the others did in between.
 fn put<J: Naming>(
     rt: &impl Wait,
     alloc: Global,
     lock: &Mutex<Watched<J>>,
     share: &mut NodeShare<J>,
 ) {
+    let Ok(key) = Key::new(alloc, b"a") else {
+        return;
+    };
+    let seen = ask(rt, alloc, lock, share.node(), &key);
     let made = {
         let mut guard = lock.lock(rt);
-        make_version(alloc, &mut *guard, share)
+        make_version(alloc, &mut *guard, share, key)
     };
+    if let Some(seen) = seen {
+        let mut guard = lock.lock(rt);
+        guard.find(&seen);
+    }
     if let Ok(Some(receipt)) = made {
         let mut guard = lock.lock(rt);
-        let watched = &mut *guard;
-        if watched.spend(&receipt) == Some(true) {
-            let _seen = watched
-                .fetch(alloc, receipt.holder(), receipt.home(), receipt.key())
-                .is_ok();
-        }
+        spend(alloc, &mut *guard, &receipt);
     }
 }
 
@@ -134,27 +155,20 @@ fn three<J: Naming + Send + Sync, R: Threads + Wait + Sync>(
     end(lock.into_inner().into_ledger(), nodes, Vec::new(alloc))
 }
 
-// The nodes 0 and 2 hold a version of node 0, node 2 for home 1. It gives the receipt of node 2.
+// Node 2 holds the version for home 1, and gives a receipt.
 fn hint<J: Naming>(
     alloc: Global,
     watched: &mut Watched<J>,
     nodes: &mut [NodeShare<J>],
-    key: &Key,
+    key: Key,
+    dot: Dot,
 ) -> Result<Option<Receipt<J>>, Fault> {
-    let Some(zero) = nodes.first_mut() else {
-        return Ok(None);
-    };
-    let first = zero.node();
-    let Some(dot) = issue(alloc, watched, zero, key)? else {
-        return Ok(None);
-    };
-    watched.hold(alloc, zero, first, key, dot)?;
     let (Some(home), Some(two)) = (NodeId::new(1), nodes.get_mut(2)) else {
         return Ok(None);
     };
     let holder = two.node();
-    watched.hold(alloc, two, home, key, dot)?;
-    Ok(watched.receipt(key.try_clone(alloc)?, dot, home, holder))
+    watched.hold(alloc, two, home, &key, dot)?;
+    Ok(watched.receipt(key, dot, Place { holder, home }))
 }
 
 // The home of the receipt holds its version, and then the holder gives it up.
@@ -168,18 +182,27 @@ fn hand_over<J: Naming>(
     if let Some(one) = nodes.get_mut(1) {
         watched.hold(alloc, one, home, key, dot)?;
     }
-    let key = key.try_clone(alloc)?;
     if let Some(two) = nodes.get_mut(2) {
-        let holder = two.node();
-        let release = Step::Release {
-            holder,
-            home,
-            key,
-            dot,
-        };
-        watched.node_step(alloc, two, release)?;
+        watched.release(alloc, two, home, key, dot)?;
     }
     Ok(())
+}
+
+// The nodes 0 and 2 hold a version of node 0, node 2 for home 1. It gives the receipt of node 2.
+fn first_put<J: Naming>(
+    alloc: Global,
+    watched: &mut Watched<J>,
+    nodes: &mut [NodeShare<J>],
+) -> Result<Option<Receipt<J>>, Fault> {
+    let key = Key::new(alloc, b"a")?;
+    let made = match nodes.first_mut() {
+        Some(zero) => issue_and_hold(alloc, watched, zero, &key, &Context::new(alloc))?,
+        None => None,
+    };
+    match made {
+        Some(dot) => hint(alloc, watched, nodes, key, dot),
+        None => Ok(None),
+    }
 }
 
 // A put is acknowledged by a node and a stand-in, whose hint goes to its home. It says what the
@@ -192,16 +215,10 @@ fn stand_in<J: Naming>(
 ) -> Result<Option<bool>, Fault>
     requires { J.r ≡ 1 }
 {
-    let key = Key::new(alloc, b"a")?;
-    let Some(receipt) = hint(alloc, watched, nodes, &key)? else {
+    let Some(receipt) = first_put(alloc, watched, nodes)? else {
         return Ok(None);
     };
-    let ack = Step::Ack {
-        key,
-        dot: receipt.dot(),
-        w: 2,
-    };
-    watched.ack_step(alloc, session, ack)?;
+    watched.ack(alloc, session, receipt.key(), receipt.dot(), 2)?;
     hand_over(alloc, watched, nodes, &receipt)?;
     tell(alloc, watched, session, &receipt)?;
     Ok(watched.spend(&receipt))
@@ -218,7 +235,7 @@ fn tell<J: Naming>(
 {
     let mut seens = Vec::with_capacity(alloc, 1)?;
     let home = receipt.home();
-    if let Some(seen) = watched.fetch(alloc, home, home, receipt.key())? {
+    if let Some(seen) = watched.fetch(alloc, Place::own(home), receipt.key())? {
         if session.since().at() < seen.at() {
             seens.push_reserved(seen);
             session.note_get(seens)?;
@@ -260,24 +277,26 @@ fn handed_over<J: Naming>(
     Ok((spent?, steps.len(), gets, since))
 }
 
+// How many steps of the log are issues, holds and fetches.
+fn counts(steps: &[Step]) -> (usize, usize, usize) {
+    let (mut issues, mut holds, mut fetches) = (0usize, 0usize, 0usize);
+    for step in steps {
+        match step {
+            Step::Issue { .. } => issues = issues.saturating_add(1),
+            Step::Hold { .. } => holds = holds.saturating_add(1),
+            Step::Fetch { .. } => fetches = fetches.saturating_add(1),
+            Step::Release { .. } | Step::Ack { .. } => {}
+        }
+    }
+    (issues, holds, fetches)
+}
+
 #[test]
-fn receipts_are_spent_by_other_threads(rt: HostRuntime) -> Result<(), Fault> {
+fn witnesses_are_spent_by_other_threads(rt: HostRuntime) -> Result<(), Fault> {
     let blank = Blank::new(rt.alloc())?;
     let world = three_nodes(rt.alloc(), 3)?;
     let steps = three::<Brand, _>(&rt, rt.alloc(), blank, world)?;
-    let issues = steps
-        .iter()
-        .filter(|step| matches!(step, Step::Issue { .. }));
-    assert!(&rt; issues.count() == 3);
-    let holds = steps
-        .iter()
-        .filter(|step| matches!(step, Step::Hold { .. }));
-    assert!(&rt; holds.count() == 3);
-    let fetches = steps
-        .iter()
-        .filter(|step| matches!(step, Step::Fetch { .. }));
-    assert!(&rt; fetches.count() == 3);
-    assert!(&rt; steps.len() == 9);
+    assert!(&rt; counts(steps.as_slice()) == (3, 3, 6) && steps.len() == 12);
     Ok(())
 }
 
@@ -303,4 +322,88 @@ fn shares_survive_a_refused_growth(rt: HostRuntime) -> Result<(), Fault> {
         Ok(_) | Err(Fault::OutOfMemory) => Ok(()),
         Err(fault) => Err(fault),
     }
+}
+
+// The node of the share makes a version that follows those which the context names, and answers.
+fn put_and_get<J: Naming>(
+    alloc: Global,
+    watched: &mut Watched<J>,
+    share: &mut NodeShare<J>,
+    key: &Key,
+    context: &Context,
+) -> Result<Option<Seen<J>>, Fault>
+    ensures { IfOk result (λ found. IfSome found (λ seen. seen.key ≡ key.now)) }
+{
+    issue_and_hold(alloc, watched, share, key, context)?;
+    watched.fetch(alloc, Place::own(share.node()), key)
+}
+
+// The merge of two answers.
+fn merged<J: Naming>(alloc: Global, one: &Seen<J>, other: &Seen<J>) -> Result<Row, Fault>
+    requires { one.now.key ≡ other.now.key }
+{
+    let mut merging = Merging::of(alloc, one)?;
+    merging.add(alloc, other)?;
+    Ok(merging.into_row())
+}
+
+// Node 0 puts, and node 1 puts what follows it. It gives the merge of what both answer.
+fn two_answers<J: Naming>(
+    alloc: Global,
+    watched: &mut Watched<J>,
+    nodes: &mut [NodeShare<J>],
+    key: &Key,
+) -> Result<Option<Row>, Fault> {
+    let Some(zero) = nodes.first_mut() else {
+        return Ok(None);
+    };
+    let Some(first) = put_and_get(alloc, watched, zero, key, &Context::new(alloc))? else {
+        return Ok(None);
+    };
+    let context = first.row().context(alloc)?;
+    let Some(one) = nodes.get_mut(1) else {
+        return Ok(None);
+    };
+    match put_and_get(alloc, watched, one, key, &context)? {
+        Some(second) => Ok(Some(merged(alloc, &first, &second)?)),
+        None => Ok(None),
+    }
+}
+
+fn merge_of_two<J: Naming>(
+    alloc: Global,
+    blank: Blank,
+    world: World,
+    key: &Key,
+) -> Result<Option<Row>, Fault>
+    requires named { blank ≡ record { book = J.book; table = J.table } }
+    requires world { world ≡ record { ring = J.ring; n = J.n; steps = [] } }
+    requires nodes { J.ring.nodes ≡ 3 }
+{
+    let (ledger, mut nodes) = Ledger::<J>::open(alloc, blank, 3)?;
+    let mut watched = Watched::new(ledger, world);
+    let row = two_answers(alloc, &mut watched, nodes.as_mut_slice(), key);
+    watched.into_ledger().abandon(nodes, Vec::new(alloc));
+    row
+}
+
+// The dots of that merge, from nothing.
+fn merged_dots(alloc: Global) -> Result<Option<Context>, Fault> {
+    let blank = Blank::new(alloc)?;
+    let world = three_nodes(alloc, 2)?;
+    let key = Key::new(alloc, b"a")?;
+    match merge_of_two::<Brand>(alloc, blank, world, &key)? {
+        Some(row) => Ok(Some(row.dots(alloc)?)),
+        None => Ok(None),
+    }
+}
+
+#[test]
+fn a_version_that_follows_another_is_left_alone(rt: HostRuntime) -> Result<(), Fault> {
+    let mut text = String::new(rt.alloc());
+    if let Some(dots) = merged_dots(rt.alloc())? {
+        dots.write_text(rt.alloc(), &mut text)?;
+    }
+    assert!(&rt; text.as_str() == "n1:1");
+    Ok(())
 }

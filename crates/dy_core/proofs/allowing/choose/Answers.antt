@@ -1,6 +1,6 @@
 use Rattle.std.proofs.Common.{◌≡◌, false, sym, ap, ◌∙◌, subst}
 use Rattle.std.specs.List.{list_any}
-use Rattle.dy_core.specs.Inside.{AreChosen, clashes}
+use Rattle.dy_core.specs.inside.Meanings.{AreChosen, clashes}
 use Rattle.dy_core.proofs.Choosing.{chosen_more}
 use Rattle.dy_core.proofs.allowing.choose.Goals.{then-eq-own+then-not-have_clash+in_ok-push, else-eq-own}
 use Rattle.dy_core.proofs.allowing.choose.Goals as goal

@@ -1,4 +1,4 @@
-use Rattle.dy_core.specs.Inside.{AreChosen}
+use Rattle.dy_core.specs.inside.Meanings.{AreChosen}
 use Rattle.dy_core.proofs.allowing.choose.Given as goal
 
 abbrev pub invariant-loop-place : goal.invariant-loop-place

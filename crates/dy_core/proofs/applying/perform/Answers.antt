@@ -1,8 +1,9 @@
+-- Each step of the model is done in the lists that mean it: one lemma of Performing for each.
 use Rattle.std.proofs.Common.{◌≡◌, ◌<◌, ◌+◌, false, sym, ap, ◌∙◌, subst}
 use Rattle.dy_siblings.specs.Siblings.{IsSameRow}
-use Rattle.dy_core.specs.Steps.{answer_of}
+use Rattle.dy_core.specs.Steps.{row_answered}
 use Rattle.dy_core.specs.Logs.{world_after}
-use Rattle.dy_core.specs.Inside.{last_in, named_in, row_in}
+use Rattle.dy_core.specs.inside.Meanings.{last_in, named_in, row_in}
 use Rattle.dy_core.specs.Orders.{ack_cmp, put}
 use Rattle.dy_core.proofs.Performing.{room_is, fresh_is, issue_goes, agree_is, hold_goes, release_goes, fetch_goes, fetch_answers, ack_goes}
 use Rattle.dy_core.proofs.applying.perform.Goals as goal
@@ -54,7 +55,7 @@ returns-in_ok-answer-in-Fetch-clause-log c = λ layout steps old allowed.
 
 pub returns-in_ok-answer-in-Fetch-clause-row : goal.returns-in_ok-answer-in-Fetch-clause-row
 returns-in_ok-answer-in-Fetch-clause-row c = λ layout steps old.
-    subst (λ vs. IsSameRow vs (answer_of (world_after steps) c.args.step.now))
+    subst (λ vs. IsSameRow vs (row_answered (world_after steps) c.args.step.now))
     (sym (ap (λ r. r.versions) c.in_ok-answer-in-Fetch.ensures.ok
     ∙ ap (λ hs. row_in hs c.in-Fetch.holder c.in-Fetch.home c.in-Fetch.key) c.as_slice-in-Fetch.ensures.value))
     (fetch_answers layout steps _ _ _ old c.args.step.now _ _ _ c.in-Fetch.is)

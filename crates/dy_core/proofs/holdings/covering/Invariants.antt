@@ -1,5 +1,5 @@
 use Rattle.std.proofs.Common.{◌≡◌, take}
-use Rattle.dy_core.specs.Inside.{gathered, is_covering, place_of}
+use Rattle.dy_core.specs.inside.Meanings.{gathered, is_covering, place_of}
 use Rattle.dy_core.specs.Orders.{place_cmp}
 use Rattle.dy_core.proofs.holdings.covering.Given as goal
 

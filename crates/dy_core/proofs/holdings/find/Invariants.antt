@@ -1,5 +1,5 @@
 use Rattle.std.proofs.Common.{◌≡◌, drop}
-use Rattle.dy_core.specs.Inside.{row_in}
+use Rattle.dy_core.specs.inside.Meanings.{row_in}
 use Rattle.dy_core.proofs.holdings.find.Given as goal
 
 abbrev pub invariant-loop-holding : goal.invariant-loop-holding

@@ -1,6 +1,6 @@
 use Rattle.std.proofs.Common.{◌≡◌, ap, ◌∙◌, subst}
 use Rattle.dy_siblings.specs.Siblings.{IsSameRow, merge}
-use Rattle.dy_core.specs.Inside.{row_in}
+use Rattle.dy_core.specs.inside.Meanings.{row_in}
 use Rattle.dy_core.proofs.holdings.hold.Goals as goal
 
 pub returns-clause-ok : goal.returns-clause-ok

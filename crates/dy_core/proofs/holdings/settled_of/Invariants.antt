@@ -1,5 +1,5 @@
 use Rattle.std.proofs.Common.{◌≡◌, take}
-use Rattle.dy_core.specs.Inside.{gathered, settled_in}
+use Rattle.dy_core.specs.inside.Meanings.{gathered, settled_in}
 use Rattle.dy_core.specs.Orders.{key_cmp}
 use Rattle.dy_core.proofs.holdings.settled_of.Given as goal
 

@@ -1,6 +1,6 @@
 use Rattle.std.proofs.Common.{◌≡◌, take}
 use Rattle.std.specs.FinSet as set
-use Rattle.dy_core.specs.Inside.{named_in}
+use Rattle.dy_core.specs.inside.Meanings.{named_in}
 use Rattle.dy_dots.specs.declared.dots.Dot.{Dot}
 use Rattle.dy_core.proofs.issuing.past_of_context.Given as goal
 

@@ -1,4 +1,4 @@
-use Rattle.dy_core.specs.Inside.{AreIssuedBelow}
+use Rattle.dy_core.specs.inside.Meanings.{AreIssuedBelow}
 use Rattle.dy_core.proofs.unknowns.first_in.Given as goal
 
 abbrev pub invariant-loop-counter : goal.invariant-loop-counter

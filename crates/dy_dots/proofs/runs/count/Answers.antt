@@ -1,5 +1,5 @@
 use Rattle.std.proofs.Common.{arith, rules, ◌≡◌, ◌+◌, ◌-◌, ◌≤◌, drop}
-use Rattle.dy_dots.specs.Runs.{count_of}
+use Rattle.dy_dots.specs.inside.Kinds.{count_of}
 use Rattle.dy_dots.proofs.Lists.{valid_at}
 use Rattle.dy_dots.proofs.Sizes.{count_at, count_small}
 use Rattle.dy_dots.proofs.runs.count.Goals as goal

@@ -1,5 +1,5 @@
 use Rattle.std.proofs.Common.{◌≡◌, ◌+◌, drop}
-use Rattle.dy_dots.specs.Runs.{count_of}
+use Rattle.dy_dots.specs.inside.Kinds.{count_of}
 use Rattle.dy_dots.proofs.runs.count.Given as goal
 
 abbrev pub invariant-loop-run : goal.invariant-loop-run

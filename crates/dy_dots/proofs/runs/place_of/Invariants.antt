@@ -1,5 +1,5 @@
 use Rattle.std.proofs.Common.{ℕ, ◌<◌, ◌≤◌, ◌-◌, get_or, length}
-use Rattle.dy_dots.specs.Kinds.{IsBelow, IsReached}
+use Rattle.dy_dots.specs.inside.Kinds.{IsBelow, IsReached}
 use Rattle.dy_dots.proofs.runs.place_of.Given as goal
 
 abbrev pub invariant-loop-low : goal.invariant-loop-low

@@ -1,5 +1,5 @@
 use Rattle.std.proofs.Common.{◌≡◌, ◌≤◌, drop}
-use Rattle.dy_dots.specs.Reading.{read_from, read_runs}
+use Rattle.dy_dots.specs.inside.Reading.{read_from, read_runs}
 use Rattle.dy_dots.proofs.texts.runs_in.Given as goal
 
 abbrev pub invariant-loop-byte : goal.invariant-loop-byte

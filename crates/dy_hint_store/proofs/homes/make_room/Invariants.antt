@@ -1,5 +1,5 @@
 use Rattle.std.proofs.Common.{◌≤◌, ◌+◌, ◌-◌, length, vec_len}
-use Rattle.dy_hint_store.specs.Homes.{HaveSameRows}
+use Rattle.dy_hint_store.specs.inside.Homes.{HaveSameRows}
 use Rattle.dy_hint_store.proofs.homes.make_room.Given as goal
 
 -- the maps that were made have no rows

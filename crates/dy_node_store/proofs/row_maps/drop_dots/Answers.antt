@@ -1,4 +1,4 @@
-use Rattle.std.proofs.Common.{sym, ap, ◌∙◌, ◌∷◌, ◌+◌, drop, arith}
+use Rattle.std.proofs.Common.{sym, ap, ◌∙◌, ◌∷◌, ◌+◌, drop}
 use Rattle.std.proofs.lemmas.List.{drop_more, drop_all}
 use Rattle.dy_node_store.specs.Rows.{without_dots}
 use Rattle.dy_node_store.proofs.DotLemmas.{without_dots_none, without_dots-without}

@@ -7,7 +7,12 @@ use Rattle.dy_preference.proofs.orders.preference.Goals as goal
 pub of-requires : goal.of-requires
 of-requires c =
     let by : IsByDistance c.args.ring.now (position_of c.args.key.now) c.in_ok-nodes.nodes.items = c.in_ok-nodes.ensures.order in
-    record { some = c.requires.some; enough = omega (arith, by.count, c.requires.enough); distinct = by.once }
+    record {
+      some = c.requires.some;
+      enough = omega (arith, by.count, c.requires.enough);
+      few = c.in_ok-nodes.ensures.few;
+      distinct = by.once;
+    }
 
 pub returns-clause-nodes : goal.returns-clause-nodes
 returns-clause-nodes c = ap (λ (p : Preferred). p.nodes) c.of.ensures ∙ c.in_ok-nodes.ensures.nodes

@@ -1,4 +1,4 @@
-use Rattle.std.proofs.Common.{arith}
+use Rattle.dy_quorum.proofs.Choices.{holders_distinct}
 use Rattle.dy_quorum.proofs.laws.distinct_homes_are_enough.Goals as goal
 
 -- one holder has one home
@@ -9,7 +9,6 @@ returns c w rs chosen agree choice = (
     count = choice.count;
     among = choice.among;
     homes = choice.homes;
-    holders = λ i j d before inside same.
-        choice.homes i j d before inside ((agree _ _ (choice.among i d (omega (arith, before, inside))) (choice.among j d inside)).2 same);
+    holders = holders_distinct rs chosen agree choice.among choice.homes;
   },
 )

@@ -1,5 +1,5 @@
 use Rattle.std.proofs.Common.{sym, ◌∙◌}
-use Rattle.dy_quorum.proofs.TallyLemmas.{homes_same, homes_more, few_firsts, chosen_more, chosen_same}
+use Rattle.dy_quorum.proofs.Choices.{homes_same, homes_more, few_firsts, chosen_more, chosen_same}
 use Rattle.dy_quorum.proofs.tallies.first_of_each.Goals as goal
 
 pub loop-receipt-preserved-then-not-contains : goal.loop-receipt-preserved-then-not-contains

@@ -1,5 +1,5 @@
 use Rattle.std.proofs.Common.{◌≡◌, ◌≤◌, length, vec_capacity}
-use Rattle.dy_quorum.specs.Tallies.{firsts, receipt_homes}
+use Rattle.dy_quorum.specs.inside.Counting.{firsts, receipt_homes}
 use Rattle.dy_quorum.proofs.tallies.first_of_each.Given as goal
 
 abbrev pub invariant-loop-receipt : goal.invariant-loop-receipt

@@ -1,5 +1,5 @@
 use Rattle.std.proofs.Common.{◌≡◌, drop}
-use Rattle.dy_ring.specs.Steps.{clash_after, clash_of}
+use Rattle.dy_ring.specs.inside.Making.{clash_after, clash_of}
 use Rattle.dy_ring.proofs.givens.first_clash.Given as goal
 
 abbrev pub invariant-loop-token : goal.invariant-loop-token

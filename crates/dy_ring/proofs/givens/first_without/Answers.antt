@@ -1,7 +1,7 @@
 use Rattle.std.proofs.Common.{below_more, arith, []}
 use Rattle.std.proofs.lemmas.Grind.{common_steps}
 use Rattle.std.proofs.lemmas.Bool.Decides.{nat_tests}
-use Rattle.dy_ring.proofs.ListLemmas.{at_map}
+use Rattle.dy_ring.proofs.Pairs.{at_map}
 use Rattle.dy_ring.proofs.givens.first_without.Goals as goal
 
 -- the list at the number was looked at, and isn't empty

@@ -1,7 +1,7 @@
 use Rattle.std.proofs.Common.{ℕ, ◌<◌, ◌^◌, map, subst, sym}
 use Rattle.std.specs.List.{All}
 use Rattle.std.proofs.lemmas.List.Elements.{All-append, All-map}
-use Rattle.dy_ring.proofs.ListLemmas.{pairs_more}
+use Rattle.dy_ring.proofs.Pairs.{pairs_more}
 use Rattle.dy_ring.proofs.givens.pairs_of.Goals as goal
 
 -- what was added is what the next list stands for

@@ -1,6 +1,6 @@
 use Rattle.std.proofs.Common.{◌≡◌, ◌++◌, map, drop, ◌<◌, ◌^◌}
 use Rattle.std.specs.List.{All}
-use Rattle.dy_ring.specs.Steps.{pairs_from}
+use Rattle.dy_ring.specs.inside.Making.{pairs_from}
 use Rattle.dy_ring.proofs.givens.pairs_of.Given as goal
 
 abbrev pub invariant-loop-number : goal.invariant-loop-number

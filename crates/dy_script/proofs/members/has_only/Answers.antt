@@ -2,7 +2,7 @@ use Rattle.std.proofs.Common.{string_bytes, rules, tests}
 use Rattle.std.proofs.lemmas.Iterator.Consumers.{YieldsList-from_rest}
 use Rattle.std.proofs.lemmas.Iterator.Search.{all_from_yields_List}
 use Rattle.std.specs.Map.{keys_of}
-use Rattle.dy_script.specs.Keys.{is_one_of}
+use Rattle.dy_script.specs.inside.Keys.{is_one_of}
 use Rattle.dy_script.proofs.members.has_only.Goals as goal
 
 -- the closure tests each key

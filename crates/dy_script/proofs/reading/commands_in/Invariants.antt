@@ -1,7 +1,7 @@
 use Rattle.std.proofs.Common.{◌≡◌, map}
 use Rattle.dy_script.specs.Orders.{command_parts}
 use Rattle.dy_script.specs.Reading.{command_at}
-use Rattle.dy_script.proofs.Lists.{HasRead}
+use Rattle.dy_script.proofs.ListsRead.{HasRead}
 use Rattle.dy_script.proofs.reading.commands_in.Given as goal
 
 abbrev pub invariant-loop-value : goal.invariant-loop-value

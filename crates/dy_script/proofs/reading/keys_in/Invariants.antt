@@ -1,5 +1,5 @@
 use Rattle.dy_script.specs.Reading.{key_at}
-use Rattle.dy_script.proofs.Lists.{HasRead}
+use Rattle.dy_script.proofs.ListsRead.{HasRead}
 use Rattle.dy_script.proofs.reading.keys_in.Given as goal
 
 abbrev pub invariant-loop-value : goal.invariant-loop-value

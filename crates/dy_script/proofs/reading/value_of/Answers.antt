@@ -1,5 +1,5 @@
 use Rattle.std.proofs.Common.{refl, inr}
-use Rattle.dy_script.proofs.Texts.{data_read, data_unread, data_has_bytes}
+use Rattle.dy_script.proofs.TextsRead.{data_read, data_unread, data_has_bytes}
 use Rattle.dy_script.proofs.reading.value_of.Goals as goal
 
 pub returns-in-Ok-clause-ok : goal.returns-in-Ok-clause-ok

@@ -1,5 +1,5 @@
 use Rattle.std.proofs.Common.{◌/◌, length, refl, sym, arith}
-use Rattle.dy_script.proofs.Positions.{sized_ok, sized_err, token_good, token_bad, token_misfit, room}
+use Rattle.dy_script.proofs.TokenPositions.{sized_ok, sized_err, token_good, token_bad, token_misfit, room}
 use Rattle.dy_script.proofs.tokens.token.Goals as goal
 
 -- too few digits or too many

@@ -1,5 +1,5 @@
 use Rattle.std.proofs.Common.{◌≡◌, drop}
-use Rattle.dy_siblings.specs.Merging.{with_pasts}
+use Rattle.dy_siblings.specs.inside.Merging.{with_pasts}
 use Rattle.dy_siblings.proofs.merging.add_pasts.Given as goal
 
 abbrev pub invariant-loop-version : goal.invariant-loop-version

@@ -1,6 +1,6 @@
 use Rattle.std.proofs.Common.{sym, ◌∙◌}
 use Rattle.std.proofs.lemmas.List.{nil_from_length}
-use Rattle.dy_siblings.proofs.Dots.{meet_dots}
+use Rattle.dy_dots.proofs.SameDots.{meet_dots}
 use Rattle.dy_siblings.proofs.Conflicts.{compares_left, compares_right, compares_both, compares_right_end}
 use Rattle.dy_siblings.proofs.merging.lists_conflict.Goals as goal
 

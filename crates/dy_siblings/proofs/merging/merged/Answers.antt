@@ -1,6 +1,6 @@
 use Rattle.std.proofs.Common.{ap, ◌∙◌}
 use Rattle.std.proofs.lemmas.Result.{IfOk-weaker}
-use Rattle.dy_siblings.specs.Merging.{IsMerge, IsUnionOutside, with_pasts}
+use Rattle.dy_siblings.specs.inside.Merging.{IsMerge, IsUnionOutside, with_pasts}
 use Rattle.dy_siblings.proofs.Walking.{kept_is_merge}
 use Rattle.dy_siblings.proofs.merging.merged.Goals as goal
 

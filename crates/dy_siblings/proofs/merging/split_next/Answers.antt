@@ -1,5 +1,5 @@
 use Rattle.std.proofs.Common.{rules, inr}
-use Rattle.dy_siblings.proofs.Dots.{meet_dots}
+use Rattle.dy_dots.proofs.SameDots.{meet_dots}
 use Rattle.dy_siblings.proofs.merging.split_next.Goals as goal
 
 -- neither dot comes before the other's

@@ -1,9 +1,9 @@
 use Rattle.std.proofs.Common.{◌++◌, [], ◌∷◌, sym, ap, ◌∙◌, subst}
 use Rattle.dy_siblings.specs.Siblings.{IsSameRow}
 use Rattle.dy_core.specs.Worlds.{layout_of}
-use Rattle.dy_core.specs.Steps.{IsAllowed, answer_of}
+use Rattle.dy_core.specs.Steps.{IsAllowed, row_answered}
 use Rattle.dy_core.specs.Logs.{world_after}
-use Rattle.dy_core.specs.Inside.{IsAfter}
+use Rattle.dy_core.specs.inside.Meanings.{IsAfter}
 use Rattle.dy_core.proofs.worlds.World.apply.Goals as goal
 
 pub perform-requires : goal.perform-requires
@@ -30,5 +30,5 @@ invariant_of-self-2 c =
 
 pub returns-clause-row : goal.returns-clause-row
 returns-clause-row c =
-    subst (λ log. IsSameRow c.in_ok-row.row.versions (answer_of (world_after log.steps) c.args.step)) c.self.view_is
+    subst (λ log. IsSameRow c.in_ok-row.row.versions (row_answered (world_after log.steps) c.args.step)) c.self.view_is
     (c.in_ok-row.ensures.row _ _ c.self.invariant.after)

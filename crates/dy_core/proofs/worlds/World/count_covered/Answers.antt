@@ -1,6 +1,6 @@
 use Rattle.std.proofs.Common.{◌≤◌, sym, ◌∙◌, subst}
 use Rattle.dy_core.specs.Logs.{world_after}
-use Rattle.dy_core.specs.Inside.{AreChosen}
+use Rattle.dy_core.specs.inside.Meanings.{AreChosen}
 use Rattle.dy_core.proofs.Choosing.{chosen_none, chosen_cover}
 use Rattle.dy_core.proofs.worlds.World.count_covered.Goals as goal
 

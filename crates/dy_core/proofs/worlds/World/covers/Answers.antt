@@ -1,6 +1,6 @@
 use Rattle.std.proofs.Common.{sym, ap, ◌∙◌, subst}
 use Rattle.dy_core.specs.Logs.{world_after}
-use Rattle.dy_core.specs.Inside.{gathered, is_covering, place_of}
+use Rattle.dy_core.specs.inside.Meanings.{gathered, is_covering, place_of}
 use Rattle.dy_core.specs.Listings.{ListsCovers}
 use Rattle.dy_core.specs.Orders.{place_cmp}
 use Rattle.dy_core.proofs.Listed.{covers_listed}

@@ -1,7 +1,7 @@
 use Rattle.std.proofs.Common.{sym, ap, ◌∙◌}
 use Rattle.dy_siblings.specs.Siblings.{has_dot}
 use Rattle.dy_core.specs.Logs.{world_after}
-use Rattle.dy_core.specs.Inside.{row_in}
+use Rattle.dy_core.specs.inside.Meanings.{row_in}
 use Rattle.dy_core.proofs.Listed.{held_in}
 use Rattle.dy_core.proofs.worlds.World.holds.Goals as goal
 

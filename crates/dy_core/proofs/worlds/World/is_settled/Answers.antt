@@ -1,7 +1,7 @@
 use Rattle.std.proofs.Common.{◌≡◌, ◌↔◌, true, sym, ap, ◌∙◌, subst}
 use Rattle.dy_core.specs.Worlds.{IsSettled}
 use Rattle.dy_core.specs.Logs.{world_after}
-use Rattle.dy_core.specs.Inside.{settled_in}
+use Rattle.dy_core.specs.inside.Meanings.{settled_in}
 use Rattle.dy_core.proofs.Listed.{settled_is}
 use Rattle.dy_core.proofs.worlds.World.is_settled.Goals as goal
 

@@ -1,6 +1,6 @@
 use Rattle.std.proofs.Common.{ap, ◌∙◌}
 use Rattle.dy_core.specs.Logs.{world_after}
-use Rattle.dy_core.specs.Inside.{last_in}
+use Rattle.dy_core.specs.inside.Meanings.{last_in}
 use Rattle.dy_core.proofs.Listed.{last_listed}
 use Rattle.dy_core.proofs.worlds.World.last.Goals as goal
 

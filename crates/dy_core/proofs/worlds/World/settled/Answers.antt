@@ -1,6 +1,6 @@
 use Rattle.std.proofs.Common.{sym, ◌∙◌, subst}
 use Rattle.dy_core.specs.Logs.{world_after}
-use Rattle.dy_core.specs.Inside.{gathered, settled_in}
+use Rattle.dy_core.specs.inside.Meanings.{gathered, settled_in}
 use Rattle.dy_core.specs.Listings.{ListsSettled}
 use Rattle.dy_core.specs.Orders.{key_cmp}
 use Rattle.dy_core.proofs.Listed.{keys_listed}

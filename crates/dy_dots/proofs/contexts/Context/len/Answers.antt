@@ -1,6 +1,6 @@
 use Rattle.std.proofs.Common.{ap, ◌∙◌, sym}
 use Rattle.std.specs.FinSet as set
-use Rattle.dy_dots.specs.Runs.{count_of}
+use Rattle.dy_dots.specs.inside.Kinds.{count_of}
 use Rattle.dy_dots.proofs.Sizes.{len_set_of}
 use Rattle.dy_dots.proofs.contexts.Context.len.Goals as goal
 

@@ -1,6 +1,7 @@
+-- What the bytes name is let through where it is allowed and is written as the same bytes again.
 use Rattle.std.proofs.Common.{ap, ◌∙◌, sym, inl, inr, refl, ◌⊎◌}
 use Rattle.dy_dots.specs.Spelling.{runs_text}
-use Rattle.dy_dots.specs.Reading.{all_allowed, read_runs}
+use Rattle.dy_dots.specs.inside.Reading.{all_allowed, read_runs}
 use Rattle.dy_dots.proofs.Sizes.{allowed_kept}
 use Rattle.dy_dots.proofs.Readings.{not_dash, found_empty, refused_unread, refused_unfit, refused_other, found_runs, same_text, other_text}
 use Rattle.dy_dots.proofs.contexts.Context.read_text.Goals as goal

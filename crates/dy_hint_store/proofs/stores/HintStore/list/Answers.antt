@@ -1,8 +1,8 @@
-use Rattle.std.proofs.Common.{◌≡◌, ◌≤◌, ◌<◌, ◌∷◌, ◌+◌, ◌++◌, length, map, drop, sym, ap, ◌∙◌, arith}
+use Rattle.std.proofs.Common.{◌≤◌, ◌<◌, ◌∷◌, ◌+◌, ◌++◌, length, map, drop, sym, ap, ◌∙◌, arith}
 use Rattle.std.specs.FinMap as maps
 use Rattle.std.proofs.lemmas.List.{drop_more, drop_all, append-nil}
 use Rattle.dy_hint_store.specs.Hints.{home_and_row, shown}
-use Rattle.dy_hint_store.specs.Homes.{entries_from}
+use Rattle.dy_hint_store.specs.inside.Homes.{entries_from}
 use Rattle.dy_hint_store.proofs.Listing.{entries_of_hints, shown_before}
 use Rattle.dy_hint_store.proofs.stores.HintStore.list.Goals as goal
 

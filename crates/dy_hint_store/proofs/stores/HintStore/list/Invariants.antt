@@ -1,7 +1,7 @@
 use Rattle.std.proofs.Common.{◌≡◌, ◌++◌, map, drop}
 use Rattle.std.specs.FinMap as maps
 use Rattle.dy_hint_store.specs.Hints.{home_and_row, shown}
-use Rattle.dy_hint_store.specs.Homes.{entries_from}
+use Rattle.dy_hint_store.specs.inside.Homes.{entries_from}
 use Rattle.dy_hint_store.proofs.stores.HintStore.list.Given as goal
 
 -- the hints listed, with those of the homes to come, are all

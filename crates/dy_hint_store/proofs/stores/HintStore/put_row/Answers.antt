@@ -1,8 +1,9 @@
-use Rattle.std.proofs.Common.{◌≡◌, OnErr, Result, Ok, Err, sym, ap, ◌∙◌, ◌<◌, length, set, arith}
+-- Room for the home shows the same hints, and then its map of rows took the row or refused it.
+use Rattle.std.proofs.Common.{OnErr, Result, Ok, Err, ap, ◌∙◌, set}
 use Rattle.std.specs.FinMap as maps
 use Rattle.std.proofs.lemmas.List.{get_or_default, set-get_or}
 use Rattle.dy_node_store.specs.Rows.{with_versions}
-use Rattle.dy_hint_store.specs.Homes.{entries_from}
+use Rattle.dy_hint_store.specs.inside.Homes.{entries_from}
 use Rattle.dy_hint_store.proofs.HomeLemmas.{found_hint, no_hint, hints_with, same_hints}
 use Rattle.dy_hint_store.proofs.stores.HintStore.put_row.Goals as goal
 

@@ -1,4 +1,4 @@
-use Rattle.std.proofs.Common.{sym, ap, ◌∙◌, subst, ◌≤◌, ◌<◌, [], length, arith}
+use Rattle.std.proofs.Common.{sym, ap, ◌∙◌, ◌≤◌, ◌<◌, [], length, arith}
 use Rattle.std.specs.FinMap as maps
 use Rattle.std.proofs.lemmas.List.{get_or_default}
 use Rattle.dy_hint_store.proofs.HomeLemmas.{found_hint, no_hint, hints_with, remove_absent}

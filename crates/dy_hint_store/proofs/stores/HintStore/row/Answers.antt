@@ -1,6 +1,6 @@
 use Rattle.std.proofs.Common.{sym, ap, ◌∙◌, subst, ◌≤◌, length}
 use Rattle.std.specs.FinMap as maps
-use Rattle.dy_hint_store.specs.Homes.{rows_for}
+use Rattle.dy_hint_store.specs.inside.Homes.{rows_for}
 use Rattle.dy_hint_store.proofs.HomeLemmas.{found_hint, no_hint}
 use Rattle.dy_hint_store.proofs.stores.HintStore.row.Goals as goal
 

@@ -1,4 +1,5 @@
-use Rattle.std.proofs.Common.{◌≡◌, None, Some, IsSome, OnErr, Result, Ok, Err, refl, sym, ap, ◌∙◌, subst}
+-- By whether the row has a version, and whether the key had a row.
+use Rattle.std.proofs.Common.{IsSome, OnErr, Result, Ok, Err, refl, sym, ap, ◌∙◌, subst}
 use Rattle.std.specs.Option.{option_copied_mut}
 use Rattle.std.specs.FinMap as maps
 use Rattle.dy_node_store.specs.Rows.{with_versions}

@@ -1,4 +1,5 @@
-use Rattle.std.proofs.Common.{◌≡◌, IsSome, IfSome, refl, sym, ap, ◌∙◌, subst}
+-- By what the key's row was, and by whether versions of it are left.
+use Rattle.std.proofs.Common.{IsSome, IfSome, refl, sym, ap, ◌∙◌, subst}
 use Rattle.std.specs.Option.{option_copied_mut}
 use Rattle.std.specs.FinMap as maps
 use Rattle.dy_node_store.specs.Rows.{with_versions, versions_in, without_dots, IsRowOf}

@@ -1,5 +1,4 @@
-use Rattle.std.proofs.Common.{◌≡◌, ◌<◌, ◌+◌, unwrap_or, refl, sym, ap, ◌∙◌, subst, arith}
-use Rattle.dy_node_store.specs.Counters.{greatest_used}
+use Rattle.std.proofs.Common.{◌<◌, ◌+◌, unwrap_or, refl, sym, ap, ◌∙◌, subst, arith}
 use Rattle.dy_node_store.proofs.Maps.{found}
 use Rattle.dy_node_store.proofs.stores.NodeStore.next_counter.Goals as goal
 

@@ -1,4 +1,5 @@
-use Rattle.std.proofs.Common.{◌≡◌, ◌≤◌, unwrap_or, refl, sym, ap, ◌∙◌, max, None, Some, IsSome, OnErr, Result, Ok, Err, subst, arith}
+-- The counters' entries answer the greater counter at the key, and at every other key what they did.
+use Rattle.std.proofs.Common.{◌≡◌, ◌≤◌, unwrap_or, refl, sym, ap, ◌∙◌, max, IsSome, OnErr, Result, Ok, Err, subst, arith}
 use Rattle.std.specs.Option.{option_copied_mut}
 use Rattle.std.specs.FinMap as maps
 use Rattle.dy_node_store.specs.Counters.{greatest_used}

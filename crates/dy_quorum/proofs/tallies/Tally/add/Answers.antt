@@ -1,8 +1,9 @@
 use Rattle.std.proofs.Common.{length-append, ◌≡◌, ◌<◌, ◌+◌, ◌++◌, ◌∷◌, [], arith, sym, ◌∙◌, ap, subst, length}
 use Rattle.std.proofs.lemmas.List.{length-map}
 use Rattle.dy_shares.specs.Shares.{ReceiptParts}
-use Rattle.dy_quorum.specs.Tallies.{Counted, FitsAll, firsts}
-use Rattle.dy_quorum.proofs.TallyLemmas.{count_push, homes_same, homes_more}
+use Rattle.dy_quorum.specs.Tallies.{Counted, FitsAll}
+use Rattle.dy_quorum.specs.inside.Counting.{firsts}
+use Rattle.dy_quorum.proofs.Choices.{agree_more, count_push, homes_same, homes_more}
 use Rattle.dy_quorum.proofs.tallies.Tally.add.Goals as goal
 use Rattle.dy_quorum.proofs.tallies.Tally.add.Goals.{then-not-contains, else-not-contains}
 
@@ -27,7 +28,7 @@ invariant_of-self g c =
     let more : length (c.self.inside.added.items ++ c.args.receipt ∷ []) ≡ length c.self.inside.added.items + 1 = length-append c.self.inside.added.items (c.args.receipt ∷ []) in
     rw (c.push_reserved-2.ensures.items, c.push_reserved-2.ensures.capacity) (elim c.if-not-contains.branch [
       | then-not-contains w ↦ rw (w.self-inside-is)
-          (rw (w.push_reserved.ensures.items, c.home-home.ensures) (homes_more c.self.inside.added.items c.args.receipt _ inv.0 (sym tested ∙ w.if-not-contains.true)), count_push _ _ inv.1 fits, omega arith, inv.3, rw w.push_reserved.ensures.capacity inv.4, inv.5, inv.6)
+          (rw (w.push_reserved.ensures.items, c.home-home.ensures) (homes_more c.self.inside.added.items c.args.receipt _ inv.0 (sym tested ∙ w.if-not-contains.true)), count_push _ _ inv.1 fits, omega arith, inv.3, rw w.push_reserved.ensures.capacity inv.4, inv.5, inv.6, agree_more _ _ inv.7 fits)
       | else-not-contains w ↦ rw (w.self-inside-is)
-          (homes_same c.self.inside.added.items c.args.receipt _ inv.0 (sym tested ∙ w.if-not-contains.false), count_push _ _ inv.1 fits, omega arith, inv.3, inv.4, inv.5, inv.6)
+          (homes_same c.self.inside.added.items c.args.receipt _ inv.0 (sym tested ∙ w.if-not-contains.false), count_push _ _ inv.1 fits, omega arith, inv.3, inv.4, inv.5, inv.6, agree_more _ _ inv.7 fits)
     ])

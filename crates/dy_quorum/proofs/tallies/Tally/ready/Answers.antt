@@ -1,6 +1,6 @@
 use Rattle.std.proofs.Common.{◌↔◌, IsTrue, arith, refl, subst, true, false}
 use Rattle.dy_quorum.specs.Tallies.{Counted, CanChoose}
-use Rattle.dy_quorum.proofs.TallyLemmas.{choice_ready, choice_lacks}
+use Rattle.dy_quorum.proofs.Choices.{choice_ready, choice_lacks}
 use Rattle.dy_quorum.proofs.tallies.Tally.ready.Goals as goal
 
 pub returns : goal.returns

@@ -1,3 +1,4 @@
+-- The sorted tokens are the lists' pairs in another order, so what stands twice in a row clashes.
 use Rattle.std.proofs.Common.{◌≡◌, ◌∙◌, sym, subst, map, inl, ap, Some, None, ◌<◌, ◌^◌}
 use Rattle.std.specs.List.{All}
 use Rattle.std.specs.List.Sorted.{IsPermutation}
@@ -6,7 +7,7 @@ use Rattle.std.proofs.lemmas.List.{length-map}
 use Rattle.std.proofs.lemmas.List.Sorted.{All-permutation}
 use Rattle.dy_ring.specs.Lists.{IsRingOf, has_clash}
 use Rattle.dy_ring.specs.Rings.{IsRing}
-use Rattle.dy_ring.specs.Steps.{pairs_from, clash_of}
+use Rattle.dy_ring.specs.inside.Making.{pairs_from, clash_of}
 use Rattle.dy_ring.proofs.Making.{ring_from_pairs, rises_of, least_clash, no_clash, least_unique}
 use Rattle.dy_ring.proofs.rings.Ring.from_tokens.Goals as goal
 

@@ -3,7 +3,7 @@ use Rattle.serde_json.specs.Data.{Data, Members}
 use Rattle.serde_json.specs.Find.{as_object}
 use Rattle.dy_dots.specs.declared.faults.Fault.TheVariants.{ScriptSyntax}
 use Rattle.dy_script.specs.Members.{allow_only, knows}
-use Rattle.dy_script.proofs.Keys.{knows_keys}
+use Rattle.dy_script.proofs.KnownKeys.{knows_keys}
 use Rattle.dy_script.proofs.members.Members.allow_only.Goals as goal
 
 knows_all : (k : ℕ) (names : List (List ℕ)) (d : Data) (ms : Members) → Some ms ≡ as_object d → knows names ms ≡ true → Ok tt ≡ allow_only k names d

@@ -1,7 +1,7 @@
 use Rattle.std.proofs.Common.{◌++◌, ◌∷◌, [], sym, ap, ◌∙◌}
 use Rattle.dy_shares.proofs.Batons.{appends_moves}
-use Rattle.dy_shares.specs.Growth.{joined}
-use Rattle.dy_shares.specs.Parts.{entries_of}
+use Rattle.dy_shares.specs.inside.Growth.{joined}
+use Rattle.dy_shares.specs.inside.Parts.{entries_of}
 use Rattle.dy_shares.proofs.Fronts.{joined_more}
 use Rattle.dy_shares.proofs.chronicles.Chronicle.append.Goals as goal
 

@@ -1,6 +1,6 @@
 use Rattle.std.proofs.Common.{ap, subst, arith}
 use mathlib.Core.List.{IsPrefix}
-use Rattle.dy_shares.specs.Growth.{joined}
+use Rattle.dy_shares.specs.inside.Growth.{joined}
 use Rattle.dy_shares.proofs.Fronts.{joined_begins}
 use Rattle.dy_shares.proofs.chronicles.Chronicle.learn.Goals as goal
 

@@ -1,6 +1,6 @@
 use Rattle.std.proofs.Common.{subst}
 use mathlib.Core.List.{IsPrefix}
-use Rattle.dy_shares.specs.Growth.{joined}
+use Rattle.dy_shares.specs.inside.Growth.{joined}
 use Rattle.dy_shares.proofs.Fronts.{joined_prefix}
 use Rattle.dy_shares.proofs.chronicles.Front.join.Goals as goal
 

@@ -1,6 +1,7 @@
+-- The ack has the last number of the log, so it is later than all that the session was told.
 use Rattle.std.proofs.Common.{◌≡◌, ℕ, ◌+◌, max, List, [], ◌∷◌, ◌++◌, Some, length, length-append, arith, rules, sym, ap, ◌∙◌, subst}
 use Rattle.dy_shares.specs.Shares.{Account, AckTold, SessionPart, SessionStays, told_to, with_ack, with_entries}
-use Rattle.dy_shares.specs.Parts.{Held, IsSessionShare, done_acks, entries_of, numbered}
+use Rattle.dy_shares.specs.inside.Parts.{Held, IsSessionShare, done_acks, entries_of, numbered}
 use Rattle.dy_shares.proofs.Fronts.{prefix_length}
 use Rattle.dy_shares.proofs.Owners.{steps_of-length}
 use Rattle.dy_shares.proofs.Accounts.{acks_grown}
@@ -8,7 +9,7 @@ use Rattle.dy_shares.proofs.Additions.{told_stay}
 use Rattle.dy_shares.proofs.Sessions.{session_acked}
 use Rattle.dy_shares.proofs.ledgers.Ledger.ack_step.Goals as goal
 
--- the share of the row has the ack more, and the session's front takes in the log
+-- the share of the roll has the ack more, and the session's front takes in the log
 pub invariant_of-share-2 : goal.invariant_of-share-2
 invariant_of-share-2 g c =
     let s = c.share.inside in
@@ -20,11 +21,12 @@ invariant_of-share-2 g c =
     let at : ℕ = length log + 1 in
     let old : SessionPart = record { session = s.number; acks = done_acks s.share.part; gets = s.gets.items } in
     let items : c.in_ok-steps.steps.items ≡ step ∷ [] = search rules in
+    let same : c.learn.new.self ≡ c.args.self.now.log = search rules in
     let index : c.append.new.share.index ≡ s.share.index = ap (λ (h : Held). h.index) c.in_ok-append.ensures.share in
     let part : c.append.new.share.part ≡ s.share.part ++ numbered at (step ∷ []) =
     ap (λ (h : Held). h.part) c.in_ok-append.ensures.share
-    ∙ (ap (λ xs. s.share.part ++ numbered (length c.agree_session.new.self.log + 1) xs) items
-    ∙ ap (λ (a : Account). s.share.part ++ numbered (length a.log + 1) (step ∷ [])) c.agree_session.ensures.log) in
+    ∙ (ap (λ xs. s.share.part ++ numbered (length c.learn.new.self + 1) xs) items
+    ∙ ap (λ l. s.share.part ++ numbered (length l + 1) (step ∷ [])) same) in
     let acks = acks_grown s.share.part c.append.new.share.part at step part in
     let chronicle : c.self.inside.chronicle ≡ log = ap (λ (a : Account). a.log) (c.self.view_is ∙ c.agree_session.ensures.log) in
     let number : c.len-number.result + 1 ≡ at = omega (arith, steps_of-length c.self.inside.chronicle, ap length c.self.invariant.1.stored, ap length chronicle) in
@@ -33,8 +35,9 @@ invariant_of-share-2 g c =
     let front : c.front.result ≡ c.append.new.self.log = search rules in
     let long : length c.front.result ≡ at = ap length front ∙ (ap (λ (a : Account). length a.log) told ∙ length-append log (told_to c.args.share.now.session step ∷ [])) in
     let own = prefix_length s.front c.join-2.new.self c.join-2.ensures.own in
+    let before = prefix_length s.front c.self.inside.chronicle c.learn.ensures.begins in
     let whole = prefix_length c.front.result c.join-2.new.self c.join-2.ensures.other in
-    let acked = session_acked nodes r s.share.index s.since c.max-share-inside.result at s.front c.join-2.new.self old step i c.requires.ack (latest ∙ ap (max s.since) number) c.join-2.ensures.own (omega (arith, own, i.reached)) (omega (arith, whole, long)) in
+    let acked = session_acked nodes r s.share.index s.since c.max-share-inside.result at s.front c.join-2.new.self old step i c.requires.ack (latest ∙ ap (max s.since) number) c.join-2.ensures.own (omega (arith, own, i.reached)) (omega (arith, whole, long)) (omega (arith, before, i.reached, ap length chronicle)) in
     subst (λ k. IsSessionShare nodes r k c.max-share-inside.result c.join-2.new.self (record { session = s.number; acks = done_acks c.append.new.share.part; gets = s.gets.items })) (sym index)
     (subst (λ (xs : List AckTold). IsSessionShare nodes r s.share.index c.max-share-inside.result c.join-2.new.self (record { session = s.number; acks = xs; gets = s.gets.items })) (sym acks) acked)
 
@@ -45,10 +48,11 @@ returns-clause-share g c =
     let step = c.args.step in
     let at : ℕ = length c.args.self.now.log + 1 in
     let items : c.in_ok-steps.steps.items ≡ step ∷ [] = search rules in
+    let same : c.learn.new.self ≡ c.args.self.now.log = search rules in
     let part : c.append.new.share.part ≡ s.share.part ++ numbered at (step ∷ []) =
     ap (λ (h : Held). h.part) c.in_ok-append.ensures.share
-    ∙ (ap (λ xs. s.share.part ++ numbered (length c.agree_session.new.self.log + 1) xs) items
-    ∙ ap (λ (a : Account). s.share.part ++ numbered (length a.log + 1) (step ∷ [])) c.agree_session.ensures.log) in
+    ∙ (ap (λ xs. s.share.part ++ numbered (length c.learn.new.self + 1) xs) items
+    ∙ ap (λ l. s.share.part ++ numbered (length l + 1) (step ∷ [])) same) in
     ap (λ (xs : List AckTold). record { session = s.number; acks = xs; gets = s.gets.items }) (acks_grown s.share.part c.append.new.share.part at step part)
     ∙ ap (λ q. with_ack q at step) (c.share.view_is ∙ c.agree_session.ensures.share)
 

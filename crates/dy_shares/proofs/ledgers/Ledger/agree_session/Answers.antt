@@ -4,22 +4,22 @@ use mathlib.Core.Option.{some}
 use lib.ListN.{get_elem?}
 use Rattle.dy_core.specs.Worlds.{layout_of}
 use Rattle.dy_shares.specs.Shares.{SessionBelongsTo, SessionPart, GetTold, GetMatches, steps_of}
-use Rattle.dy_shares.specs.Parts.{done_acks}
+use Rattle.dy_shares.specs.inside.Parts.{done_acks}
 use Rattle.dy_shares.proofs.Accounts.{session_belongs}
 use Rattle.dy_shares.proofs.Later.{gets_later}
 use Rattle.dy_shares.proofs.ledgers.Ledger.agree_session.Goals as goal
 
--- the share agrees with its place of the row, and its gets matched at its front
+-- the share agrees with its seat of the roll, and its gets matched at its front
 pub returns-clause-belongs : goal.returns-clause-belongs
 returns-clause-belongs g c =
     let l = c.self.inside in
     let s = c.share.inside in
     let i = c.share.invariant in
     let part : SessionPart = record { session = s.number; acks = done_acks s.share.part; gets = s.gets.items } in
-    let at = subst (λ k. get_elem? l.row k ≡ some s.share.part) i.place_is c.compare.ensures.agree in
+    let at = subst (λ k. get_elem? l.roll k ≡ some s.share.part) i.seat_is c.compare.ensures.agree in
     let told : List GetTold = c.args.share.now.gets in
     let gets = gets_later c.front.result.now l.chronicle g.J.Naming.r told c.learn.ensures.begins c.front.ensures in
     let kept = subst (λ gs. All (GetMatches (steps_of l.chronicle) g.J.Naming.r) gs) (sym (ap (λ x. x.gets) c.share.view_is)) gets in
     subst (λ a. SessionBelongsTo a.log g.J.Naming.r c.args.share.now) c.self.view_is
     (subst (SessionBelongsTo l.chronicle g.J.Naming.r) c.share.view_is
-    (session_belongs g.J.Naming.ring.nodes (layout_of g.J.Naming.ring g.J.Naming.n) l.steps.items l.sessions l.chronicle l.row c.self.invariant.1 g.J.Naming.r part (record { part = s.share.part; place_has = at; acks_are = refl; gets_match = kept })))
+    (session_belongs g.J.Naming.ring.nodes (layout_of g.J.Naming.ring g.J.Naming.n) l.steps.items l.sessions l.chronicle l.roll c.self.invariant.1 g.J.Naming.r part (record { part = s.share.part; seat_has = at; acks_are = refl; gets_match = kept; gets_later = i.gets_later })))

@@ -1,7 +1,7 @@
 use Rattle.std.proofs.Common.{ℕ, ◌<◌, subst}
 use Rattle.std.specs.List.{All}
 use Rattle.dy_core.specs.Worlds.{layout_of}
-use Rattle.dy_shares.specs.Parts.{AgreesAsSession}
+use Rattle.dy_shares.specs.inside.Parts.{AgreesAsSession}
 use Rattle.dy_shares.specs.Shares.{AreAll, HasNode, HasSession}
 use Rattle.dy_shares.proofs.Accounts.{all_are}
 use Rattle.dy_shares.proofs.ledgers.Ledger.end.Goals as goal
@@ -17,6 +17,6 @@ returns-clause-exact g c =
     let s_shares = c.args.sessions.items in
     let each_node = subst (λ xs. (node : ℕ) → node < nodes → HasNode node xs) c.as_slice.ensures.value (subst (λ n. (node : ℕ) → node < n → HasNode node c.as_slice.result.now) i.0 c.in_default.ensures.none) in
     let each_session = subst (λ xs. (session : ℕ) → session < l.sessions → HasSession session xs) c.as_slice-2.ensures.value c.in_default-missing_session.ensures.none in
-    let as_sessions = subst (λ row. All (AgreesAsSession nodes r row l.chronicle) s_shares) c.end_nodes.ensures.same c.end_sessions.ensures.agree in
+    let as_sessions = subst (λ roll. All (AgreesAsSession nodes r roll l.chronicle) s_shares) c.end_nodes.ensures.same c.end_sessions.ensures.agree in
     subst (λ a. AreAll nodes r a n_shares s_shares) c.self.view_is
-    (all_are nodes (layout_of g.J.Naming.ring g.J.Naming.n) l.steps.items l.sessions l.chronicle l.row i.1 r n_shares s_shares c.end_nodes.ensures.low c.end_nodes.ensures.agree as_sessions each_node each_session)
+    (all_are nodes (layout_of g.J.Naming.ring g.J.Naming.n) l.steps.items l.sessions l.chronicle l.roll i.1 r n_shares s_shares c.end_nodes.ensures.low c.end_nodes.ensures.agree as_sessions each_node each_session)

@@ -1,19 +1,20 @@
+-- The steps are all the node's own, so its seat alone grows, and with it what its share shows.
 use Rattle.std.proofs.Common.{◌≡◌, ◌+◌, None, Some, length, refl, sym, ap, ◌∙◌, subst}
 use Rattle.std.specs.List.{All}
 use Rattle.dy_core.specs.Worlds.{layout_of}
 use Rattle.dy_shares.specs.Shares.{Account, BelongsTo, NodePart, NodeStays, SessionStays, node_of, steps_of, with_steps}
-use Rattle.dy_shares.specs.Parts.{AreOf, Held, done_steps, entries_of}
+use Rattle.dy_shares.specs.inside.Parts.{AreOf, Held, done_steps, entries_of}
 use Rattle.dy_shares.proofs.Accounts.{node_grown, part_is_nodes}
-use Rattle.dy_shares.proofs.Additions.{node_place, node_owned, others_stay, untold_stay}
+use Rattle.dy_shares.proofs.Additions.{node_seat, node_owned, others_stay, untold_stay}
 use Rattle.dy_shares.proofs.ledgers.Ledger.node_steps.Goals as goal
 
--- the steps are of the node's place
-pub append-requires-clause-place : goal.append-requires-clause-place
-append-requires-clause-place g c =
+-- the steps are of the node's seat
+pub append-requires-clause-seat : goal.append-requires-clause-seat
+append-requires-clause-seat g c =
     let s = c.share.inside in
     let nodes = g.J.Naming.ring.nodes in
     let own = subst (λ (p : NodePart). All (λ x. node_of x ≡ Some p.node) c.args.steps.items) (sym c.share.view_is) c.requires.own in
-    subst (λ k. AreOf nodes (Some k) (entries_of None c.args.steps.items)) (sym c.share.invariant.0) (node_place nodes s.node c.args.steps.items own)
+    subst (λ k. AreOf nodes (Some k) (entries_of None c.args.steps.items)) (sym c.share.invariant.0) (node_seat nodes s.node c.args.steps.items own)
 
 pub append-requires-clause-owned : goal.append-requires-clause-owned
 append-requires-clause-owned g c = λ within.

@@ -1,19 +1,20 @@
 use Rattle.std.proofs.Common.{◌≡◌, refl, subst}
 use mathlib.Core.Option.{some}
 use lib.ListN.{get_elem?}
-use Rattle.dy_shares.specs.Parts.{AgreesAsSession}
+use Rattle.dy_shares.specs.inside.Parts.{AgreesAsSession}
 use Rattle.dy_shares.proofs.Later.{gets_later}
 use Rattle.dy_shares.proofs.session_shares.SessionShare.end.Goals as goal
 
--- the place of the row has the share's part, and what matched at the front matches now
+-- the seat of the roll has the share's part, and what matched at the front matches now
 pub returns-clause-agrees : goal.returns-clause-agrees
 returns-clause-agrees g c =
     let s = c.self.inside in
     let i = c.self.invariant in
-    subst (AgreesAsSession g.J.Naming.ring.nodes g.J.Naming.r c.args.row.now c.args.chronicle.now) c.self.view_is
+    subst (AgreesAsSession g.J.Naming.ring.nodes g.J.Naming.r c.args.roll.now c.args.chronicle.now) c.self.view_is
     (record {
       part = s.share.part;
-      place_has = subst (λ k. get_elem? c.args.row.now k ≡ some s.share.part) i.place_is c.end.ensures.agree;
+      seat_has = subst (λ k. get_elem? c.args.roll.now k ≡ some s.share.part) i.seat_is c.end.ensures.agree;
       acks_are = refl;
       gets_match = gets_later s.front c.args.chronicle.now g.J.Naming.r s.gets.items c.learn.ensures.begins i.gets_match;
+      gets_later = i.gets_later;
     })

@@ -1,7 +1,7 @@
 use Rattle.std.proofs.Common.{◌≡◌, ◌<◌, List, [], ◌∷◌, ◌++◌, map, max, rules, sym, ap, ◌∙◌, subst}
 use Rattle.std.specs.List.{All}
 use Rattle.dy_core.specs.Logs.{IsAnswer}
-use Rattle.dy_shares.specs.Parts.{IsSessionShare, done_acks}
+use Rattle.dy_shares.specs.inside.Parts.{IsSessionShare, done_acks}
 use Rattle.dy_shares.specs.Shares.{GetTold, SessionPart, greatest, since_of, steps_of}
 use Rattle.dy_shares.proofs.Sessions.{session_got}
 use Rattle.dy_shares.proofs.session_shares.SessionShare.note_get.Goals as goal

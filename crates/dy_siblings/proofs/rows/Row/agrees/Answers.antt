@@ -1,7 +1,7 @@
 use Rattle.std.proofs.Common.{◌≡◌, ap, sym, subst, ◌∙◌}
 use Rattle.std.specs.Cmp.Lexicographic.{bytes_decides}
 use Rattle.std.proofs.lemmas.Bool.{not-true, not_from_false}
-use Rattle.dy_siblings.specs.Merging.{do_lists_conflict}
+use Rattle.dy_siblings.specs.inside.Merging.{do_lists_conflict}
 use Rattle.dy_siblings.specs.Siblings.{Rise}
 use Rattle.dy_siblings.proofs.Agreeing.{agree_from, agree_then}
 use Rattle.dy_siblings.proofs.rows.Row.agrees.Goals as goal

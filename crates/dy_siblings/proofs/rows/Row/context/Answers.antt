@@ -1,7 +1,7 @@
 use Rattle.std.proofs.Common.{ap, ◌∙◌}
 use Rattle.std.proofs.lemmas.Result.{IfOk-weaker}
 use Rattle.dy_siblings.specs.Siblings.{context_of}
-use Rattle.dy_siblings.proofs.Dots.{histories_are}
+use Rattle.dy_siblings.proofs.Histories.{histories_are}
 use Rattle.dy_siblings.proofs.rows.Row.context.Goals as goal
 
 pub returns-clause-ok : goal.returns-clause-ok

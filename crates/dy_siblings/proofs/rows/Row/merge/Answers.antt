@@ -1,13 +1,14 @@
 use Rattle.std.proofs.Common.{ap, ◌∙◌, sym, subst}
-use Rattle.dy_siblings.specs.Merging.{IsMerge}
+use Rattle.dy_siblings.specs.inside.Merging.{IsMerge}
 use Rattle.dy_siblings.specs.Siblings.{IsSameRow, IsSiblingSet, merge}
 use Rattle.dy_siblings.proofs.Walking.{merge_siblings}
+use Rattle.dy_siblings.proofs.Merges.{unmerged}
 use Rattle.dy_siblings.proofs.rows.Row.merge.Goals as goal
 
 is_merge : (c : goal.After-drop-self-inside) → IsMerge c.self.inside.versions.items c.other.inside.versions.items c.in_ok-self-inside.field-0.items
 is_merge c =
-    subst (λ x. IsMerge x c.other.inside.versions.items c.in_ok-self-inside.field-0.items) c.as_slice.ensures.value
-    (subst (λ y. IsMerge c.as_slice.result.now y c.in_ok-self-inside.field-0.items) c.as_slice-2.ensures.value c.in_ok-self-inside.ensures.ok)
+    subst (λ x. IsMerge x c.other.inside.versions.items c.in_ok-self-inside.field-0.items) c.as_slice-mine.ensures.value
+    (subst (λ y. IsMerge c.as_slice-mine.result.now y c.in_ok-self-inside.field-0.items) c.as_slice.ensures.value c.in_ok-self-inside.ensures.ok)
 
 pub invariant_of-self : goal.invariant_of-self
 invariant_of-self c =
@@ -23,3 +24,13 @@ returns-clause-ok c =
 
 pub returns-clause-valid : goal.returns-clause-valid
 returns-clause-valid c = invariant_of-self c
+
+-- what is merged with no version stays
+pub returns-then-is_empty-clause-valid : goal.returns-then-is_empty-clause-valid
+returns-then-is_empty-clause-valid c = subst (λ s. IsSiblingSet s.key s.versions) c.self.view_is c.self.invariant
+
+pub returns-then-is_empty-clause-ok : goal.returns-then-is_empty-clause-ok
+returns-then-is_empty-clause-ok c =
+    let mine = c.args.self.now.versions in
+    subst (λ l. IsSameRow mine (merge mine l)) (sym (c.is_empty.ensures.0 c.if-is_empty.true))
+    (unmerged mine (returns-then-is_empty-clause-valid c).none_past)

@@ -4,7 +4,7 @@ use Rattle.dy_core.specs.Worlds.{row_at}
 use Rattle.dy_core.specs.Logs.{IsAnswer, Log, world_after}
 use Rattle.dy_core.specs.declared.steps.Step.{Step}
 use Rattle.dy_core.specs.declared.steps.Step.TheVariants.{Fetch}
-use Rattle.dy_core.specs.Steps.{answer_of as answered}
+use Rattle.dy_core.specs.Steps.{row_answered}
 use Rattle.dy_shares.specs.declared.entries.Entry.{Entry}
 use Rattle.dy_shares.specs.Shares.{answer_of, steps_of, untold}
 use Rattle.dy_shares.proofs.Owners.{steps_of-length}
@@ -16,8 +16,8 @@ pub seen-requires-clause-is : goal.seen-requires-clause-is
 seen-requires-clause-is g c =
     let l = c.self.inside.ledger in
     let world = c.self.inside.world in
-    let holder = c.args.holder in
-    let home = c.args.home in
+    let holder = c.args.place.holder in
+    let home = c.args.place.home in
     let key = c.args.key.now in
     let row = c.in_ok-row.row in
     let e = untold (Fetch holder home key) in
@@ -27,7 +27,7 @@ seen-requires-clause-is g c =
     let of_seen : key ≡ c.in_ok-of_seen.of_seen = search rules in
     let is : IsSameRow row.versions (row_at (world_after (steps_of l.log)) holder home key) =
     subst (λ (ss : List Step). IsSameRow row.versions (row_at (world_after ss) holder home key)) same
-    (subst (λ (s : Step). IsSameRow row.versions (answered (world_after world.steps) s)) asked c.in_ok-row.ensures.row) in
+    (subst (λ (s : Step). IsSameRow row.versions (row_answered (world_after world.steps) s)) asked c.in_ok-row.ensures.row) in
     let new : c.fetch_step.new.self.log ≡ l.log ++ e ∷ [] = search rules in
     let at : length l.log + 1 ≡ length c.steps-at.result.now = sym (ap length c.steps-at.ensures.value ∙ (steps_of-length c.fetch_step.new.self.log ∙ (ap length new ∙ length-append l.log (e ∷ [])))) in
     let here = answers_last l.log holder home key row.versions is in

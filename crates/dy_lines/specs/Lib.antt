@@ -1,0 +1,4 @@
+pub mod Audits
+pub mod Outcomes
+pub mod Places
+pub mod Texts

@@ -1,0 +1,62 @@
+ghost use Rattle.std.specs.Prelude.{Some};
+ghost use Rattle.dy_lines.specs.Texts.{byte_text, hex_text, position_text, nodes_text};
+
+use dy_dots::NodeId;
+use std::fmt;
+
+/// Bytes that print as lower-case hexadecimal digits, two for each.
+#[derive(Clone, Copy, Debug)]
+pub struct Hex<'a>(pub &'a [u8]);
+
+impl fmt::Display for Hex<'_> {
+    ghost output = { λ hex. Some (hex_text hex.0.now) };
+
+    fn fmt<W: fmt::Write>(&self, f: &mut fmt::Formatter<W>) -> fmt::Result {
+        for byte in self.0 {
+            write!(f, "{}", HexByte(*byte))?;
+        }
+        Ok(())
+    }
+}
+
+/// A byte that prints as two hexadecimal digits.
+#[derive(Clone, Copy)]
+struct HexByte(u8);
+
+impl fmt::Display for HexByte {
+    ghost output = { λ byte. Some (byte_text byte.0) };
+
+    fn fmt<W: fmt::Write>(&self, f: &mut fmt::Formatter<W>) -> fmt::Result {
+        let high = self.0 / 16;
+        let low = self.0 % 16;
+        write!(f, "{high:x}{low:x}")
+    }
+}
+
+/// A position on the ring, that prints as 32 hexadecimal digits.
+#[derive(Clone, Copy, Debug)]
+pub struct Position(pub u128);
+
+impl fmt::Display for Position {
+    ghost output = { λ position. Some (position_text position.0) };
+
+    fn fmt<W: fmt::Write>(&self, f: &mut fmt::Formatter<W>) -> fmt::Result {
+        let bytes = self.0.to_be_bytes();
+        write!(f, "{}", Hex(&bytes))
+    }
+}
+
+/// Nodes that print each behind a blank.
+#[derive(Clone, Copy, Debug)]
+pub struct Nodes<'a>(pub &'a [NodeId]);
+
+impl fmt::Display for Nodes<'_> {
+    ghost output = { λ nodes. Some (nodes_text nodes.0.now) };
+
+    fn fmt<W: fmt::Write>(&self, f: &mut fmt::Formatter<W>) -> fmt::Result {
+        for node in self.0 {
+            write!(f, " {}", node.number())?;
+        }
+        Ok(())
+    }
+}

@@ -1,0 +1,2 @@
+-- What the invariants of types alone speak of.
+pub mod Entries
