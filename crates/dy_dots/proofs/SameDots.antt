@@ -12,13 +12,16 @@ same_dot_is a b e =
     λ i. record { node = p i; counter = q i }
 
 pub same_dot_self : (a : DotNumbers) → same_dot a a ≡ true
-same_dot_self a = and_from (eqb a.node a.node) (eqb a.counter a.counter) (eq-eqb a.node a.node refl) (eq-eqb a.counter a.counter refl)
+same_dot_self a = and_from (eqb a.node a.node) (eqb a.counter a.counter) (eq-eqb a.node a.node refl)
+    (eq-eqb a.counter a.counter refl)
 
 pub same_dot_back : (a b : DotNumbers) → same_dot a b ≡ same_dot b a
-same_dot_back a b = λ i. nat_eq_equiv.symm a.node b.node i && nat_eq_equiv.symm a.counter b.counter i
+same_dot_back a b = λ i. nat_eq_equiv.symm a.node b.node i && nat_eq_equiv.symm a.counter b.counter
+    i
 
 -- two dots of which neither comes before the other are one
-pub meet_dots : (a b : DotNumbers) → (IsDotBefore b a ⊎ (b ≡ a)) → (IsDotBefore a b ⊎ (a ≡ b)) → b ≡ a
+pub meet_dots : (a b : DotNumbers) → (IsDotBefore b a ⊎ (b ≡ a)) →
+    (IsDotBefore a b ⊎ (a ≡ b)) → b ≡ a
 meet_dots a b (inr same) later = same
 meet_dots a b (inl before) (inr same) = sym same
 meet_dots a b (inl (inl p)) (inl (inl q)) = absurd (omega arith)

@@ -20,20 +20,27 @@ merged-requires-clause-agree c =
 pub invariant_of-result : goal.invariant_of-result
 invariant_of-result c =
     subst (λ key. IsSiblingSet key c.in_ok-versions.versions.items) (sym c.in_ok-key.ensures.value)
-    (merge_siblings c.self.inside.key c.self.inside.versions.items c.other.inside.versions.items c.in_ok-versions.versions.items is_merge c.self.invariant
+    (merge_siblings c.self.inside.key c.self.inside.versions.items c.other.inside.versions.items
+    c.in_ok-versions.versions.items is_merge c.self.invariant
     (subst (λ key. IsSiblingSet key c.other.inside.versions.items)
-    (ap (λ s. s.key) c.other.view_is ∙ sym c.requires.one_key ∙ sym (ap (λ s. s.key) c.self.view_is)) c.other.invariant))
+    (ap (λ s. s.key) c.other.view_is ∙ sym c.requires.one_key
+    ∙ sym (ap (λ s. s.key) c.self.view_is)) c.other.invariant))
   where
-    is_merge : IsMerge c.self.inside.versions.items c.other.inside.versions.items c.in_ok-versions.versions.items
+    is_merge : IsMerge c.self.inside.versions.items c.other.inside.versions.items
+        c.in_ok-versions.versions.items
     is_merge =
-        subst (λ x. IsMerge x c.other.inside.versions.items c.in_ok-versions.versions.items) c.as_slice.ensures.value
-        (subst (λ y. IsMerge c.as_slice.result.now y c.in_ok-versions.versions.items) c.as_slice-2.ensures.value c.in_ok-versions.ensures.ok)
+        subst (λ x. IsMerge x c.other.inside.versions.items c.in_ok-versions.versions.items)
+        c.as_slice.ensures.value
+        (subst (λ y. IsMerge c.as_slice.result.now y c.in_ok-versions.versions.items)
+        c.as_slice-2.ensures.value c.in_ok-versions.ensures.ok)
 
 pub returns-clause-ok : goal.returns-clause-ok
 returns-clause-ok c =
     subst (IsSameRow c.in_ok-versions.versions.items)
-    (ap (λ l. merge l c.as_slice-2.result.now) (c.as_slice.ensures.value ∙ ap (λ s. s.versions) c.self.view_is)
-    ∙ ap (merge c.args.self.now.versions) (c.as_slice-2.ensures.value ∙ ap (λ s. s.versions) c.other.view_is))
+    (ap (λ l. merge l c.as_slice-2.result.now)
+    (c.as_slice.ensures.value ∙ ap (λ s. s.versions) c.self.view_is)
+    ∙ ap (merge c.args.self.now.versions)
+    (c.as_slice-2.ensures.value ∙ ap (λ s. s.versions) c.other.view_is))
     c.in_ok-versions.ensures.ok.1
 
 pub returns-clause-valid : goal.returns-clause-valid
