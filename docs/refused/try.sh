@@ -1,15 +1,15 @@
 #!/bin/sh
-# Tries each program of this folder against dy_shares, and fails where one that must be refused is
-# taken, is refused for another cause than its second line says, or where the control is refused.
-# Each program is the one file of a crate in a copy of the repository. Names given as arguments stand
-# for all of them.
+# Tries each program of this folder against dy_shares and dy_book, and fails where one that must be
+# refused is taken, is refused for another cause than its second line says, or where the control is
+# refused. Each program is the one file of a crate in a copy of the repository. Names given as
+# arguments stand for all of them.
 here=$(cd "$(dirname "$0")" && pwd)
 top=$(cd "$here/../.." && pwd)
 work=$(mktemp -d)
 trap 'rm -rf "$work"' EXIT
 mkdir -p "$work/crates/refused/src"
 cp "$top/HANDLES" "$work/"
-needed="dy_dots dy_siblings dy_ring dy_preference dy_core dy_shares"
+needed="dy_dots dy_siblings dy_ring dy_preference dy_core dy_shares dy_book"
 for crate in $needed; do
     cp -r "$top/crates/$crate" "$work/crates/"
     grep "^$crate:" "$top/crates.txt" >> "$work/crates.txt"

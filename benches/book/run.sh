@@ -1,0 +1,31 @@
+#!/bin/sh
+# Proves, builds and runs the benchmark of dy_book, in a folder of its own: a million fetches, 2,000 blind puts of one
+# key, 100,000 versions of 5,000 keys and of one key, with the close after each, and the most memory of each.
+# usage: benches/book/run.sh [FOLDER]
+set -eu
+here=$(cd "$(dirname "$0")" && pwd)
+top=$(cd "$here/../.." && pwd)
+folder=${1:-$(mktemp -d)}
+mkdir -p "$folder/crates"
+needed="dy_dots dy_siblings dy_ring dy_preference dy_core dy_shares dy_book"
+rm -f "$folder/crates.txt"
+for crate in $needed; do
+    rm -rf "$folder/crates/$crate"
+    cp -r "$top/crates/$crate" "$folder/crates/"
+    grep "^$crate:" "$top/crates.txt" >> "$folder/crates.txt"
+done
+echo "bench_book: $needed" >> "$folder/crates.txt"
+cp "$top/HANDLES" "$folder/HANDLES"
+rm -rf "$folder/crates/bench_book"
+mkdir -p "$folder/crates/bench_book"
+cp -r "$here/src" "$here/proofs" "$folder/crates/bench_book/"
+# The gate reads each .rt and .antt file, so the benchmark's have another ending here.
+find "$folder/crates/bench_book" -name '*.txt' | while read -r file; do mv "$file" "${file%.txt}"; done
+cd "$folder/crates/bench_book"
+# Without a word the program does nothing.
+rt run
+for work in fetches blind whole keys chain; do
+    python3 -c 'import resource, subprocess, sys
+subprocess.run(sys.argv[1:], check=True)
+print(resource.getrusage(resource.RUSAGE_CHILDREN).ru_maxrss // 1024, "MB at most")' out/bench_book "$work"
+done

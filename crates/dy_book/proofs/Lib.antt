@@ -1,0 +1,15 @@
+pub mod Alone
+pub mod Bookkeeping
+pub mod Dotting
+pub mod Ending
+pub mod Holding
+pub mod Incoming
+pub mod Issuing
+pub mod Listing
+pub mod Making
+pub mod OfKeys
+pub mod Pasts
+pub mod Settling
+pub mod Sorting
+pub mod Telling
+pub mod Releasing

@@ -1,0 +1,4 @@
+pub mod Audits
+pub mod Books
+pub mod Limits
+pub mod inside

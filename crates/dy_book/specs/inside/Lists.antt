@@ -1,0 +1,84 @@
+-- The versions of a key, node by node.
+use Rattle.std.specs.Prelude.{◌≡◌, ℕ, ◌+◌, List, [], ◌∷◌, ◌++◌, slice_index_or, if◌then◌else◌, Bool}
+use Rattle.std.specs.Prelude.{◌&&◌, not, eqb, fold}
+use Rattle.std.specs.Coded.{Coded}
+use Rattle.std.specs.List.{Contains}
+use Rattle.std.specs.List.Sorted.{IsStrictlySortedBy}
+use Rattle.std.specs.declared.cmp.Ordering.{Ordering}
+use Rattle.std.specs.declared.cmp.Ordering.TheVariants.{Equal}
+use Rattle.dy_dots.specs.declared.dots.Dot.{Dot}
+use Rattle.dy_siblings.specs.Siblings.{without}
+use Rattle.dy_siblings.specs.declared.versions.Version.{Version}
+use Rattle.dy_core.specs.inside.Meanings.{is_at, is_by, is_nothing}
+use Rattle.dy_core.specs.contracts.holdings.Holding as holding
+use Rattle.dy_core.specs.declared.holdings.Holding.{Holding}
+use Rattle.dy_core.specs.declared.acks.Acked.{Acked}
+use Rattle.dy_core.specs.declared.steps.Step.{Step}
+use Rattle.dy_core.specs.declared.steps.Step.TheVariants.{Issue, Hold, Release, Fetch, Ack}
+
+-- a holding as plain data
+abbrev pub holding_code : Coded Holding
+holding_code = holding.the_row.coded
+
+-- the versions that a node made of a key, the oldest first
+abbrev pub made_of : List Version → List ℕ → ℕ → List Version
+made_of [] key node = []
+made_of (v ∷ vs) key node =
+    if is_by v node key then made_of vs key node ++ v ∷ [] else made_of vs key node
+
+-- each version is of the node, and their counters go on from this one
+abbrev pub AreCounted : ℕ → ℕ → List Version → Type 0
+AreCounted node n [] = Unit {0}
+AreCounted node n (v ∷ vs) =
+    (v.dot ≡ record { node = node; counter = n + 1 }) × AreCounted node (n + 1) vs
+
+-- the versions of a node, where the n-th list is of node n
+abbrev pub list_at : List (List Version) → ℕ → List Version
+list_at made node = slice_index_or made node []
+
+-- the two have the same versions of each node
+abbrev pub HaveSameMade : List (List Version) → List (List Version) → Type 0
+HaveSameMade made others = (node : ℕ) → list_at made node ≡ list_at others node
+
+-- whether the holding has a version, and is for another node
+abbrev pub is_hint_here : Holding → Bool
+is_hint_here h = not (eqb h.holder h.home) && not (is_nothing h.row.versions)
+
+-- whether the holding has a version
+abbrev pub is_some : Holding → Bool
+is_some h = not (is_nothing h.row.versions)
+
+-- the list with what has a version at its end
+abbrev pub listed_from : List Holding → List Holding → List Holding
+listed_from held hs = fold (λ list h. if is_some h then list ++ h ∷ [] else list) held hs
+
+-- the list has the items in order, and of those that tie one
+pub record IsInOrder {X : Type 0} (cmp : X → X → Ordering) (items list : List X) : Type 0 where
+  pub in_order : IsStrictlySortedBy cmp list
+  pub is_item : (x : X) → Contains list x → Contains items x
+  pub tied : (x : X) → Contains items x → (y : X) × Contains list y × (cmp x y ≡ Equal)
+
+-- the list with the step at its end, where it is an ack
+abbrev pub ack_added : List Acked → Step → List Acked
+ack_added acks (Issue node key context value) = acks
+ack_added acks (Hold holder home row) = acks
+ack_added acks (Release holder home key d) = acks
+ack_added acks (Fetch holder home key) = acks
+ack_added acks (Ack key d w) = acks ++ record { key = key; dot = d; w = w } ∷ []
+
+-- whether there is a version
+abbrev pub has_some : List Version → Bool
+has_some vs = not (is_nothing vs)
+
+-- what is held, without the dot where it is held at the place
+abbrev pub released : ℕ → ℕ → List ℕ → Dot → Holding → Holding
+released holder home key d h =
+    record {
+      holder = h.holder;
+      home = h.home;
+      row = record {
+        key = h.row.key;
+        versions =
+            if is_at holder home key h then without h.row.versions d else h.row.versions;
+      };
+    }

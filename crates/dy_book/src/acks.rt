@@ -1,0 +1,59 @@
+// How puts are acknowledged, and hints given up.
+ghost use Rattle.std.specs.Prelude.{◌≡◌, ◌≢◌, ◌+◌, ◌<◌, ◌≤◌, ◌↔◌, ◌⊎◌, ◌∷◌, ℕ, List, [], map};
+ghost use Rattle.std.specs.Prelude.{length, nat_eq, take, IfOk, IfErr, OnOk, OnErr, IsErrOf};
+ghost use Rattle.std.specs.Prelude.{IsOkUnless};
+ghost use Rattle.std.specs.List.{All, IsDistinct};
+ghost use Rattle.dy_dots.specs.declared.dots.Dot.{Dot as DotParts};
+ghost use Rattle.dy_core.specs.declared.steps.Step.TheVariants.{Ack};
+ghost use Rattle.dy_shares.specs.Shares.{IsReceipt, NodeStays, SessionBelongsTo, SessionStays};
+ghost use Rattle.dy_shares.specs.Shares.{steps_of, told_to, with_ack};
+ghost use Rattle.dy_book.specs.Books.{AreOf, LacksRoom, with_entries};
+
+use crate::books::Book;
+use dy_core::Step;
+use dy_dots::Fault;
+use dy_shares::{Naming, Receipt, SessionShare};
+
+impl<J: Naming> Book<J> {
+    /// A put of w homes is acknowledged to the session: w receipts of one key and dot, of distinct
+    /// homes and distinct holders.
+    pub fn ack(
+        &mut self,
+        share: &mut SessionShare<J>,
+        w: u8,
+        receipts: Vec<Receipt<J>>,
+    ) -> Result<(), Fault>
+        requires some { 1 ≤ w }
+        requires few { w ≤ J.n }
+        requires count { length receipts.items ≡ w }
+        requires one_dot { (key : List ℕ) × (d : DotParts) × AreOf key d receipts.items }
+        requires homes { IsDistinct nat_eq (map (λ r. r.home) receipts.items) }
+        requires holders { IsDistinct nat_eq (map (λ r. r.holder) receipts.items) }
+        ensures log { (key : List ℕ) (d : DotParts) → AreOf key d receipts.items →
+            OnOk result (self.new ≡
+            with_entries self.old (told_to share.old.session (Ack key d w) ∷ [])) }
+        ensures share { (key : List ℕ) (d : DotParts) → AreOf key d receipts.items →
+            OnOk result (share.new ≡ with_ack share.old (length self.old.log + 1) (Ack key d w)) }
+        ensures steps_full { IsErrOf result Fault.StepsFull ↔ LacksRoom self.old 1 }
+        ensures only { IfErr result (λ fault.
+            (fault ≡ Fault.StepsFull) ⊎ (fault ≡ Fault.OutOfMemory)) }
+        ensures err { OnErr result ((self.new ≡ self.old) × (share.new ≡ share.old)) }
+        ensures belongs { SessionBelongsTo self.old.log J.r share.old }
+        ensures nodes { (node : ℕ) → NodeStays self.old.log self.new.log node }
+        ensures sessions { (session : ℕ) → session ≢ share.old.session →
+            SessionStays self.old.log self.new.log session }
+    {
+        self.ledger.agree_session(share);
+        if self.steps_left() < 1 {
+            return Err(Fault::StepsFull);
+        }
+        let Some(first) = receipts.first() else {
+            unreachable!()
+        };
+        let dot = first.dot();
+        let key = first.key().try_clone(self.alloc)?;
+        self.ledger.learn_receipts(receipts.as_slice());
+        self.ledger.ack_step(share, Step::Ack { key, dot, w })?;
+        Ok(())
+    }
+}

@@ -1,0 +1,200 @@
+ghost use Rattle.std.specs.Prelude.{◌≡◌, ◌≢◌, ◌↔◌, ◌+◌, ◌<◌, ◌≤◌, ℕ, [], length, IfOk, OnOk, OnErr};
+ghost use Rattle.std.specs.Prelude.{IsErrOf, IsOkUnless, MatchOption, false};
+ghost use Rattle.std.specs.Option.{option_copied};
+ghost use Rattle.std.specs.List.{Contains};
+ghost use Rattle.dy_dots.specs.declared.dots.TheConstants.{MAX_COUNTER};
+ghost use Rattle.dy_core.specs.Worlds.{is_issued, layout_of};
+ghost use Rattle.dy_core.specs.Logs.{IsLegal};
+ghost use Rattle.dy_core.specs.Covers.{AcksAreCovered};
+ghost use Rattle.dy_shares.specs.declared.ledgers.TheConstants.{MAX_SESSIONS};
+ghost use Rattle.dy_shares.specs.Shares.{BelongsTo, first_parts, first_session, steps_of};
+ghost use Rattle.dy_book.specs.Limits.{AreLimits, IsQuorum};
+ghost use Rattle.dy_book.specs.Books.{with_session, world_of};
+ghost use Rattle.dy_book.specs.inside.Indexes.{IsPart};
+
+use crate::options::Options;
+use crate::parts::KeyPart;
+use dy_dots::{Dot, Fault, NodeId};
+use dy_ring::Ring;
+use dy_shares::{Blank, Ledger, Naming, NodeShare, SessionShare, Since};
+use dy_siblings::{Key, Version};
+use std::alloc::Global;
+use std::collections::BTreeMap;
+use std::marker::Model;
+
+/// The custody book: the one log of steps, with the book's part of each share, and what the world
+/// after the log has, key by key. It can't be dropped: it ends with its shares.
+pub struct Book<J: Naming> {
+    pub(crate) alloc: Global,
+    pub(crate) ring: Ring,
+    pub(crate) options: Options,
+    pub(crate) ledger: Ledger<J>,
+    pub(crate) versions: usize,
+    pub(crate) keys: BTreeMap<Key, KeyPart>,
+}
+
+impl<J: Naming> Model for Book<J> {
+    ghost use Rattle.dy_book.specs.Books.{BookParts, book_code};
+    ghost use Rattle.dy_book.specs.inside.Kept.{IsBook};
+
+    ghost Value = { BookParts };
+
+    ghost coded = { book_code };
+
+    ghost view = { λ b.
+        record { log = b.ledger.log; sessions = b.ledger.sessions; options = b.options } };
+
+    ghost invariant = { λ b.
+        IsBook J.ring J.n J.r b.ring b.ledger.log b.options b.versions b.keys.entries };
+}
+
+impl<J: Naming> Book<J> {
+    /// The book of a ring whose log is empty, and the shares of its nodes in their order.
+    pub fn open(
+        alloc: Global,
+        blank: Blank,
+        ring: Ring,
+        options: Options,
+    ) -> Result<(Book<J>, Vec<NodeShare<J>>), Fault>
+        requires named { blank ≡ record { book = J.book; table = J.table } }
+        requires ring { ring ≡ J.ring }
+        requires n { options.n ≡ J.n }
+        requires r { options.r ≡ J.r }
+        ensures book { IfOk result
+            (λ p. p.0 ≡ record { log = []; sessions = 0; options = options }) }
+        ensures shares { IfOk result (λ p. p.1.items ≡ first_parts J.ring.nodes) }
+        ensures too_many { IsErrOf result Fault.TooMany ↔ ¬ (AreLimits options) }
+        ensures bad_quorum { IsErrOf result Fault.BadQuorum
+            ↔ (AreLimits options × ¬ (IsQuorum options J.ring.nodes)) }
+        ensures memory { AreLimits options → IsQuorum options J.ring.nodes →
+            IsOkUnless result Fault.OutOfMemory }
+    {
+        if !options.has_limits() {
+            return Err(Fault::TooMany);
+        }
+        if !options.is_quorum(ring.nodes()) {
+            return Err(Fault::BadQuorum);
+        }
+        let (ledger, shares) = match Ledger::open(alloc, blank, ring.nodes()) {
+            Ok(opened) => opened,
+            Err(fault) => return Err(fault),
+        };
+        let book = Book {
+            alloc,
+            ring,
+            options,
+            ledger,
+            versions: 0,
+            keys: BTreeMap::new(alloc),
+        };
+        Ok((book, shares))
+    }
+
+    /// One more session, which was told nothing yet. Takes no memory.
+    pub fn session(&mut self) -> Result<SessionShare<J>, Fault>
+        ensures book { OnOk result (self.new ≡ with_session self.old) }
+        ensures share { IfOk result (λ s. s ≡ first_session self.old.sessions) }
+        ensures too_many { IsErrOf result Fault.TooMany ↔ (MAX_SESSIONS ≤ self.old.sessions) }
+        ensures err { OnErr result (self.new ≡ self.old) }
+        ensures only { IsOkUnless result Fault.TooMany }
+    {
+        let share = self.ledger.session()?;
+        Ok(share)
+    }
+
+    /// The share lent is the node's part of the log, and the log is legal. Takes no memory.
+    pub fn agree(&mut self, share: &mut NodeShare<J>)
+        ensures book { self.new ≡ self.old }
+        ensures share { share.new ≡ share.old }
+        ensures belongs { BelongsTo (steps_of self.old.log) share.old }
+        ensures legal { IsLegal (layout_of J.ring J.n) (steps_of self.old.log) }
+    {
+        self.ledger.agree(share);
+    }
+
+    /// How many steps the log has. Takes no memory.
+    pub fn since(&self) -> Since<J>
+        ensures { result ≡ length self.now.log }
+    {
+        self.ledger.since()
+    }
+
+    /// How far counters go. Takes no memory.
+    pub fn counter_limit(&self) -> u32
+        ensures value { result ≡ self.now.options.counter_limit }
+        ensures few { result ≤ MAX_COUNTER }
+    {
+        self.options.counter_limit
+    }
+
+    /// The options of the book. Takes no memory.
+    pub fn options(&self) -> Options
+        ensures value { result ≡ self.now.options }
+        ensures n { result.n ≡ J.n }
+        ensures r { result.r ≡ J.r }
+        ensures limits { AreLimits result }
+        ensures quorum { IsQuorum result J.ring.nodes }
+    {
+        self.options
+    }
+
+    /// Whenever the book's lock is free, each acknowledged put has its w distinct homes covered, on
+    /// as many distinct nodes, by its version or by one that causally follows it. Takes no memory.
+    pub fn acks_are_covered(&self)
+        ensures { AcksAreCovered (world_of self.now) }
+    {
+        let _alloc = &self.alloc;
+    }
+
+    // What is known of the key, where there is anything.
+    pub(crate) fn part(&self, key: &Key) -> Option<&KeyPart>
+        ensures { IsPart (world_of self.now) key.now (option_copied result) }
+    {
+        self.keys.get(key)
+    }
+
+    /// The greatest counter that the node used for the key, 0 where there is none. Takes no memory.
+    pub fn last(&self, node: NodeId, key: &Key) -> usize
+        ensures { result ≡ (world_of self.now).counters node key.now }
+    {
+        let _alloc = &self.alloc;
+        match self.part(key) {
+            Some(part) => part.count(node),
+            None => 0,
+        }
+    }
+
+    /// The version of this key and dot, where one was issued. Takes no memory.
+    pub fn version(&self, key: &Key, dot: Dot) -> Option<&Version>
+        ensures { MatchOption result (is_issued (world_of self.now).versions key.now dot ≡ false)
+            (λ v. Contains (world_of self.now).versions v.now
+            × (v.now.key ≡ key.now) × (v.now.dot ≡ dot)) }
+    {
+        let _alloc = &self.alloc;
+        let _counter = dot.counter();
+        match self.part(key) {
+            Some(part) => part.version(dot),
+            None => None,
+        }
+    }
+
+    // How many more steps the limit leaves.
+    pub(crate) fn steps_left(&self) -> usize
+        ensures { result + length self.now.log ≡ self.now.options.steps_limit }
+    {
+        self.options.steps_limit - self.ledger.steps().len()
+    }
+
+    /// Ends the book with whatever shares are there, and tells nothing. Takes no memory.
+    pub fn abandon(self, nodes: Vec<NodeShare<J>>, sessions: Vec<SessionShare<J>>) {
+        let Book {
+            alloc: _,
+            ring: _,
+            options: _,
+            ledger,
+            versions: _,
+            keys: _,
+        } = self;
+        ledger.abandon(nodes, sessions);
+    }
+}

@@ -1,0 +1,278 @@
+// How a book ends.
+ghost use Rattle.std.specs.Prelude.{◌≡◌, ◌↔◌, ◌⊎◌, ◌∷◌, [], ℕ, length, map, fold, Some, IfOk};
+ghost use Rattle.std.specs.Prelude.{IfErr, IsErr, OnOk, IsOkUnless};
+ghost use Rattle.std.specs.List.{All};
+ghost use Rattle.dy_book.specs.inside.Lists.{ack_added};
+ghost use Rattle.dy_book.specs.inside.Indexes.{held_in_all, part_at, settled_keys};
+ghost use Rattle.std.specs.BTreeMap.{IsOrdered};
+ghost use Rattle.dy_core.specs.Orders.{key_cmp};
+ghost use Rattle.dy_core.specs.Listings.{ListsAcks, ListsCovers, ListsHoldings, ListsSettled};
+ghost use Rattle.dy_shares.specs.Shares.{IsMissing};
+ghost use Rattle.dy_book.specs.Audits.{IsAuditOf, ListsCovered, Tells, count_gets};
+ghost use Rattle.dy_book.specs.Books.{world_of};
+
+use crate::audits::{AckedAt, Audit};
+use crate::books::Book;
+use crate::parts::KeyPart;
+use crate::{custodies, lists};
+use dy_core::{Acked, Holding, Place, Step};
+use dy_dots::{Dot, Fault};
+use dy_shares::laws::shares_say_all;
+use dy_shares::{EndRefused, Naming, NodeShare, SessionShare};
+use dy_siblings::Key;
+use std::alloc::Global;
+use std::collections::BTreeMap;
+
+/// A share is missing, or memory is. The book and all the shares come back, each list in its order.
+pub struct CloseRefused<J: Naming> {
+    pub fault: Fault,
+    pub book: Book<J>,
+    pub nodes: Vec<NodeShare<J>>,
+    pub sessions: Vec<SessionShare<J>>,
+}
+
+impl<J: Naming> CloseRefused<J> {
+    /// Ends the book with whatever shares are there, and tells nothing. Takes no memory.
+    pub fn abandon(self) {
+        let CloseRefused {
+            fault: _,
+            book,
+            nodes,
+            sessions,
+        } = self;
+        book.abandon(nodes, sessions);
+    }
+}
+
+// Lists the step, where it is an ack.
+fn add_ack(alloc: Global, acks: &mut Vec<Acked>, step: &Step) -> Result<(), Fault>
+    ensures ok { OnOk result (acks.new.items ≡ ack_added acks.old.items step.now) }
+    ensures memory { IsOkUnless result Fault.OutOfMemory }
+{
+    match step {
+        Step::Ack { key, dot, w } => {
+            let key = key.try_clone(alloc)?;
+            let ack = Acked {
+                key,
+                dot: *dot,
+                w: *w,
+            };
+            acks.push(ack)?;
+            Ok(())
+        }
+        Step::Issue { .. } => Ok(()),
+        Step::Hold { .. } => Ok(()),
+        Step::Release { .. } => Ok(()),
+        Step::Fetch { .. } => Ok(()),
+    }
+}
+
+// The acks of the steps, the oldest first.
+fn acks_of(alloc: Global, steps: &[Step]) -> Result<Vec<Acked>, Fault>
+    ensures ok { IfOk result (λ acks. acks.items ≡ fold ack_added [] steps.now) }
+    ensures memory { IsOkUnless result Fault.OutOfMemory }
+{
+    let mut acks = Vec::new(alloc);
+    for step in steps {
+        add_ack(alloc, &mut acks, step)?;
+    }
+    Ok(acks)
+}
+
+// What the index has, key by key.
+fn held_of(alloc: Global, keys: &BTreeMap<Key, KeyPart>) -> Result<Vec<Holding>, Fault>
+    ensures ok { IfOk result (λ held. held.items ≡ held_in_all [] keys.now.entries) }
+    ensures found { All (λ e. part_at keys.now.entries e.0 ≡ Some e.1) keys.now.entries }
+    ensures ordered { IsOrdered key_cmp keys.now }
+    ensures memory { IsOkUnless result Fault.OutOfMemory }
+{
+    let mut held = Vec::new(alloc);
+    for (_key, part) in keys.iter() {
+        custodies::list_held(alloc, &mut held, part.places.as_slice())?;
+    }
+    Ok(held)
+}
+
+// The keys of the index that are settled, by their bytes.
+fn settled_of(alloc: Global, keys: &BTreeMap<Key, KeyPart>) -> Result<Vec<Key>, Fault>
+    ensures ok { IfOk result (λ settled. settled.items ≡ settled_keys keys.now.entries) }
+    ensures found { All (λ e. part_at keys.now.entries e.0 ≡ Some e.1) keys.now.entries }
+    ensures ordered { IsOrdered key_cmp keys.now }
+    ensures memory { IsOkUnless result Fault.OutOfMemory }
+{
+    let mut settled = Vec::new(alloc);
+    for (key, part) in keys.iter() {
+        if part.is_settled() {
+            let key = key.try_clone(alloc)?;
+            settled.push(key)?;
+        }
+    }
+    Ok(settled)
+}
+
+// How many gets the sessions were told.
+fn gets_of<J: Naming>(sessions: &[SessionShare<J>]) -> u128
+    ensures { result ≡ count_gets sessions.now }
+{
+    let mut gets: u128 = 0;
+    for session in sessions {
+        gets += session.gets() as u128;
+    }
+    gets
+}
+
+impl<J: Naming> Book<J> {
+    /// All places that cover the dot, by home and holder.
+    pub fn covers(&self, key: &Key, dot: Dot) -> Result<Vec<Place>, Fault>
+        ensures ok { IfOk result
+            (λ places. ListsCovers (world_of self.now) key.now dot places.items) }
+        ensures memory { IsOkUnless result Fault.OutOfMemory }
+    {
+        let _alloc = &self.alloc;
+        match self.part(key) {
+            Some(part) => {
+                let places = custodies::covering(self.alloc, part.places.as_slice(), key, dot)?;
+                Ok(places)
+            }
+            None => Ok(Vec::new(self.alloc)),
+        }
+    }
+
+    // What is held, by holder, home and the bytes of the key.
+    fn held(&self) -> Result<Vec<Holding>, Fault>
+        ensures ok { IfOk result (λ held. ListsHoldings (world_of self.now) held.items) }
+        ensures memory { IsOkUnless result Fault.OutOfMemory }
+    {
+        let listed = held_of(self.alloc, &self.keys)?;
+        let held = lists::ordered(self.alloc, listed)?;
+        Ok(held)
+    }
+
+    // Each of the acks with all places that cover it.
+    fn with_places(&self, acks: Vec<Acked>) -> Result<Vec<AckedAt>, Fault>
+        ensures acks { IfOk result (λ acked. map (λ x. x.ack) acked.items ≡ acks.items) }
+        ensures places { IfOk result (λ acked. All (λ x.
+            ListsCovers (world_of self.now) x.ack.key x.ack.dot x.places.items) acked.items) }
+        ensures memory { IsOkUnless result Fault.OutOfMemory }
+    {
+        let mut acked = Vec::with_capacity(self.alloc, acks.len())?;
+        for ack in acks {
+            let places = self.covers(&ack.key, ack.dot)?;
+            acked.push(AckedAt { ack, places })?;
+        }
+        Ok(acked)
+    }
+
+    // The acks, by the bytes of the key, dot and w, each with all places that cover it.
+    fn acked(&self) -> Result<Vec<AckedAt>, Fault>
+        ensures ok { IfOk result (λ acked. ListsCovered (world_of self.now) acked.items) }
+        ensures memory { IsOkUnless result Fault.OutOfMemory }
+    {
+        let told = acks_of(self.alloc, self.ledger.steps())?;
+        let acks = lists::ordered(self.alloc, told)?;
+        let acked = self.with_places(acks)?;
+        Ok(acked)
+    }
+
+    // The settled keys of which a version was made, by their bytes.
+    fn settled(&self) -> Result<Vec<Key>, Fault>
+        ensures ok { IfOk result (λ keys. ListsSettled (world_of self.now) keys.items) }
+        ensures memory { IsOkUnless result Fault.OutOfMemory }
+    {
+        let settled = settled_of(self.alloc, &self.keys)?;
+        Ok(settled)
+    }
+
+    // What the book has, and how many gets these sessions were told.
+    fn audit(&self, sessions: &[SessionShare<J>]) -> Result<Audit, Fault>
+        ensures ok { IfOk result (λ audit. Tells self.now sessions.now audit) }
+        ensures memory { IsOkUnless result Fault.OutOfMemory }
+    {
+        let held = self.held()?;
+        let acked = self.acked()?;
+        let settled = self.settled()?;
+        let gets = gets_of(sessions);
+        let steps = self.ledger.steps().len();
+        Ok(Audit {
+            held,
+            acked,
+            gets,
+            steps,
+            settled,
+        })
+    }
+
+    /// Ends the book and tells what it has, where each of its shares is handed in.
+    pub fn close(
+        self,
+        nodes: Vec<NodeShare<J>>,
+        sessions: Vec<SessionShare<J>>,
+    ) -> Result<Audit, CloseRefused<J>>
+        ensures exact { IfOk result
+            (λ audit. IsAuditOf J.ring J.r self nodes.items sessions.items audit) }
+        ensures shares_missing { IfErr result (λ refused. (refused.fault ≡ Fault.SharesMissing)
+            ↔ IsMissing J.ring.nodes self.sessions nodes.items sessions.items) }
+        ensures missing { IsMissing J.ring.nodes self.sessions nodes.items sessions.items →
+            IsErr result }
+        ensures only { IfErr result (λ refused. (refused.fault ≡ Fault.SharesMissing)
+            ⊎ (refused.fault ≡ Fault.OutOfMemory)) }
+        ensures book_back { IfErr result (λ refused. refused.book ≡ self) }
+        ensures nodes_back { IfErr result (λ refused. refused.nodes.items ≡ nodes.items) }
+        ensures sessions_back { IfErr result (λ refused. refused.sessions.items ≡ sessions.items) }
+    {
+        if self.ledger.lacks(nodes.as_slice(), sessions.as_slice()) {
+            return Err(CloseRefused {
+                fault: Fault::SharesMissing,
+                book: self,
+                nodes,
+                sessions,
+            });
+        }
+        let audit = match self.audit(sessions.as_slice()) {
+            Ok(audit) => audit,
+            Err(fault) => {
+                return Err(CloseRefused {
+                    fault,
+                    book: self,
+                    nodes,
+                    sessions,
+                });
+            }
+        };
+        let Book {
+            alloc,
+            ring,
+            options,
+            ledger,
+            versions,
+            keys,
+        } = self;
+        match ledger.end(nodes, sessions) {
+            Ok(_steps) => {
+                shares_say_all();
+                Ok(audit)
+            }
+            Err(refused) => {
+                let EndRefused {
+                    ledger,
+                    nodes,
+                    sessions,
+                } = refused;
+                let book = Book {
+                    alloc,
+                    ring,
+                    options,
+                    ledger,
+                    versions,
+                    keys,
+                };
+                Err(CloseRefused {
+                    fault: Fault::SharesMissing,
+                    book,
+                    nodes,
+                    sessions,
+                })
+            }
+        }
+    }
+}

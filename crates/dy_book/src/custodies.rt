@@ -1,0 +1,321 @@
+// What is held of one key, place by place.
+ghost use Rattle.std.specs.Prelude.{◌≡◌, ◌≢◌, ◌<◌, ◌≤◌, ◌++◌, length, take, drop, map, [], vec_len};
+ghost use Rattle.std.specs.Prelude.{vec_capacity, slice_index_or, IfOk, OnOk, IsOkUnless};
+ghost use Rattle.std.specs.Prelude.{MatchOption};
+ghost use Rattle.std.specs.declared.cmp.Ordering.{Ordering};
+ghost use Rattle.dy_core.specs.Orders.{holding_cmp, place_cmp, put};
+ghost use Rattle.dy_core.specs.inside.Meanings.{gathered, is_covering, place_of, row_in};
+ghost use Rattle.std.specs.List.{list_any};
+ghost use Rattle.dy_siblings.specs.Siblings.{AreOneByDot, IsSameRow, merge};
+ghost use Rattle.dy_book.specs.inside.Lists.{is_hint_here, listed_from, released};
+ghost use Rattle.dy_book.specs.Books.{DotsRise};
+
+use crate::lists;
+use dy_core::{Holding, Place};
+use dy_dots::{Dot, Fault, NodeId};
+use dy_siblings::{Key, Row, Version};
+use std::alloc::Global;
+use std::cmp::Ordering;
+use std::marker::Model;
+
+// What a holder holds for a home of one key: the row, and the dots of its versions, to be lent.
+#[derive(Drop)]
+pub struct Custody {
+    pub(crate) holder: NodeId,
+    pub(crate) home: NodeId,
+    pub(crate) row: Row,
+    dots: Vec<Dot>,
+}
+
+impl Model for Custody {
+    ghost use Rattle.std.specs.Prelude.{◌≡◌, map};
+    ghost use Rattle.dy_core.specs.declared.holdings.Holding.{Holding};
+    ghost use Rattle.dy_book.specs.inside.Lists.{holding_code};
+
+    ghost Value = { Holding };
+
+    ghost coded = { holding_code };
+
+    ghost view = { λ c. record { holder = c.holder; home = c.home; row = c.row } };
+
+    ghost invariant = { λ c. c.dots.items ≡ map (λ v. v.dot) c.row.versions };
+}
+
+// The dots of the versions, in their order.
+fn dots_of(alloc: Global, versions: &[Version]) -> Result<Vec<Dot>, Fault>
+    ensures ok { IfOk result (λ dots. dots.items ≡ map (λ v. v.dot) versions.now) }
+    ensures memory { IsOkUnless result Fault.OutOfMemory }
+{
+    let mut dots = Vec::with_capacity(alloc, versions.len())?;
+    for version in versions {
+        dots.push(version.dot())?;
+    }
+    Ok(dots)
+}
+
+impl Custody {
+    ghost use Rattle.dy_core.specs.inside.Meanings.{is_at, is_covering, place_of};
+    ghost use Rattle.dy_book.specs.inside.Lists.{is_hint_here};
+
+    // The custody of the row at the place.
+    pub(crate) fn new(
+        alloc: Global,
+        holder: NodeId,
+        home: NodeId,
+        row: Row,
+    ) -> Result<Custody, Fault>
+        ensures ok { IfOk result (λ c. c ≡ record { holder = holder; home = home; row = row }) }
+        ensures memory { IsOkUnless result Fault.OutOfMemory }
+    {
+        let dots = dots_of(alloc, row.versions())?;
+        Ok(Custody {
+            holder,
+            home,
+            row,
+            dots,
+        })
+    }
+
+    // The row.
+    pub(crate) fn row(&self) -> &Row
+        ensures { result.now ≡ self.now.row }
+    {
+        &self.row
+    }
+
+    // The dots of the row's versions, in their order.
+    pub(crate) fn dots(&self) -> &[Dot]
+        ensures value { result.now ≡ map (λ v. v.dot) self.now.row.versions }
+        ensures rise { DotsRise result.now }
+    {
+        let _versions = self.row.versions();
+        self.dots.as_slice()
+    }
+
+    // Whether it is of the key and covers the dot.
+    pub(crate) fn is_covering(&self, key: &Key, dot: Dot) -> bool
+        ensures { result ≡ is_covering key.now dot self.now }
+    {
+        self.row.key() == key && self.row.covers(dot)
+    }
+
+    // Its holder and its home.
+    pub(crate) fn place(&self) -> Place
+        ensures { result ≡ place_of self.now }
+    {
+        Place {
+            holder: self.holder,
+            home: self.home,
+        }
+    }
+
+    // Whether it is at the place.
+    fn is_at(&self, holder: NodeId, home: NodeId, key: &Key) -> bool
+        ensures { result ≡ is_at holder home key.now self.now }
+    {
+        self.holder == holder && (self.home == home && self.row.key() == key)
+    }
+
+    // Whether it has a version, and is held for another node.
+    fn is_hint(&self) -> bool
+        ensures { result ≡ is_hint_here self.now }
+    {
+        self.holder != self.home && !self.row.is_empty()
+    }
+
+    // The dot is no longer held, where it is at the place.
+    fn give_up(&mut self, holder: NodeId, home: NodeId, key: &Key, dot: Dot)
+        ensures { self.new ≡ released holder home key.now dot self.old }
+    {
+        if self.is_at(holder, home, key) {
+            self.row.remove(dot);
+            self.dots.retain(|other| *other != dot);
+        }
+    }
+
+    // By holder, then by home, then by key.
+    fn rank(&self, other: &Custody) -> Ordering
+        ensures { result ≡ holding_cmp self.now other.now }
+    {
+        self.holder
+            .cmp(&other.holder)
+            .then(self.home.cmp(&other.home))
+            .then(self.row.key().cmp(other.row.key()))
+    }
+}
+
+// The custody at the place, where there is one.
+pub(crate) fn find<'a>(
+    places: &'a [Custody],
+    holder: NodeId,
+    home: NodeId,
+    key: &Key,
+) -> Option<&'a Custody>
+    ensures none { MatchOption result (row_in places.now holder home key.now ≡ [])
+        (λ c. c.now.row.key ≡ key.now) }
+    ensures some { MatchOption result (row_in places.now holder home key.now ≡ [])
+        (λ c. c.now.row.versions ≡ row_in places.now holder home key.now) }
+{
+    for custody in places {
+        if custody.is_at(holder, home, key) {
+            return Some(custody);
+        }
+    }
+    None
+}
+
+// A copy of the row at the place.
+pub(crate) fn copy_at(
+    alloc: Global,
+    places: &[Custody],
+    holder: NodeId,
+    home: NodeId,
+    key: &Key,
+) -> Result<Row, Fault>
+    ensures ok { IfOk result
+        (λ row. row ≡ record { key = key.now; versions = row_in places.now holder home key.now }) }
+    ensures memory { IsOkUnless result Fault.OutOfMemory }
+{
+    match find(places, holder, home, key) {
+        Some(custody) => custody.row.try_clone(alloc),
+        None => Ok(Row::new(alloc, key.try_clone(alloc)?)),
+    }
+}
+
+// The merge of the row at the place with this one.
+pub(crate) fn merged_at(
+    alloc: Global,
+    places: &[Custody],
+    holder: NodeId,
+    home: NodeId,
+    row: &Row,
+) -> Result<Row, Fault>
+    requires { AreOneByDot (row_in places.now holder home row.now.key ++ row.now.versions) }
+    ensures ok { IfOk result (λ merged. IsSameRow merged.versions
+        (merge (row_in places.now holder home row.now.key) row.now.versions)) }
+    ensures key { IfOk result (λ merged. merged.key ≡ row.now.key) }
+    ensures memory { IsOkUnless result Fault.OutOfMemory }
+{
+    match find(places, holder, home, row.key()) {
+        Some(custody) => {
+            let merged = custody.row.merged(alloc, row)?;
+            Ok(merged)
+        }
+        None => {
+            let none = Row::new(alloc, row.key().try_clone(alloc)?);
+            let merged = none.merged(alloc, row)?;
+            Ok(merged)
+        }
+    }
+}
+
+// How many custodies come before this one.
+fn place_in(list: &[Custody], item: &Custody) -> usize
+    ensures bound { result ≤ length list.now }
+    ensures before { put holding_cmp list.now item.now ≡
+        take result list.now ++ put holding_cmp (drop result list.now) item.now }
+    ensures stop { result < length list.now →
+        holding_cmp item.now (slice_index_or list.now result item.now) ≢ Ordering.Greater }
+{
+    let mut at = 0;
+    for other in list {
+        if item.rank(other) != Ordering::Greater {
+            return at;
+        }
+        at += 1;
+    }
+    at
+}
+
+// Puts the custody in its place, instead of one at the same place. There is room.
+pub(crate) fn put(list: &mut Vec<Custody>, item: Custody)
+    requires { vec_len list.old < vec_capacity list.old }
+    ensures { list.new.items ≡ put holding_cmp list.old.items item }
+{
+    let at = place_in(list.as_slice(), &item);
+    if at >= list.len() {
+        let inserted = list.insert(at, item);
+        prove!(inserted.is_ok());
+        return;
+    }
+    if item.rank(&list[at]) == Ordering::Equal {
+        list[at] = item;
+        return;
+    }
+    let inserted = list.insert(at, item);
+    prove!(inserted.is_ok());
+}
+
+// The dots at the place, rising.
+pub(crate) fn dots_at<'a>(
+    places: &'a [Custody],
+    holder: NodeId,
+    home: NodeId,
+    key: &Key,
+) -> &'a [Dot]
+    ensures value { result.now ≡ map (λ v. v.dot) (row_in places.now holder home key.now) }
+    ensures rise { DotsRise result.now }
+{
+    match find(places, holder, home, key) {
+        Some(custody) => custody.dots(),
+        None => &[],
+    }
+}
+
+// The places whose row covers the dot, by home and holder.
+pub(crate) fn covering(
+    alloc: Global,
+    custodies: &[Custody],
+    key: &Key,
+    dot: Dot,
+) -> Result<Vec<Place>, Fault>
+    ensures ok { IfOk result (λ places. places.items ≡
+        gathered place_cmp (is_covering key.now dot) place_of custodies.now) }
+    ensures memory { IsOkUnless result Fault.OutOfMemory }
+{
+    let mut places = Vec::new(alloc);
+    for custody in custodies {
+        if custody.is_covering(key, dot) {
+            lists::put(&mut places, custody.place())?;
+        }
+    }
+    Ok(places)
+}
+
+// Lists what is held there, where it has a version.
+pub(crate) fn list_held(
+    alloc: Global,
+    held: &mut Vec<Holding>,
+    custodies: &[Custody],
+) -> Result<(), Fault>
+    ensures ok { OnOk result (held.new.items ≡ listed_from held.old.items custodies.now) }
+    ensures memory { IsOkUnless result Fault.OutOfMemory }
+{
+    for custody in custodies {
+        if !custody.row.is_empty() {
+            let holding = Holding {
+                holder: custody.holder,
+                home: custody.home,
+                row: custody.row.try_clone(alloc)?,
+            };
+            held.push(holding)?;
+        }
+    }
+    Ok(())
+}
+
+// Whether one of the rows has a version, and is held for another node.
+pub(crate) fn have_hint(custodies: &[Custody]) -> bool
+    ensures { result ≡ list_any is_hint_here custodies.now }
+{
+    custodies.iter().any(|custody| custody.is_hint())
+}
+
+// The dot is no longer held at the place. Takes no memory.
+pub(crate) fn give_up(places: &mut [Custody], holder: NodeId, home: NodeId, key: &Key, dot: Dot)
+    ensures { places.new ≡ map (released holder home key.now dot) places.old }
+{
+    for custody in places.iter_mut() {
+        custody.give_up(holder, home, key, dot);
+    }
+}

@@ -1,0 +1,114 @@
+// What is held, as the book tells it.
+ghost use Rattle.std.specs.Prelude.{◌≡◌, ◌+◌, ◌<◌, ◌↔◌, ◌⊎◌, ◌∷◌, ℕ, [], map, length, IfOk, IfErr};
+ghost use Rattle.std.specs.Prelude.{OnOk, OnErr, IsErrOf, IsOkUnless, MatchOption};
+ghost use Rattle.dy_siblings.specs.Siblings.{IsSameRow};
+ghost use Rattle.dy_core.specs.Worlds.{row_at};
+ghost use Rattle.dy_core.specs.declared.steps.Step.TheVariants.{Fetch};
+ghost use Rattle.dy_shares.specs.Shares.{NodeStays, SessionStays};
+ghost use Rattle.dy_book.specs.Books.{HasRoom, LacksRoom, ListsDots, with_untold, world_of};
+
+use crate::books::Book;
+use crate::custodies;
+use dy_core::{Place, Step};
+use dy_dots::{Dot, Fault, NodeId};
+use dy_shares::{Naming, NodeShare, Seen, Since};
+use dy_siblings::{Key, Row};
+
+impl<J: Naming> Book<J> {
+    // A copy of the row that the holder holds for the home.
+    fn row_copy(&self, holder: NodeId, home: NodeId, key: &Key) -> Result<Row, Fault>
+        ensures key { IfOk result (λ row. row.key ≡ key.now) }
+        ensures row { IfOk result (λ row.
+            IsSameRow row.versions (row_at (world_of self.now) holder home key.now)) }
+        ensures memory { IsOkUnless result Fault.OutOfMemory }
+    {
+        match self.part(key) {
+            Some(part) => {
+                let row = custodies::copy_at(
+                    self.alloc,
+                    part.places.as_slice(),
+                    holder,
+                    home,
+                    key,
+                )?;
+                Ok(row)
+            }
+            None => {
+                let key = key.try_clone(self.alloc)?;
+                Ok(Row::new(self.alloc, key))
+            }
+        }
+    }
+
+    /// The row that the share's node holds for the home, as a step of the log whose number is
+    /// greater than the since.
+    pub fn fetch_step(
+        &mut self,
+        share: &NodeShare<J>,
+        home: NodeId,
+        key: &Key,
+        since: &Since<J>,
+    ) -> Result<Seen<J>, Fault>
+        ensures log { OnOk result
+            (self.new ≡ with_untold self.old (Fetch share.now.node home key.now ∷ [])) }
+        ensures at { IfOk result (λ seen. seen.at ≡ length self.old.log + 1) }
+        ensures later { IfOk result (λ seen. since.now < seen.at) }
+        ensures holder { IfOk result (λ seen. seen.holder ≡ share.now.node) }
+        ensures home { IfOk result (λ seen. seen.home ≡ home) }
+        ensures key { IfOk result (λ seen. seen.key ≡ key.now) }
+        ensures row { IfOk result (λ seen. IsSameRow seen.row
+            (row_at (world_of self.old) share.now.node home key.now)) }
+        ensures steps_full { IsErrOf result Fault.StepsFull ↔ LacksRoom self.old 1 }
+        ensures only { IfErr result (λ fault.
+            (fault ≡ Fault.StepsFull) ⊎ (fault ≡ Fault.OutOfMemory)) }
+        ensures err { OnErr result (self.new ≡ self.old) }
+        ensures nodes { (node : ℕ) → NodeStays self.old.log self.new.log node }
+        ensures sessions { (session : ℕ) → SessionStays self.old.log self.new.log session }
+    {
+        self.ledger.learn_since(since);
+        if self.steps_left() < 1 {
+            return Err(Fault::StepsFull);
+        }
+        let seen = self.fetch_at(share.node(), home, key)?;
+        Ok(seen)
+    }
+
+    // The same where a step is left.
+    fn fetch_at(&mut self, holder: NodeId, home: NodeId, key: &Key) -> Result<Seen<J>, Fault>
+        requires { HasRoom self.old 1 }
+        ensures log { OnOk result
+            (self.new ≡ with_untold self.old (Fetch holder home key.now ∷ [])) }
+        ensures at { IfOk result (λ seen. seen.at ≡ length self.old.log + 1) }
+        ensures holder { IfOk result (λ seen. seen.holder ≡ holder) }
+        ensures home { IfOk result (λ seen. seen.home ≡ home) }
+        ensures key { IfOk result (λ seen. seen.key ≡ key.now) }
+        ensures row { IfOk result (λ seen. IsSameRow seen.row
+            (row_at (world_of self.old) holder home key.now)) }
+        ensures memory { IsOkUnless result Fault.OutOfMemory }
+        ensures err { OnErr result (self.new ≡ self.old) }
+        ensures nodes { (node : ℕ) → NodeStays self.old.log self.new.log node }
+        ensures sessions { (session : ℕ) → SessionStays self.old.log self.new.log session }
+    {
+        let row = self.row_copy(holder, home, key)?;
+        let of_seen = key.try_clone(self.alloc)?;
+        let step = Step::Fetch {
+            holder,
+            home,
+            key: key.try_clone(self.alloc)?,
+        };
+        self.ledger.fetch_step(step)?;
+        let at = self.ledger.steps().len();
+        Ok(self.ledger.seen(at, Place { holder, home }, of_seen, row))
+    }
+
+    /// The dots held there, rising. Takes no memory.
+    pub fn held_dots(&self, place: Place, key: &Key) -> &[Dot]
+        ensures { ListsDots (world_of self.now) place.holder place.home key.now result.now }
+    {
+        let _alloc = &self.alloc;
+        match self.part(key) {
+            Some(part) => custodies::dots_at(part.places.as_slice(), place.holder, place.home, key),
+            None => &[],
+        }
+    }
+}

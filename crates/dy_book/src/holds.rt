@@ -1,0 +1,395 @@
+// How the book grows by versions and by what is held.
+ghost use Rattle.std.specs.Prelude.{◌≡◌, ◌≢◌, ◌+◌, ◌≤◌, ◌<◌, ◌↔◌, ◌⊎◌, ◌++◌, ◌∷◌, ℕ, List, []};
+ghost use Rattle.std.specs.Prelude.{Some, map, length, vec_len, vec_capacity, IsTrue, IsSome, IfOk};
+ghost use Rattle.std.specs.Prelude.{IfErr, OnOk, OnErr, IsErrOf, IsOkUnless, MatchOption};
+ghost use Rattle.std.specs.List.{All, Contains};
+ghost use Rattle.dy_dots.specs.declared.dots.Dot.{Dot as DotParts};
+ghost use Rattle.dy_dots.specs.declared.dots.TheConstants.{MAX_COUNTER};
+ghost use Rattle.dy_siblings.specs.Siblings.{AreOneByDot, IsSameRow, merge};
+ghost use Rattle.dy_preference.specs.Preferences.{homes_of, may_hold};
+ghost use Rattle.dy_core.specs.Worlds.{AreMadeOf, layout_of, World};
+ghost use Rattle.dy_core.specs.Steps.{version_made};
+ghost use Rattle.dy_core.specs.Logs.{IsLegal, world_after};
+ghost use Rattle.dy_core.specs.inside.Meanings.{row_in};
+ghost use Rattle.dy_core.specs.declared.steps.Step.TheVariants.{Issue, Hold};
+ghost use Rattle.dy_shares.specs.Shares.{BelongsTo, IsReceipt, NodeStays, SessionStays};
+ghost use Rattle.dy_shares.specs.Shares.{receipt_parts, steps_of, untold, with_entries, with_steps};
+ghost use Rattle.dy_book.specs.Books.{HasRoom, IsLeastNotIssued, IsNext, LacksRoom, MayIssue};
+ghost use Rattle.dy_book.specs.Books.{issue_steps, receipts_of, row_alone, with_untold, world_of};
+ghost use Rattle.dy_book.specs.inside.Indexes.{IsIndex, IsPart, part_at};
+
+use crate::books::Book;
+use crate::custodies::{self, Custody};
+use crate::parts::KeyPart;
+use dy_core::{Place, Step};
+use dy_dots::{Dot, Fault, NodeId};
+use dy_shares::{Ledger, Naming, NodeShare, Receipt};
+use dy_siblings::{Key, Row, Version};
+use std::alloc::Global;
+use std::collections::BTreeMap;
+
+// The issue of the version, which names its whole past, and the hold of it alone.
+fn steps_of_issue(
+    alloc: Global,
+    node: NodeId,
+    home: NodeId,
+    version: &Version,
+) -> Result<Vec<Step>, Fault>
+    ensures ok { IfOk result (λ steps. steps.items ≡ issue_steps node home version.now) }
+    ensures memory { IsOkUnless result Fault.OutOfMemory }
+{
+    let value = match version.value() {
+        Some(value) => Some(value.try_clone(alloc)?),
+        None => None,
+    };
+    let issue = Step::Issue {
+        node,
+        key: version.key().try_clone(alloc)?,
+        context: version.past().try_clone(alloc)?,
+        value,
+    };
+    let hold = Step::Hold {
+        holder: node,
+        home,
+        row: Row::of(alloc, version.try_clone(alloc)?)?,
+    };
+    let mut steps = Vec::with_capacity(alloc, 2)?;
+    steps.push_reserved(issue);
+    steps.push_reserved(hold);
+    Ok(steps)
+}
+
+// The hold of the row.
+fn steps_of_hold(alloc: Global, holder: NodeId, home: NodeId, row: &Row) -> Result<Vec<Step>, Fault>
+    ensures ok { IfOk result (λ steps. steps.items ≡ Hold holder home row.now ∷ []) }
+    ensures memory { IsOkUnless result Fault.OutOfMemory }
+{
+    let hold = Step::Hold {
+        holder,
+        home,
+        row: row.try_clone(alloc)?,
+    };
+    let mut steps = Vec::with_capacity(alloc, 1)?;
+    steps.push_reserved(hold);
+    Ok(steps)
+}
+
+// Makes a part for the key, where there is none yet.
+fn make_part(alloc: Global, keys: &mut BTreeMap<Key, KeyPart>, key: &Key) -> Result<(), Fault>
+    ensures same { (w : World) → IsIndex w keys.old.entries → IsIndex w keys.new.entries }
+    ensures has { OnOk result (IsSome (part_at keys.new.entries key.now)) }
+    ensures memory { IsOkUnless result Fault.OutOfMemory }
+{
+    if keys.contains_key(key) {
+        return Ok(());
+    }
+    let key = key.try_clone(alloc)?;
+    keys.insert(key, KeyPart::new(alloc))?;
+    Ok(())
+}
+
+// What the holder holds for the home once the row is merged into it.
+fn held_after(
+    alloc: Global,
+    part: &KeyPart,
+    holder: NodeId,
+    home: NodeId,
+    row: &Row,
+) -> Result<Custody, Fault>
+    requires { AreOneByDot
+        (row_in part.now.places.items holder home row.now.key ++ row.now.versions) }
+    ensures holder { IfOk result (λ c. c.holder ≡ holder) }
+    ensures home { IfOk result (λ c. c.home ≡ home) }
+    ensures key { IfOk result (λ c. c.row.key ≡ row.now.key) }
+    ensures row { IfOk result (λ c. IsSameRow c.row.versions
+        (merge (row_in part.now.places.items holder home row.now.key) row.now.versions)) }
+    ensures memory { IsOkUnless result Fault.OutOfMemory }
+{
+    let merged = custodies::merged_at(alloc, part.places.as_slice(), holder, home, row)?;
+    let custody = Custody::new(alloc, holder, home, merged)?;
+    Ok(custody)
+}
+
+// Holds the row, in the log and in the part of its key, or changes neither.
+fn hold_in<J: Naming>(
+    alloc: Global,
+    ledger: &mut Ledger<J>,
+    part: &mut KeyPart,
+    share: &mut NodeShare<J>,
+    home: NodeId,
+    row: &Row,
+    steps: Vec<Step>,
+) -> Result<(), Fault>
+    requires legal { IsLegal (layout_of J.ring J.n) (steps_of ledger.old.log) }
+    requires part { IsPart (world_after (steps_of ledger.old.log)) row.now.key (Some part.old) }
+    requires may_hold { IsTrue
+        (may_hold (homes_of J.ring J.n row.now.key) share.old.node home) }
+    requires made { AreMadeOf (world_after (steps_of ledger.old.log)) row.now.key
+        row.now.versions }
+    requires steps { steps.items ≡ Hold share.old.node home row.now ∷ [] }
+    ensures log { OnOk result (ledger.new ≡ with_entries ledger.old (map untold steps.items)) }
+    ensures share { OnOk result (share.new ≡ with_steps share.old steps.items) }
+    ensures err { OnErr result ((ledger.new ≡ ledger.old) × (share.new ≡ share.old)) }
+    ensures memory { IsOkUnless result Fault.OutOfMemory }
+    ensures part { IsPart (world_after (steps_of ledger.new.log)) row.now.key (Some part.new) }
+    ensures nodes { (node : ℕ) → node ≢ share.old.node →
+        NodeStays ledger.old.log ledger.new.log node }
+    ensures sessions { (session : ℕ) → SessionStays ledger.old.log ledger.new.log session }
+{
+    let custody = held_after(alloc, part, share.node(), home, row)?;
+    part.places.reserve(1)?;
+    ledger.node_steps(share, steps)?;
+    custodies::put(&mut part.places, custody);
+    Ok(())
+}
+
+// Adds the version and holds it alone, in the log and in the part of its key, or changes neither.
+fn issue_in<J: Naming>(
+    alloc: Global,
+    ledger: &mut Ledger<J>,
+    part: &mut KeyPart,
+    share: &mut NodeShare<J>,
+    home: NodeId,
+    version: Version,
+    row: &Row,
+    steps: Vec<Step>,
+) -> Result<(), Fault>
+    requires legal { IsLegal (layout_of J.ring J.n) (steps_of ledger.old.log) }
+    requires part { IsPart (world_after (steps_of ledger.old.log)) version.key (Some part.old) }
+    requires may_hold { IsTrue (may_hold (homes_of J.ring J.n version.key) share.old.node home) }
+    requires next { IsNext (world_after (steps_of ledger.old.log)) share.old.node version }
+    requires room { (world_after (steps_of ledger.old.log)).counters share.old.node version.key
+        < MAX_COUNTER }
+    requires row { row.now ≡ row_alone version }
+    requires steps { steps.items ≡ issue_steps share.old.node home version }
+    ensures log { OnOk result (ledger.new ≡ with_entries ledger.old (map untold steps.items)) }
+    ensures share { OnOk result (share.new ≡ with_steps share.old steps.items) }
+    ensures err { OnErr result ((ledger.new ≡ ledger.old) × (share.new ≡ share.old)) }
+    ensures memory { IsOkUnless result Fault.OutOfMemory }
+    ensures part { IsPart (world_after (steps_of ledger.new.log)) version.key (Some part.new) }
+    ensures nodes { (node : ℕ) → node ≢ share.old.node →
+        NodeStays ledger.old.log ledger.new.log node }
+    ensures sessions { (session : ℕ) → SessionStays ledger.old.log ledger.new.log session }
+{
+    let node = share.node();
+    let custody = held_after(alloc, part, node, home, row)?;
+    part.places.reserve(1)?;
+    part.add(alloc, version)?;
+    if let Err(fault) = ledger.node_steps(share, steps) {
+        part.remove_last(node);
+        return Err(fault);
+    }
+    custodies::put(&mut part.places, custody);
+    Ok(())
+}
+
+impl<J: Naming> Book<J> {
+    /// The issue of this version and the hold of it alone, both or neither, and the receipt of it.
+    pub fn issue(
+        &mut self,
+        share: &mut NodeShare<J>,
+        home: NodeId,
+        version: &Version,
+    ) -> Result<Receipt<J>, Fault>
+        requires may { MayIssue self.old share.old.node version.now }
+        requires may_hold { IsTrue
+            (may_hold (homes_of J.ring J.n version.now.key) share.old.node home) }
+        ensures log { OnOk result
+            (self.new ≡ with_untold self.old (issue_steps share.old.node home version.now)) }
+        ensures share { OnOk result
+            (share.new ≡ with_steps share.old (issue_steps share.old.node home version.now)) }
+        ensures issued { OnOk result (version_made (world_of self.old) share.old.node
+            version.now.key version.now.past version.now.value ≡ version.now) }
+        ensures receipt { IfOk result (λ r.
+            r ≡ receipt_parts version.now.key version.now.dot share.old.node home) }
+        ensures err { OnErr result ((self.new ≡ self.old) × (share.new ≡ share.old)) }
+        ensures memory { IsOkUnless result Fault.OutOfMemory }
+        ensures belongs { BelongsTo (steps_of self.old.log) share.old }
+        ensures nodes { (node : ℕ) → node ≢ share.old.node →
+            NodeStays self.old.log self.new.log node }
+        ensures sessions { (session : ℕ) → SessionStays self.old.log self.new.log session }
+    {
+        self.ledger.agree(share);
+        let node = share.node();
+        let steps = steps_of_issue(self.alloc, node, home, version)?;
+        let key = version.key().try_clone(self.alloc)?;
+        let row = Row::of(self.alloc, version.try_clone(self.alloc)?)?;
+        let copy = version.try_clone(self.alloc)?;
+        make_part(self.alloc, &mut self.keys, &key)?;
+        match self.keys.get_mut(&key) {
+            Some(part) => {
+                issue_in(
+                    self.alloc,
+                    &mut self.ledger,
+                    part,
+                    share,
+                    home,
+                    copy,
+                    &row,
+                    steps,
+                )?;
+            }
+            None => unreachable!(),
+        }
+        self.versions += 1;
+        let place = Place { holder: node, home };
+        Ok(self.ledger.receipt(key, version.dot(), place))
+    }
+
+    // Whether the version is the issued one of its key and dot.
+    fn is_issued_as(&self, version: &Version) -> bool
+        ensures { IsTrue result ↔ Contains (world_of self.now).versions version.now }
+    {
+        let _alloc = &self.alloc;
+        match self.version(version.key(), version.dot()) {
+            Some(issued) => issued.is_same(version),
+            None => false,
+        }
+    }
+
+    // The least dot of the row's versions that aren't issued as they are.
+    fn first_not_issued(&self, row: &Row) -> Option<Dot>
+        ensures { MatchOption result
+            (AreMadeOf (world_of self.now) row.now.key row.now.versions)
+            (IsLeastNotIssued (world_of self.now).versions row.now.versions) }
+    {
+        let versions = row.versions();
+        for version in versions {
+            if !self.is_issued_as(version) {
+                return Some(version.dot());
+            }
+        }
+        None
+    }
+
+    /// What the node holds for the home becomes its merge with the incoming row; one receipt for
+    /// each incoming version, in the order of the dots.
+    pub fn hold(
+        &mut self,
+        share: &mut NodeShare<J>,
+        home: NodeId,
+        incoming: &Row,
+    ) -> Result<Vec<Receipt<J>>, Fault>
+        requires may_hold { IsTrue
+            (may_hold (homes_of J.ring J.n incoming.now.key) share.old.node home) }
+        ensures log { OnOk result
+            (self.new ≡ with_untold self.old (Hold share.old.node home incoming.now ∷ [])) }
+        ensures share { OnOk result
+            (share.new ≡ with_steps share.old (Hold share.old.node home incoming.now ∷ [])) }
+        ensures receipts { IfOk result (λ receipts.
+            receipts.items ≡ receipts_of incoming.now.versions share.old.node home) }
+        ensures not_issued { (d : DotParts) → IsErrOf result (Fault.NotIssued d)
+            ↔ IsLeastNotIssued (world_of self.old).versions incoming.now.versions d }
+        ensures steps_full { IsErrOf result Fault.StepsFull
+            ↔ (AreMadeOf (world_of self.old) incoming.now.key incoming.now.versions
+            × LacksRoom self.old 1) }
+        ensures only { IfErr result (λ fault.
+            ((d : DotParts) × (fault ≡ Fault.NotIssued d))
+            ⊎ ((fault ≡ Fault.StepsFull) ⊎ (fault ≡ Fault.OutOfMemory))) }
+        ensures err { OnErr result ((self.new ≡ self.old) × (share.new ≡ share.old)) }
+        ensures belongs { BelongsTo (steps_of self.old.log) share.old }
+        ensures nodes { (node : ℕ) → node ≢ share.old.node →
+            NodeStays self.old.log self.new.log node }
+        ensures sessions { (session : ℕ) → SessionStays self.old.log self.new.log session }
+    {
+        self.ledger.agree(share);
+        if let Some(dot) = self.first_not_issued(incoming) {
+            return Err(Fault::NotIssued { dot });
+        }
+        if self.steps_left() < 1 {
+            return Err(Fault::StepsFull);
+        }
+        let holder = share.node();
+        match self.hold_made(share, holder, home, incoming) {
+            Ok(receipts) => Ok(receipts),
+            Err(fault) => Err(fault),
+        }
+    }
+
+    // The same where each version is issued, and a step is left.
+    fn hold_made(
+        &mut self,
+        share: &mut NodeShare<J>,
+        holder: NodeId,
+        home: NodeId,
+        incoming: &Row,
+    ) -> Result<Vec<Receipt<J>>, Fault>
+        requires holder { holder ≡ share.old.node }
+        requires may_hold { IsTrue
+            (may_hold (homes_of J.ring J.n incoming.now.key) share.old.node home) }
+        requires made { AreMadeOf (world_of self.old) incoming.now.key incoming.now.versions }
+        requires room { HasRoom self.old 1 }
+        ensures log { OnOk result
+            (self.new ≡ with_untold self.old (Hold share.old.node home incoming.now ∷ [])) }
+        ensures share { OnOk result
+            (share.new ≡ with_steps share.old (Hold share.old.node home incoming.now ∷ [])) }
+        ensures receipts { IfOk result (λ receipts.
+            receipts.items ≡ receipts_of incoming.now.versions share.old.node home) }
+        ensures memory { IsOkUnless result Fault.OutOfMemory }
+        ensures err { OnErr result ((self.new ≡ self.old) × (share.new ≡ share.old)) }
+        ensures nodes { (node : ℕ) → node ≢ share.old.node →
+            NodeStays self.old.log self.new.log node }
+        ensures sessions { (session : ℕ) → SessionStays self.old.log self.new.log session }
+    {
+        let steps = steps_of_hold(self.alloc, holder, home, incoming)?;
+        let mut keys = keys_of(self.alloc, incoming)?;
+        let mut receipts = Vec::with_capacity(self.alloc, incoming.versions().len())?;
+        make_part(self.alloc, &mut self.keys, incoming.key())?;
+        match self.keys.get_mut(incoming.key()) {
+            Some(part) => {
+                hold_in(
+                    self.alloc,
+                    &mut self.ledger,
+                    part,
+                    share,
+                    home,
+                    incoming,
+                    steps,
+                )?;
+            }
+            None => unreachable!(),
+        }
+        let place = Place { holder, home };
+        give_receipts(&self.ledger, &mut receipts, &mut keys, incoming, &place);
+        Ok(receipts)
+    }
+}
+
+// A copy of the row's key for each of its versions.
+fn keys_of(alloc: Global, row: &Row) -> Result<Vec<Key>, Fault>
+    ensures count { IfOk result (λ keys. length keys.items ≡ length row.now.versions) }
+    ensures same { IfOk result (λ keys. All (λ key. key ≡ row.now.key) keys.items) }
+    ensures memory { IsOkUnless result Fault.OutOfMemory }
+{
+    let versions = row.versions();
+    let mut keys = Vec::with_capacity(alloc, versions.len())?;
+    for _version in versions {
+        keys.push(row.key().try_clone(alloc)?)?;
+    }
+    Ok(keys)
+}
+
+// A receipt for each version of the row, which is held in the ledger's world.
+fn give_receipts<J: Naming>(
+    ledger: &Ledger<J>,
+    receipts: &mut Vec<Receipt<J>>,
+    keys: &mut Vec<Key>,
+    row: &Row,
+    place: &Place,
+)
+    requires none { receipts.old.items ≡ [] }
+    requires room { length row.now.versions ≤ vec_capacity receipts.old }
+    requires count { length keys.old.items ≡ length row.now.versions }
+    requires same { All (λ key. key ≡ row.now.key) keys.old.items }
+    requires held { All (λ v. IsReceipt (steps_of ledger.now.log)
+        (receipt_parts row.now.key v.dot place.now.holder place.now.home)) row.now.versions }
+    ensures { receipts.new.items ≡ receipts_of row.now.versions place.now.holder place.now.home }
+{
+    let versions = row.versions();
+    for version in versions {
+        let Some(key) = keys.pop() else {
+            unreachable!()
+        };
+        receipts.push_reserved(ledger.receipt(key, version.dot(), *place));
+    }
+}

@@ -1,0 +1,24 @@
+//! The custody book: one log of steps, the shares of nodes and sessions, and indexes by key.
+#![tactic(auto)]
+
+mod acks;
+mod audits;
+mod books;
+mod closes;
+mod custodies;
+mod fetches;
+#[cfg(test)]
+mod growths;
+mod holds;
+mod lists;
+mod options;
+mod parts;
+mod plans;
+mod releases;
+#[cfg(test)]
+mod tests;
+
+pub use audits::{AckedAt, Audit};
+pub use books::Book;
+pub use closes::CloseRefused;
+pub use options::{MAX_STEPS, MAX_VERSIONS, Options};

@@ -1,0 +1,44 @@
+ghost use Rattle.std.specs.Prelude.{◌↔◌, true, ◌≡◌};
+
+use dy_dots::MAX_COUNTER;
+
+/// How many versions a book issues at most.
+pub const MAX_VERSIONS: usize = 100_000;
+
+/// How many steps a book makes at most.
+pub const MAX_STEPS: usize = 1_000_000;
+
+/// How many homes a key has, how many answers a get needs, and how many homes a put that names no
+/// number of its own; and the limits of a book.
+#[derive(Clone, Copy, Debug, PartialEq, Eq)]
+pub struct Options {
+    pub n: u8,
+    pub r: u8,
+    pub w: u8,
+    pub counter_limit: u32,
+    pub versions_limit: usize,
+    pub steps_limit: usize,
+}
+
+impl Options {
+    ghost use Rattle.dy_book.specs.Limits.{AreLimits, IsQuorum};
+
+    /// Whether each limit is in its range. Takes no memory.
+    pub fn has_limits(&self) -> bool
+        ensures { (result ≡ true) ↔ AreLimits self.now }
+    {
+        1 <= self.counter_limit
+            && self.counter_limit <= MAX_COUNTER
+            && 1 <= self.versions_limit
+            && self.versions_limit <= MAX_VERSIONS
+            && 1 <= self.steps_limit
+            && self.steps_limit <= MAX_STEPS
+    }
+
+    /// Whether w and r are from 1 to n, and n is no more than these nodes. Takes no memory.
+    pub fn is_quorum(&self, nodes: u8) -> bool
+        ensures { (result ≡ true) ↔ IsQuorum self.now nodes }
+    {
+        1 <= self.w && self.w <= self.n && self.n <= nodes && 1 <= self.r && self.r <= self.n
+    }
+}

@@ -1,0 +1,139 @@
+// How hints are given up.
+ghost use Rattle.std.specs.Prelude.{◌≡◌, ◌≢◌, ◌↔◌, ◌⊎◌, ℕ, length, IfOk, IfErr, OnOk, OnErr};
+ghost use Rattle.std.specs.Prelude.{IsErrOf, IsOkUnless};
+ghost use Rattle.std.specs.List.{All};
+ghost use Rattle.dy_core.specs.Worlds.{World};
+ghost use Rattle.dy_core.specs.Steps.{after_release};
+ghost use Rattle.dy_core.specs.Logs.{world_from};
+ghost use Rattle.dy_shares.specs.Shares.{BelongsTo, NodeStays, SessionStays, steps_of, with_steps};
+ghost use Rattle.dy_book.specs.Books.{AreOfDistinctDots, HasRoom, LacksRoom, MayRelease};
+ghost use Rattle.dy_book.specs.Books.{release_steps, with_untold, world_of};
+ghost use Rattle.dy_book.specs.inside.Indexes.{IsIndex};
+
+use crate::books::Book;
+use crate::custodies;
+use crate::parts::KeyPart;
+use dy_core::Step;
+use dy_dots::{Fault, NodeId};
+use dy_shares::{Naming, NodeShare, Receipt};
+use dy_siblings::Key;
+use std::alloc::Global;
+use std::collections::BTreeMap;
+
+// A release of each receipt's dot.
+fn steps_of_release<J: Naming>(
+    alloc: Global,
+    holder: NodeId,
+    receipts: &[Receipt<J>],
+) -> Result<Vec<Step>, Fault>
+    ensures ok { IfOk result (λ steps. steps.items ≡ release_steps holder receipts.now) }
+    ensures memory { IsOkUnless result Fault.OutOfMemory }
+{
+    let mut steps = Vec::with_capacity(alloc, receipts.len())?;
+    for receipt in receipts {
+        let key = receipt.key().try_clone(alloc)?;
+        steps.push(Step::Release {
+            holder,
+            home: receipt.home(),
+            key,
+            dot: receipt.dot(),
+        })?;
+    }
+    Ok(steps)
+}
+
+// The receipt's dot leaves what the holder holds for its home. Takes no memory.
+fn give_up<J: Naming>(keys: &mut BTreeMap<Key, KeyPart>, holder: NodeId, receipt: &Receipt<J>)
+    ensures { (w : World) → IsIndex w keys.old.entries → IsIndex
+        (after_release w holder receipt.now.home receipt.now.key receipt.now.dot)
+        keys.new.entries }
+{
+    match keys.get_mut(receipt.key()) {
+        Some(part) => custodies::give_up(
+            part.places.as_mut_slice(),
+            holder,
+            receipt.home(),
+            receipt.key(),
+            receipt.dot(),
+        ),
+        None => {}
+    }
+}
+
+// Each receipt's dot leaves what the holder holds for its home. Takes no memory.
+fn give_up_all<J: Naming>(
+    keys: &mut BTreeMap<Key, KeyPart>,
+    holder: NodeId,
+    receipts: &[Receipt<J>],
+)
+    ensures { (w : World) → IsIndex w keys.old.entries →
+        IsIndex (world_from w (release_steps holder receipts.now)) keys.new.entries }
+{
+    for receipt in receipts {
+        give_up(keys, holder, receipt);
+    }
+}
+
+impl<J: Naming> Book<J> {
+    /// Each receipt's dot leaves what the share's node holds for the receipt's home, one release
+    /// each, all or none.
+    pub fn release(
+        &mut self,
+        share: &mut NodeShare<J>,
+        receipts: &[Receipt<J>],
+    ) -> Result<(), Fault>
+        requires each { All (MayRelease (world_of self.old) share.old.node) receipts.now }
+        requires once { AreOfDistinctDots receipts.now }
+        ensures log { OnOk result
+            (self.new ≡ with_untold self.old (release_steps share.old.node receipts.now)) }
+        ensures share { OnOk result
+            (share.new ≡ with_steps share.old (release_steps share.old.node receipts.now)) }
+        ensures steps_full { IsErrOf result Fault.StepsFull
+            ↔ LacksRoom self.old (length receipts.now) }
+        ensures only { IfErr result (λ fault.
+            (fault ≡ Fault.StepsFull) ⊎ (fault ≡ Fault.OutOfMemory)) }
+        ensures err { OnErr result ((self.new ≡ self.old) × (share.new ≡ share.old)) }
+        ensures belongs { BelongsTo (steps_of self.old.log) share.old }
+        ensures nodes { (node : ℕ) → node ≢ share.old.node →
+            NodeStays self.old.log self.new.log node }
+        ensures sessions { (session : ℕ) → SessionStays self.old.log self.new.log session }
+    {
+        self.ledger.agree(share);
+        if self.steps_left() < receipts.len() {
+            return Err(Fault::StepsFull);
+        }
+        let holder = share.node();
+        match self.release_within(share, holder, receipts) {
+            Ok(()) => Ok(()),
+            Err(fault) => Err(fault),
+        }
+    }
+
+    // The same where so many steps are left.
+    fn release_within(
+        &mut self,
+        share: &mut NodeShare<J>,
+        holder: NodeId,
+        receipts: &[Receipt<J>],
+    ) -> Result<(), Fault>
+        requires holder { holder ≡ share.old.node }
+        requires each { All (MayRelease (world_of self.old) share.old.node) receipts.now }
+        requires once { AreOfDistinctDots receipts.now }
+        requires room { HasRoom self.old (length receipts.now) }
+        ensures log { OnOk result
+            (self.new ≡ with_untold self.old (release_steps share.old.node receipts.now)) }
+        ensures share { OnOk result
+            (share.new ≡ with_steps share.old (release_steps share.old.node receipts.now)) }
+        ensures memory { IsOkUnless result Fault.OutOfMemory }
+        ensures err { OnErr result ((self.new ≡ self.old) × (share.new ≡ share.old)) }
+        ensures nodes { (node : ℕ) → node ≢ share.old.node →
+            NodeStays self.old.log self.new.log node }
+        ensures sessions { (session : ℕ) → SessionStays self.old.log self.new.log session }
+    {
+        let steps = steps_of_release(self.alloc, holder, receipts)?;
+        self.ledger.learn_receipts(receipts);
+        self.ledger.node_steps(share, steps)?;
+        give_up_all(&mut self.keys, holder, receipts);
+        Ok(())
+    }
+}
