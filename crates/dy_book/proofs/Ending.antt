@@ -1,5 +1,6 @@
 -- What an audit's lists say of the world.
-use Rattle.std.proofs.Common.{◌≡◌, ℕ, ◌↔◌, List, [], ◌∷◌, ◌++◌, map, fold, Option, refl, sym, ap, ◌∙◌, subst, ⊎_elim}
+use Rattle.std.proofs.Common.{◌≡◌, ℕ, ◌↔◌, List, [], ◌∷◌, ◌++◌, map, fold, Option, refl, sym, ap}
+use Rattle.std.proofs.Common.{◌∙◌, subst, ⊎_elim}
 use Rattle.std.specs.List.{All, Contains}
 use Rattle.std.proofs.lemmas.Bool.{and_parts, and_from}
 use Rattle.dy_siblings.specs.Versions.{in_history}
@@ -20,10 +21,12 @@ use Rattle.dy_core.specs.declared.steps.Step.TheVariants.{Issue, Hold, Release, 
 use Rattle.dy_siblings.proofs.Members.{not_in_nil, in_head, in_tail, in_cases, any_gives}
 use Rattle.dy_siblings.proofs.SameKeys.{same_key_is, same_key_self}
 use Rattle.dy_core.proofs.Gathering.{gathered_from, gathered_has, gathered_sorted}
-use Rattle.dy_core.proofs.Held.{Spot, at_from, place_cmp_total, places_tie, row_in-of, row_in-from, acks_tie}
+use Rattle.dy_core.proofs.Held.{Spot, at_from, place_cmp_total, places_tie, row_in-of, row_in-from}
+use Rattle.dy_core.proofs.Held.{acks_tie}
 use Rattle.dy_core.proofs.Listed.{covers_same}
 use Rattle.dy_core.proofs.Keeping.{all_from}
-use Rattle.std.proofs.lemmas.List.Elements.{All-contains, Contains-append_cases, Contains-append_left, Contains-append_right}
+use Rattle.std.proofs.lemmas.List.Elements.{All-contains, Contains-append_cases}
+use Rattle.std.proofs.lemmas.List.Elements.{Contains-append_left, Contains-append_right}
 use Rattle.dy_book.specs.inside.Lists.{IsInOrder, ack_added}
 use Rattle.dy_shares.specs.Shares.{HasAll, IsMissing, NodePart, SessionPart}
 use Rattle.dy_dots.specs.declared.faults.Fault.{Fault}
@@ -32,40 +35,49 @@ use Rattle.dy_book.specs.declared.parts.KeyPart.{KeyPart}
 use Rattle.dy_book.specs.declared.audits.AckedAt.{AckedAt}
 
 -- an ack more is listed at the end
-ack_more : (xs ys : List Acked) → ((a : Acked) → Contains ys a ↔ Contains xs a) → (x a : Acked) → Contains (ys ++ x ∷ []) a ↔ Contains (x ∷ xs) a
+ack_more : (xs ys : List Acked) → ((a : Acked) → Contains ys a ↔ Contains xs a) →
+    (x a : Acked) → Contains (ys ++ x ∷ []) a ↔ Contains (x ∷ xs) a
 ack_more xs ys same x a = (
   (λ h.
       ⊎_elim
       (λ older. in_tail x a xs ((same a).0 older))
-      (λ last. ⊎_elim (λ is. subst (Contains (x ∷ xs)) (sym is) (in_head x xs)) (λ none. absurd (not_in_nil a none)) (in_cases x a [] last))
+      (λ last. ⊎_elim (λ is. subst (Contains (x ∷ xs)) (sym is) (in_head x xs))
+      (λ none. absurd (not_in_nil a none)) (in_cases x a [] last))
       (Contains-append_cases ys (x ∷ []) a h)),
   (λ h.
       ⊎_elim
-      (λ is. Contains-append_right ys (x ∷ []) a (subst (Contains (x ∷ [])) (sym is) (in_head x [])))
+      (λ is. Contains-append_right ys (x ∷ []) a
+      (subst (Contains (x ∷ [])) (sym is) (in_head x [])))
       (λ older. Contains-append_left ys (x ∷ []) a ((same a).1 older))
       (in_cases x a xs h)),
 )
 
-step_listed : (w : World) (ys : List Acked) → ((a : Acked) → Contains ys a ↔ Contains w.acks a) → (s : Step) (a : Acked) →
+step_listed : (w : World) (ys : List Acked) → ((a : Acked) → Contains ys a ↔ Contains w.acks a) →
+    (s : Step) (a : Acked) →
     Contains (ack_added ys s) a ↔ Contains (world_after_step w s).acks a
 step_listed w ys same (Issue node key context value) a = same a
 step_listed w ys same (Hold holder home row) a = same a
 step_listed w ys same (Release holder home key d) a = same a
 step_listed w ys same (Fetch holder home key) a = same a
-step_listed w ys same (Ack key d n) a = ack_more w.acks ys same (record { key = key; dot = d; w = n }) a
+step_listed w ys same (Ack key d n) a =
+    ack_more w.acks ys same (record { key = key; dot = d; w = n }) a
 
-steps_listed : (w : World) (ys : List Acked) → ((a : Acked) → Contains ys a ↔ Contains w.acks a) → (ss : List Step) (a : Acked) →
+steps_listed : (w : World) (ys : List Acked) → ((a : Acked) → Contains ys a ↔ Contains w.acks a) →
+    (ss : List Step) (a : Acked) →
     Contains (fold ack_added ys ss) a ↔ Contains (world_from w ss).acks a
 steps_listed w ys same [] a = same a
-steps_listed w ys same (s ∷ ss) a = steps_listed (world_after_step w s) (ack_added ys s) (step_listed w ys same s) ss a
+steps_listed w ys same (s ∷ ss) a =
+    steps_listed (world_after_step w s) (ack_added ys s) (step_listed w ys same s) ss a
 
 -- the acks of the steps, in order
-pub acks_listed : (ss : List Step) (acks : List Acked) → IsInOrder ack_cmp (fold ack_added [] ss) acks → ListsAcks (world_after ss) acks
+pub acks_listed : (ss : List Step) (acks : List Acked) →
+    IsInOrder ack_cmp (fold ack_added [] ss) acks → ListsAcks (world_after ss) acks
 acks_listed ss acks order =
     record {
       same = λ a. (
         (λ h. (told a).0 (order.is_item a h)),
-        (λ h. let t = order.tied a ((told a).1 h) in subst (Contains acks) (sym (acks_tie a t.0 t.2)) t.1),
+        (λ h. let t = order.tied a ((told a).1 h) in
+            subst (Contains acks) (sym (acks_tie a t.0 t.2)) t.1),
       );
       in_order = order.in_order;
     }
@@ -85,16 +97,19 @@ covers_listed w key o part d =
             let parts = and_parts (same_key h.row.key key) (covers h.row.versions d) s.passes in
             let key_is = same_key_is h.row.key key parts.0 in
             let row_is = row_in-of h.holder h.home key held part.in_order h s.in_list
-            (at_from h.holder h.home key h (record { holder_is = refl; home_is = refl; key_is = key_is })) in
+            (at_from h.holder h.home key h
+            (record { holder_is = refl; home_is = refl; key_is = key_is })) in
             ap (λ q. covers_at w key d q.holder q.home) (sym s.gives)
             ∙ sym (covers_is h.holder h.home)
             ∙ ap (λ vs. covers vs d) row_is
             ∙ parts.1),
         (λ covered.
-            let found = any_gives (λ v. in_history v d) (row_in held p.holder p.home key) (covers_is p.holder p.home ∙ covered) in
+            let found = any_gives (λ v. in_history v d) (row_in held p.holder p.home key)
+            (covers_is p.holder p.home ∙ covered) in
             let f = row_in-from p.holder p.home key held found.item found.in_list in
             let h = f.0 in
-            let row_is = row_in-of p.holder p.home key held part.in_order h f.1 (at_from p.holder p.home key h f.2) in
+            let row_is = row_in-of p.holder p.home key held part.in_order h f.1
+            (at_from p.holder p.home key h f.2) in
             subst (Contains (gathered place_cmp (is_covering key d) place_of held))
             (place_at h f.2)
             (gathered_has place_cmp (is_covering key d) place_of places_tie held h f.1
@@ -108,22 +123,28 @@ covers_listed w key o part d =
     held : List Holding
     held = places_in o
 
-    covers_is : (holder home : ℕ) → covers (row_in held holder home key) d ≡ covers_at w key d holder home
-    covers_is holder home = covers_same (row_in held holder home key) (row_at w holder home key) (part.rows_are holder home) d
+    covers_is : (holder home : ℕ) →
+        covers (row_in held holder home key) d ≡ covers_at w key d holder home
+    covers_is holder home =
+        covers_same (row_in held holder home key) (row_at w holder home key)
+        (part.rows_are holder home) d
 
     place_at : {p : Place} (h : Holding) → Spot p.holder p.home key h → place_of h ≡ p
     place_at h spot = λ i. record { home = spot.home_is i; holder = spot.holder_is i }
 
-pub all_end : {X : Type 0} (P : X → Type 0) (xs : List X) (x : X) → All P xs → P x → All P (xs ++ x ∷ [])
+pub all_end : {X : Type 0} (P : X → Type 0) (xs : List X) (x : X) → All P xs → P x →
+    All P (xs ++ x ∷ [])
 all_end P xs x all this =
     all_from P (xs ++ x ∷ []) (λ y there.
     ⊎_elim
     (λ l. All-contains P xs y all l)
-    (λ r. ⊎_elim (λ same. subst P (sym same) this) (λ none. absurd (not_in_nil y none)) (in_cases x y [] r))
+    (λ r. ⊎_elim (λ same. subst P (sym same) this) (λ none. absurd (not_in_nil y none))
+    (in_cases x y [] r))
     (Contains-append_cases xs (x ∷ []) y there))
 
 -- nothing is missing where all are there
-pub not_both : (nodes sessions : ℕ) (parts : List NodePart) (tellings : List SessionPart) → IsMissing nodes sessions parts tellings →
+pub not_both : (nodes sessions : ℕ) (parts : List NodePart) (tellings : List SessionPart) →
+    IsMissing nodes sessions parts tellings →
     HasAll nodes sessions parts tellings → ⊥
 not_both nodes sessions parts tellings missing all =
     ⊎_elim (λ a. a.2 (all.0 a.0 a.1)) (λ a. a.2 (all.1 a.0 a.1)) missing
@@ -132,6 +153,8 @@ pub faults_apart : Fault.SharesMissing ≡ Fault.OutOfMemory → ⊥
 faults_apart e = cc
 
 -- an ack more has its places
-pub acks_go : (xs : List AckedAt) (x : AckedAt) (rest : List Acked) → map (λ (y : AckedAt). y.ack) (xs ++ x ∷ []) ++ rest ≡ map (λ (y : AckedAt). y.ack) xs ++ x.ack ∷ rest
+pub acks_go : (xs : List AckedAt) (x : AckedAt) (rest : List Acked) →
+    map (λ (y : AckedAt). y.ack) (xs ++ x ∷ []) ++ rest ≡ map
+    (λ (y : AckedAt). y.ack) xs ++ x.ack ∷ rest
 acks_go [] x rest = refl
 acks_go (y ∷ xs) x rest = ap (λ zs. y.ack ∷ zs) (acks_go xs x rest)

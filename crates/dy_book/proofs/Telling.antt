@@ -18,7 +18,8 @@ use Rattle.dy_core.proofs.OverLogs.{log_sound}
 use Rattle.dy_core.proofs.Standing.{stands_from, stands_in}
 use Rattle.dy_book.specs.Audits.{TellsHeld}
 
-module _ (layout : Layout) (steps : List Step) (legal : IsLegal layout steps) (held : List Holding) (lists : ListsHoldings (world_after steps) held)
+module _ (layout : Layout) (steps : List Step) (legal : IsLegal layout steps) (held : List Holding)
+    (lists : ListsHoldings (world_after steps) held)
     (holder home : ℕ) (key : List ℕ) (d : Dot) where
   abbrev w : World
   w = world_after steps
@@ -26,20 +27,29 @@ module _ (layout : Layout) (steps : List Step) (legal : IsLegal layout steps) (h
   told_held : TellsHeld held holder home key d → IsTrue (w.holdings holder home key d)
   told_held t =
       let h = t.holding in
-      let same = All-contains (λ h. IsSameRow h.row.versions (row_at w h.holder h.home h.row.key)) held h lists.each t.in_list in
+      let same = All-contains (λ h. IsSameRow h.row.versions (row_at w h.holder h.home h.row.key))
+      held h lists.each t.in_list in
       let s = stands_from w h.holder h.home h.row.key t.version ((same t.version).0 t.in_row) in
-      (λ i. w.holdings (sym t.holder_is i) (sym t.home_is i) (sym t.key_is i) (sym t.dot_is i)) ∙ s.is_held
+      (λ i. w.holdings (sym t.holder_is i) (sym t.home_is i) (sym t.key_is i) (sym t.dot_is i))
+      ∙ s.is_held
 
   held_told : IsTrue (w.holdings holder home key d) → TellsHeld held holder home key d
   held_told is =
-      let f = any_gives (λ v. same_key v.key key && same_dot v.dot d) w.versions ((log_sound layout steps legal).held_sound holder home key d is).1 in
+      let f = any_gives (λ v. same_key v.key key && same_dot v.dot d) w.versions
+      ((log_sound layout steps legal).held_sound holder home key d is).1 in
       let v = f.item in
       let parts = and_parts (same_key v.key key) (same_dot v.dot d) f.passes in
       let dot_is = same_dot_is v.dot d parts.1 in
-      let there = stands_in w holder home key v (record { made = f.in_list; key_is = same_key_is v.key key parts.0; is_held = ap (w.holdings holder home key) dot_is ∙ is }) in
+      let there = stands_in w holder home key v
+      (record {
+        made = f.in_list;
+        key_is = same_key_is v.key key parts.0;
+        is_held = ap (w.holdings holder home key) dot_is ∙ is;
+      }) in
       let e = lists.every holder home key v there in
       let h = e.0 in
-      let same = All-contains (λ h. IsSameRow h.row.versions (row_at w h.holder h.home h.row.key)) held h lists.each e.1 in
+      let same = All-contains (λ h. IsSameRow h.row.versions (row_at w h.holder h.home h.row.key))
+      held h lists.each e.1 in
       record {
         holding = h;
         in_list = e.1;
@@ -47,7 +57,8 @@ module _ (layout : Layout) (steps : List Step) (legal : IsLegal layout steps) (h
         home_is = e.3;
         key_is = e.4;
         version = v;
-        in_row = (same v).1 (subst (λ vs. Contains vs v) (λ i. row_at w (sym e.2 i) (sym e.3 i) (sym e.4 i)) there);
+        in_row = (same v).1 (subst (λ vs. Contains vs v)
+            (λ i. row_at w (sym e.2 i) (sym e.3 i) (sym e.4 i)) there);
         dot_is = dot_is;
       }
 

@@ -12,4 +12,5 @@ put-requires-clause-total c = place_cmp_total
 pub put-requires-clause-in_order : goal.put-requires-clause-in_order
 put-requires-clause-in_order c =
     subst (IsStrictlySortedBy place_cmp) (sym c.loop-custody.invariant)
-    (gathered_sorted place_cmp (is_covering c.args.key.now c.args.dot) place_of place_cmp_total (take c.loop-custody.custody-index c.args.custodies.now))
+    (gathered_sorted place_cmp (is_covering c.args.key.now c.args.dot) place_of place_cmp_total
+    (take c.loop-custody.custody-index c.args.custodies.now))

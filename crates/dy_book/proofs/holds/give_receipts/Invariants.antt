@@ -5,7 +5,8 @@ use Rattle.dy_book.proofs.holds.give_receipts.Given as goal
 
 abbrev pub invariant-loop-version : goal.invariant-loop-version
 invariant-loop-version g l = record {
-  given : l.receipts.items ≡ receipts_of (take l.version-index l.versions) l.place.holder l.place.home;
+  given : l.receipts.items ≡ receipts_of
+      (take l.version-index l.versions) l.place.holder l.place.home;
   left : length l.keys.items + l.version-index ≡ length l.versions;
   same : All (λ key. key ≡ l.row.key) l.keys.items;
   room : vec_capacity l.receipts ≡ vec_capacity l.initial.receipts;

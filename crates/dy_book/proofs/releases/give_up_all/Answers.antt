@@ -12,11 +12,15 @@ loop-receipt-preserved g c = λ w index.
     let rs = c.args.receipts.now in
     let i = c.loop-receipt.receipt-index in
     let r = c.receipt-item.result in
-    let more = steps_more c.args.holder rs i r (sym c.receipt-item.is) (take_more rs i r c.loop-receipt-test.true) in
+    let more = steps_more c.args.holder rs i r (sym c.receipt-item.is)
+    (take_more rs i r c.loop-receipt-test.true) in
     subst (λ x. IsIndex x c.give_up.new.keys.entries) (sym (world_more c.args.holder rs i r more w))
-    (c.give_up.ensures (world_from w (release_steps c.args.holder (take i rs))) (c.loop-receipt.invariant w index))
+    (c.give_up.ensures (world_from w (release_steps c.args.holder (take i rs)))
+    (c.loop-receipt.invariant w index))
 
 pub returns : goal.returns
 returns g c = λ w index.
-    subst (λ rs. IsIndex (world_from w (release_steps c.args.holder rs)) c.loop-receipt.keys.entries)
-    (take_all c.loop-receipt.receipt-index c.args.receipts.now c.loop-receipt-test.false) (c.loop-receipt.invariant w index)
+    subst (λ rs. IsIndex
+    (world_from w (release_steps c.args.holder rs)) c.loop-receipt.keys.entries)
+    (take_all c.loop-receipt.receipt-index c.args.receipts.now c.loop-receipt-test.false)
+    (c.loop-receipt.invariant w index)

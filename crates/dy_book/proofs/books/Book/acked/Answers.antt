@@ -16,8 +16,10 @@ returns-clause-ok g c =
     record {
       acks =
           subst (ListsAcks (world_of c.args.self.now)) (sym c.in_ok-acked.ensures.acks)
-          (subst (λ w. ListsAcks w c.in_ok-acks.acks.items) (ap world_after c.steps.ensures.value ∙ ap world_of c.self.view_is)
+          (subst (λ w. ListsAcks w c.in_ok-acks.acks.items)
+          (ap world_after c.steps.ensures.value ∙ ap world_of c.self.view_is)
           (acks_listed c.steps.result.now c.in_ok-acks.acks.items
-          (subst (λ xs. IsInOrder ack_cmp xs c.in_ok-acks.acks.items) c.in_ok-told.ensures.ok c.in_ok-acks.ensures.ok)));
+          (subst (λ xs. IsInOrder ack_cmp xs c.in_ok-acks.acks.items) c.in_ok-told.ensures.ok
+          c.in_ok-acks.ensures.ok)));
       places = c.in_ok-acked.ensures.places;
     }

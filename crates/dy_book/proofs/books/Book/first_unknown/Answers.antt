@@ -10,17 +10,23 @@ use Rattle.dy_book.proofs.books.Book.first_unknown.Goals as goal
 pub returns-then-run-last : goal.returns-then-run-last
 returns-then-run-last g c =
     let layout = layout_of g.J.Naming.ring g.J.Naming.n in
-    let legal = subst (λ b. IsLegal layout (steps_of b.log)) c.self.view_is c.self.invariant.legal in
-    all_issued layout (steps_of c.args.self.now.log) legal c.args.key.now c.args.run.now c.requires.low
+    let legal = subst (λ b. IsLegal layout (steps_of b.log)) c.self.view_is
+    c.self.invariant.legal in
+    all_issued layout (steps_of c.args.self.now.log) legal c.args.key.now c.args.run.now
+    c.requires.low
     (subst (λ n. c.args.run.now.last ≤ n) c.last-last.ensures c.if-run-last.true)
 
 -- the first counter past the node's, or of the run
 pub returns : goal.returns
 returns g c =
     let layout = layout_of g.J.Naming.ring g.J.Naming.n in
-    let legal = subst (λ b. IsLegal layout (steps_of b.log)) c.self.view_is c.self.invariant.legal in
-    first_not_issued layout (steps_of c.args.self.now.log) legal c.args.key.now c.args.run.now c.requires.low
+    let legal = subst (λ b. IsLegal layout (steps_of b.log)) c.self.view_is
+    c.self.invariant.legal in
+    first_not_issued layout (steps_of c.args.self.now.log) legal c.args.key.now c.args.run.now
+    c.requires.low
     c.last-last.result c.last-last.ensures c.unwrap-dot.result
-    (subst (λ r. IfSome r (λ (d : Dot). d ≡ record { node = c.args.run.now.node; counter = c.max-counter.result })) c.unwrap-dot.ensures c.new.ensures.value
+    (subst (λ r. IfSome r
+    (λ (d : Dot). d ≡ record { node = c.args.run.now.node; counter = c.max-counter.result }))
+    c.unwrap-dot.ensures c.new.ensures.value
     ∙ (λ i. record { node = c.args.run.now.node; counter = c.max-counter.ensures i }))
     (subst (λ n. n ≤ c.args.run.now.last) c.max-counter.ensures c.if-counter-run.false)

@@ -15,8 +15,11 @@ ordered-requires g c = holding_cmp_total
 pub returns-clause-ok : goal.returns-clause-ok
 returns-clause-ok g c =
     let keys = c.self.inside.keys in
-    let index = subst (λ b. IsIndex (world_of b) keys.entries) c.self.view_is c.self.invariant.index in
+    let index = subst (λ b. IsIndex (world_of b) keys.entries) c.self.view_is
+    c.self.invariant.index in
     holdings_listed (world_of c.args.self.now) keys.entries index c.in_ok-listed.ensures.found
-    (λ key p is. (btree_map_get_iff nat_list_cmp_total (λ x y e. keys_tie x y e) keys c.in_ok-listed.ensures.ordered key p).0 is)
+    (λ key p is. (btree_map_get_iff nat_list_cmp_total
+    (λ x y e. keys_tie x y e) keys c.in_ok-listed.ensures.ordered key p).0 is)
     c.in_ok-held.held.items
-    (subst (λ xs. IsInOrder holding_cmp xs c.in_ok-held.held.items) c.in_ok-listed.ensures.ok c.in_ok-held.ensures.ok)
+    (subst (λ xs. IsInOrder holding_cmp xs c.in_ok-held.held.items) c.in_ok-listed.ensures.ok
+    c.in_ok-held.ensures.ok)

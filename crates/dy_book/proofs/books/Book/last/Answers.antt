@@ -11,14 +11,18 @@ use Rattle.dy_book.proofs.books.Book.last.Goals as goal
 pub returns-in-Some : goal.returns-in-Some
 returns-in-Some g c =
     let layout = layout_of g.J.Naming.ring g.J.Naming.n in
-    let legal = subst (λ b. IsLegal layout (steps_of b.log)) c.self.view_is c.self.invariant.legal in
+    let legal = subst (λ b. IsLegal layout (steps_of b.log)) c.self.view_is
+    c.self.invariant.legal in
     c.count.ensures
     ∙ count_is layout (steps_of c.args.self.now.log) legal c.args.key.now (Some c.in-Some.part.now)
-    (subst (IsPart (world_of c.args.self.now) c.args.key.now) (ap option_copied c.in-Some.is) c.part.ensures) c.args.node
+    (subst (IsPart (world_of c.args.self.now) c.args.key.now)
+    (ap option_copied c.in-Some.is) c.part.ensures) c.args.node
 
 pub returns-in-None : goal.returns-in-None
 returns-in-None g c =
     let layout = layout_of g.J.Naming.ring g.J.Naming.n in
-    let legal = subst (λ b. IsLegal layout (steps_of b.log)) c.self.view_is c.self.invariant.legal in
+    let legal = subst (λ b. IsLegal layout (steps_of b.log)) c.self.view_is
+    c.self.invariant.legal in
     count_is layout (steps_of c.args.self.now.log) legal c.args.key.now None
-    (subst (IsPart (world_of c.args.self.now) c.args.key.now) (ap option_copied c.in-None.is) c.part.ensures) c.args.node
+    (subst (IsPart (world_of c.args.self.now) c.args.key.now)
+    (ap option_copied c.in-None.is) c.part.ensures) c.args.node

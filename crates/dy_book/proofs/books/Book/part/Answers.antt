@@ -7,4 +7,6 @@ use Rattle.dy_book.proofs.books.Book.part.Goals as goal
 pub returns : goal.returns
 returns g c =
     subst (IsPart (world_of c.args.self.now) c.args.key.now) (sym c.get.ensures.value)
-    (subst (λ b. IsPart (world_of b) c.args.key.now (part_at c.self.inside.keys.entries c.args.key.now)) c.self.view_is (c.self.invariant.index c.args.key.now))
+    (subst (λ b. IsPart (world_of b) c.args.key.now
+    (part_at c.self.inside.keys.entries c.args.key.now)) c.self.view_is
+    (c.self.invariant.index c.args.key.now))

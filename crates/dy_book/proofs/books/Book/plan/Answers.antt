@@ -13,21 +13,45 @@ use Rattle.dy_book.proofs.books.Book.plan.Goals as goal
 pub new-requires-2 : goal.new-requires-2
 new-requires-2 g c =
     let layout = layout_of g.J.Naming.ring g.J.Naming.n in
-    let legal = subst (λ b. IsLegal layout (steps_of b.log)) c.self.view_is c.self.invariant.legal in
+    let legal = subst (λ b. IsLegal layout (steps_of b.log)) c.self.view_is
+    c.self.invariant.legal in
     let w = world_of c.args.self.now in
-    let dot_is = subst (λ r. IfSome r (λ (d : Dot). d ≡ record { node = c.node-node.result; counter = c.last.result + 1 })) c.unwrap-dot.ensures c.new.ensures.value
-    ∙ (λ i. record { node = c.node-node.ensures.value i; counter = (c.last.ensures ∙ (λ j. w.counters (c.node-node.ensures.value j) c.args.key.now)) i + 1 }) in
+    let dot_is = subst (λ r. IfSome r
+    (λ (d : Dot). d ≡ record { node = c.node-node.result; counter = c.last.result + 1 }))
+    c.unwrap-dot.ensures c.new.ensures.value
+    ∙ (λ i. record {
+      node = c.node-node.ensures.value i;
+      counter =
+          (c.last.ensures ∙ (λ j. w.counters (c.node-node.ensures.value j) c.args.key.now)) i + 1;
+    })
+    in
     ap (λ s. set.contains s c.unwrap-dot.result) c.in-Ok.ensures.ok
-    ∙ past_lacks_next layout w (log_sound layout (steps_of c.args.self.now.log) legal) c.args.share.now.node c.args.key.now c.args.context.now c.unwrap-dot.result dot_is
+    ∙ past_lacks_next layout w (log_sound layout (steps_of c.args.self.now.log) legal)
+    c.args.share.now.node c.args.key.now c.args.context.now c.unwrap-dot.result dot_is
 
 pub returns-in-Ok-new-clause-may : goal.returns-in-Ok-new-clause-may
 returns-in-Ok-new-clause-may g c =
     let w = world_of c.args.self.now in
-    let dot_is = subst (λ r. IfSome r (λ (d : Dot). d ≡ record { node = c.node-node.result; counter = c.last.result + 1 })) c.unwrap-dot.ensures c.new.ensures.value
-    ∙ (λ i. record { node = c.node-node.ensures.value i; counter = (c.last.ensures ∙ (λ j. w.counters (c.node-node.ensures.value j) c.args.key.now)) i + 1 }) in
-    let is : c.in-Ok-new.version ≡ version_made w c.args.share.now.node c.args.key.now c.args.context.now c.args.value =
-    c.in-Ok-new.ensures.value ∙ (λ i. record { key = c.in-Ok-try_clone.ensures.value i; dot = dot_is i; past = c.in-Ok.ensures.ok i; value = c.args.value }) in
-    let left = subst (λ n. n < c.self.inside.options.versions_limit) c.self.invariant.versions_are c.if-self.false in
+    let dot_is = subst (λ r. IfSome r
+    (λ (d : Dot). d ≡ record { node = c.node-node.result; counter = c.last.result + 1 }))
+    c.unwrap-dot.ensures c.new.ensures.value
+    ∙ (λ i. record {
+      node = c.node-node.ensures.value i;
+      counter =
+          (c.last.ensures ∙ (λ j. w.counters (c.node-node.ensures.value j) c.args.key.now)) i + 1;
+    })
+    in
+    let is : c.in-Ok-new.version ≡ version_made w c.args.share.now.node c.args.key.now
+    c.args.context.now c.args.value =
+    c.in-Ok-new.ensures.value
+    ∙ (λ i. record {
+      key = c.in-Ok-try_clone.ensures.value i;
+      dot = dot_is i;
+      past = c.in-Ok.ensures.ok i;
+      value = c.args.value;
+    }) in
+    let left = subst (λ n. n < c.self.inside.options.versions_limit) c.self.invariant.versions_are
+    c.if-self.false in
     subst (MayIssue c.args.self.now c.args.share.now.node) (sym is)
     (record {
       next = record { context = c.args.context.now; known = c.in_default.ensures; is_made = refl };

@@ -11,12 +11,16 @@ pub returns-in_ok-row-in-Some-clause-row : goal.returns-in_ok-row-in-Some-clause
 returns-in_ok-row-in-Some-clause-row g c =
     let w = world_of c.args.self.now in
     let part = subst (IsPart w c.args.key.now) (ap option_copied c.in-Some.is) c.part.ensures in
-    subst (λ (s : Siblings). IsSameRow s.versions (row_at w c.args.holder c.args.home c.args.key.now)) (sym c.in_ok-row-in-Some.ensures.ok)
-    (subst (λ hs. IsSameRow (row_in hs c.args.holder c.args.home c.args.key.now) (row_at w c.args.holder c.args.home c.args.key.now)) (sym c.as_slice.ensures.value)
+    subst (λ (s : Siblings). IsSameRow s.versions
+    (row_at w c.args.holder c.args.home c.args.key.now)) (sym c.in_ok-row-in-Some.ensures.ok)
+    (subst (λ hs. IsSameRow (row_in hs c.args.holder c.args.home c.args.key.now)
+    (row_at w c.args.holder c.args.home c.args.key.now)) (sym c.as_slice.ensures.value)
     (part.rows_are c.args.holder c.args.home))
 
 pub returns-in_ok-key-in-None-clause-row : goal.returns-in_ok-key-in-None-clause-row
 returns-in_ok-key-in-None-clause-row g c =
     let w = world_of c.args.self.now in
     let part = subst (IsPart w c.args.key.now) (ap option_copied c.in-None.is) c.part.ensures in
-    subst (λ (s : Siblings). IsSameRow s.versions (row_at w c.args.holder c.args.home c.args.key.now)) (sym c.new.ensures) (part.rows_are c.args.holder c.args.home)
+    subst (λ (s : Siblings). IsSameRow s.versions
+    (row_at w c.args.holder c.args.home c.args.key.now)) (sym c.new.ensures)
+    (part.rows_are c.args.holder c.args.home)

@@ -11,15 +11,19 @@ use Rattle.dy_book.proofs.books.Book.version.Goals as goal
 pub returns-in-Some : goal.returns-in-Some
 returns-in-Some g c =
     let layout = layout_of g.J.Naming.ring g.J.Naming.n in
-    let legal = subst (λ b. IsLegal layout (steps_of b.log)) c.self.view_is c.self.invariant.legal in
+    let legal = subst (λ b. IsLegal layout (steps_of b.log)) c.self.view_is
+    c.self.invariant.legal in
     found_is layout (steps_of c.args.self.now.log) legal c.args.key.now (Some c.in-Some.part.now)
-    (subst (IsPart (world_of c.args.self.now) c.args.key.now) (ap option_copied c.in-Some.is) c.part.ensures)
+    (subst (IsPart (world_of c.args.self.now) c.args.key.now)
+    (ap option_copied c.in-Some.is) c.part.ensures)
     c.args.dot c.counter-counter.ensures.valid.1 c.version.result c.version.ensures
 
 pub returns-in-None : goal.returns-in-None
 returns-in-None g c =
     let layout = layout_of g.J.Naming.ring g.J.Naming.n in
-    let legal = subst (λ b. IsLegal layout (steps_of b.log)) c.self.view_is c.self.invariant.legal in
+    let legal = subst (λ b. IsLegal layout (steps_of b.log)) c.self.view_is
+    c.self.invariant.legal in
     found_is layout (steps_of c.args.self.now.log) legal c.args.key.now None
-    (subst (IsPart (world_of c.args.self.now) c.args.key.now) (ap option_copied c.in-None.is) c.part.ensures)
+    (subst (IsPart (world_of c.args.self.now) c.args.key.now)
+    (ap option_copied c.in-None.is) c.part.ensures)
     c.args.dot c.counter-counter.ensures.valid.1 None refl

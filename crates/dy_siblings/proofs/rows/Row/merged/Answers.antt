@@ -1,3 +1,5 @@
+-- Both slices are the versions of their rows, of one key: so the merge of the lists is that of the
+-- rows.
 use Rattle.std.proofs.Common.{◌≡◌, ◌++◌, ap, ◌∙◌, sym, subst}
 use Rattle.dy_siblings.specs.inside.Merging.{IsMerge}
 use Rattle.dy_siblings.specs.Siblings.{AreOneByDot, IsSameRow, IsSiblingSet, merge}
