@@ -99,7 +99,7 @@ pub fn acknowledge<J: Naming>(
         return Err(Fault::Down);
     }
     let receipts = alone(alloc, receipt)?;
-    book.ack(session, 1, receipts)
+    book.ack(session, 1, receipts.as_slice())
 }
 
 // The two answers, where they are of two homes, else none.

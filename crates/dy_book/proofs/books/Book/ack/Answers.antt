@@ -1,7 +1,6 @@
 -- The receipts are of one key and dot, and hold as the log stands: so they make a cover, and the
--- ack is
--- allowed; the key and the dot are those of the first of them.
-use Rattle.std.proofs.Common.{◌≡◌, ◌++◌, ◌∷◌, [], ◌+◌, ◌≤◌, List, Some, slice_get, length, sym, ap}
+-- ack is allowed; the key and the dot are those of the first of them.
+use Rattle.std.proofs.Common.{◌≡◌, ◌++◌, ◌∷◌, [], ◌+◌, ◌≤◌, length, sym, ap}
 use Rattle.std.proofs.Common.{◌∙◌, subst, arith}
 use Rattle.std.specs.List.{All}
 use Rattle.std.specs.Option.{option_copied}
@@ -22,21 +21,18 @@ pub ack_step-requires-clause-allowed : goal.ack_step-requires-clause-allowed
 ack_step-requires-clause-allowed g c =
     let layout = layout_of g.J.Naming.ring g.J.Naming.n in
     let log = c.self.inside.ledger.log in
-    let rs = c.args.receipts.items in
+    let rs = c.args.receipts.now in
     let K = c.in_ok-key.key in
     let D = c.dot-dot.result in
     let inside = first_of rs c.in-Some.first.now
-    (subst (λ (xs : List ReceiptParts). slice_get xs 0 ≡ Some c.in-Some.first.now)
-    c.deref.ensures.value (sym c.first.ensures.value ∙ ap option_copied c.in-Some.is)) in
+    (sym c.first.ensures.value ∙ ap option_copied c.in-Some.is) in
     let own = c.requires.one_dot in
     let p = All-contains (λ (r : ReceiptParts). (r.key ≡ own.0) × (r.dot ≡ own.1)) rs
     c.in-Some.first.now own.2 inside in
     let of = subst (λ k. AreOf k D rs) (sym (c.in_ok-key.ensures.value ∙ (c.key.ensures ∙ p.0)))
     (subst (λ (d : Dot). AreOf own.0 d rs) (sym (c.dot-dot.ensures ∙ p.1)) own.2) in
     let hold = subst (λ (a : Account). All (IsReceipt (steps_of a.log)) rs)
-    c.agree_session.ensures.log
-    (subst (λ (xs : List ReceiptParts). All (IsReceipt (steps_of c.agree_session.new.self.log)) xs)
-    c.as_slice.ensures.value c.learn_receipts.ensures.hold) in
+    c.agree_session.ensures.log c.learn_receipts.ensures.hold in
     let cover = subst (HasCover (world_after (steps_of log)) K D) c.requires.count
     (receipts_cover layout (steps_of log) c.self.invariant.legal K D rs hold of c.requires.homes
     c.requires.holders) in
@@ -55,22 +51,19 @@ invariant_of-self g c =
 pub invariant_of-self-2 : goal.invariant_of-self-2
 invariant_of-self-2 g c =
     let b = c.self.inside in
-    let rs = c.args.receipts.items in
+    let rs = c.args.receipts.now in
     let K = c.in_ok-key.key in
     let D = c.dot-dot.result in
     let same = c.learn_receipts.ensures.log ∙ c.agree_session.ensures.log in
     let inside = first_of rs c.in-Some.first.now
-    (subst (λ (xs : List ReceiptParts). slice_get xs 0 ≡ Some c.in-Some.first.now)
-    c.deref.ensures.value (sym c.first.ensures.value ∙ ap option_copied c.in-Some.is)) in
+    (sym c.first.ensures.value ∙ ap option_copied c.in-Some.is) in
     let own = c.requires.one_dot in
     let p = All-contains (λ (r : ReceiptParts). (r.key ≡ own.0) × (r.dot ≡ own.1)) rs
     c.in-Some.first.now own.2 inside in
     let of = subst (λ k. AreOf k D rs) (sym (c.in_ok-key.ensures.value ∙ (c.key.ensures ∙ p.0)))
     (subst (λ (d : Dot). AreOf own.0 d rs) (sym (c.dot-dot.ensures ∙ p.1)) own.2) in
     let hold = subst (λ (a : Account). All (IsReceipt (steps_of a.log)) rs)
-    c.agree_session.ensures.log
-    (subst (λ (xs : List ReceiptParts). All (IsReceipt (steps_of c.agree_session.new.self.log)) xs)
-    c.as_slice.ensures.value c.learn_receipts.ensures.hold) in
+    c.agree_session.ensures.log c.learn_receipts.ensures.hold in
     let cover = subst (HasCover (world_after (steps_of b.ledger.log)) K D) c.requires.count
     (receipts_cover (layout_of g.J.Naming.ring g.J.Naming.n)
     (steps_of b.ledger.log) c.self.invariant.legal K D rs hold of c.requires.homes
@@ -89,11 +82,10 @@ invariant_of-self-2 g c =
 pub returns-clause-log : goal.returns-clause-log
 returns-clause-log g c = λ key d of.
     let b = c.self.inside in
-    let rs = c.args.receipts.items in
+    let rs = c.args.receipts.now in
     let same = c.learn_receipts.ensures.log ∙ c.agree_session.ensures.log in
     let inside = first_of rs c.in-Some.first.now
-    (subst (λ (xs : List ReceiptParts). slice_get xs 0 ≡ Some c.in-Some.first.now)
-    c.deref.ensures.value (sym c.first.ensures.value ∙ ap option_copied c.in-Some.is)) in
+    (sym c.first.ensures.value ∙ ap option_copied c.in-Some.is) in
     let p = All-contains (λ (r : ReceiptParts). (r.key ≡ key) × (r.dot ≡ d)) rs c.in-Some.first.now
     of inside in
     let key_is = c.in_ok-key.ensures.value ∙ (c.key.ensures ∙ p.0) in
@@ -110,11 +102,10 @@ returns-clause-log g c = λ key d of.
 
 pub returns-clause-share : goal.returns-clause-share
 returns-clause-share g c = λ key d of.
-    let rs = c.args.receipts.items in
+    let rs = c.args.receipts.now in
     let same = c.learn_receipts.ensures.log ∙ c.agree_session.ensures.log in
     let inside = first_of rs c.in-Some.first.now
-    (subst (λ (xs : List ReceiptParts). slice_get xs 0 ≡ Some c.in-Some.first.now)
-    c.deref.ensures.value (sym c.first.ensures.value ∙ ap option_copied c.in-Some.is)) in
+    (sym c.first.ensures.value ∙ ap option_copied c.in-Some.is) in
     let p = All-contains (λ (r : ReceiptParts). (r.key ≡ key) × (r.dot ≡ d)) rs c.in-Some.first.now
     of inside in
     let key_is = c.in_ok-key.ensures.value ∙ (c.key.ensures ∙ p.0) in
