@@ -12,6 +12,7 @@ use dy_preference::{Preference, preference};
 use dy_ring::Ring;
 use dy_shares::{Blank, Naming, NodeShare, Receipt, Seen, SessionShare};
 use dy_siblings::{Key, Row, Version};
+use std::alloc::Global;
 use std::marker::Brand;
 use std::test::Fail;
 
@@ -253,18 +254,24 @@ fn run<J: Naming>(
     Ok(())
 }
 
+// The row of a copy of the version alone.
+fn alone(alloc: Global, version: &Version) -> Result<Row, Fault>
+    ensures { IfOk result (λ row. row.key ≡ version.now.key) }
+{
+    let copy = version.try_clone(alloc)?;
+    Row::of(alloc, copy)
+}
+
 // The row of the version alone.
 fn row_of(rt: &HostRuntime, version: &Version) -> Result<Row, Fail>
     ensures { IfOk result (λ row. row.key ≡ version.now.key) }
 {
-    match Row::of(rt.alloc(), version.try_clone(rt.alloc())?) {
-        Ok(row) => Ok(row),
-        Err(fault) => {
-            tell(rt, "Row::of", fault)?;
-            let row = Row::of(rt.alloc(), version.try_clone(rt.alloc())?)?;
-            Ok(row)
-        }
+    match alone(rt.alloc(), version) {
+        Ok(row) => return Ok(row),
+        Err(fault) => tell(rt, "Row::of", fault)?,
     }
+    let row = alone(rt.alloc(), version)?;
+    Ok(row)
 }
 
 // Closes the book.

@@ -48,6 +48,24 @@ pub fn two_homes(counter_limit: u32, versions_limit: usize, steps_limit: usize) 
     }
 }
 
+// The first node plans a version of the key and makes it, for itself.
+fn make_at_first<J: Naming>(
+    book: &mut Book<J>,
+    shares: &mut [NodeShare<J>],
+    list: &Preference,
+    key: &Key,
+    context: &Context,
+    value: Value,
+) -> Result<(Version, Receipt<J>), Fault>
+    requires { take list.now.n list.now.nodes ≡ homes_of J.ring J.n key.now }
+    ensures { IfOk result (λ p. p.0.key ≡ key.now) }
+{
+    let Some(share) = shares.get_mut(0) else {
+        return Err(Fault::Down);
+    };
+    make(book, share, list, key, context, Some(value))
+}
+
 // The first version of node 0, of the key and of this value.
 fn first_made<J: Naming>(
     alloc: Global,
@@ -59,11 +77,9 @@ fn first_made<J: Naming>(
     requires { take list.now.n list.now.nodes ≡ homes_of J.ring J.n key.now }
     ensures { IfOk result (λ p. p.0.key ≡ key.now) }
 {
+    let none = Context::new(alloc);
     let value = Value::new(alloc, b"v")?;
-    let Some(share) = shares.get_mut(0) else {
-        return Err(Fault::Down);
-    };
-    let (version, receipt) = make(book, share, list, key, &Context::new(alloc), Some(value))?;
+    let (version, receipt) = make_at_first(book, shares, list, key, &none, value)?;
     let row = Row::of(alloc, version)?;
     Ok((row, receipt))
 }
@@ -85,21 +101,33 @@ pub fn kept_by<J: Naming>(
     keep(book, share, list, home, row)
 }
 
-// Whether the dots held at the place are these many, and the first of them is this one.
+// The place of this holder for this home.
+fn place_at(holder: u8, home: u8) -> Option<Place> {
+    Some(Place {
+        holder: NodeId::new(holder)?,
+        home: NodeId::new(home)?,
+    })
+}
+
+// Whether this dot alone is there.
+fn is_alone(dots: &[Dot], dot: Dot) -> bool {
+    dots.len() == 1 && dots.contains(&dot)
+}
+
+// Whether this dot alone is held at the place.
 fn holds<J: Naming>(book: &Book<J>, holder: u8, home: u8, key: &Key, dot: Dot) -> bool {
-    let (Some(holder), Some(home)) = (NodeId::new(holder), NodeId::new(home)) else {
-        return false;
-    };
-    let dots = book.held_dots(Place { holder, home }, key);
-    dots.len() == 1 && dots.first() == Some(&dot)
+    match place_at(holder, home) {
+        Some(place) => is_alone(book.held_dots(place, key), dot),
+        None => false,
+    }
 }
 
 // Whether nothing is held at the place.
 fn holds_nothing<J: Naming>(book: &Book<J>, holder: u8, home: u8, key: &Key) -> bool {
-    let (Some(holder), Some(home)) = (NodeId::new(holder), NodeId::new(home)) else {
-        return false;
-    };
-    book.held_dots(Place { holder, home }, key).is_empty()
+    match place_at(holder, home) {
+        Some(place) => book.held_dots(place, key).is_empty(),
+        None => false,
+    }
 }
 
 // Whether the places that cover the dot are these, each a holder and its home.
@@ -182,6 +210,35 @@ fn a_full_log_refuses_whole<J: Naming>(
     Ok(refused && is_covered(book, key, dot, &[(0, 0), (1, 1), (2, 1)])?)
 }
 
+// The row of the key with a deletion of this dot, that follows nothing.
+fn deletion(alloc: Global, key: &Key, dot: Dot) -> Result<Row, Fault>
+    ensures { IfOk result (λ row. row.key ≡ key.now) }
+{
+    let none = Context::new(alloc);
+    if none.contains(dot) {
+        return Err(Fault::Down);
+    }
+    let same_key = key.try_clone(alloc)?;
+    let version = Version::new(alloc, same_key, dot, none, None)?;
+    Row::of(alloc, version)
+}
+
+// Whether node 1 is refused to hold the row, since the dot's version is another.
+fn is_not_issued<J: Naming>(
+    book: &mut Book<J>,
+    shares: &mut [NodeShare<J>],
+    list: &Preference,
+    row: &Row,
+    dot: Dot,
+) -> bool
+    requires { take list.now.n list.now.nodes ≡ homes_of J.ring J.n row.now.key }
+{
+    match kept_by(book, shares, list, 1, 1, row) {
+        Ok(_receipts) => false,
+        Err(fault) => fault == Fault::NotIssued { dot },
+    }
+}
+
 // A row whose n0:1 has another value than the issued one is not held.
 fn another_value_is_not_held<J: Naming>(
     alloc: Global,
@@ -194,21 +251,8 @@ fn another_value_is_not_held<J: Naming>(
 {
     let (_row, receipt) = first_made(alloc, book, shares, list, key)?;
     let dot = receipt.dot();
-    let same_key = key.try_clone(alloc)?;
-    let none = Context::new(alloc);
-    if none.contains(dot) {
-        return Ok(false);
-    }
-    let never = Version::new(alloc, same_key, dot, none, None)?;
-    let row = Row::of(alloc, never)?;
-    if row.key() != key {
-        return Ok(false);
-    }
-    let held = kept_by(book, shares, list, 1, 1, &row);
-    let refused = match held {
-        Ok(_receipts) => false,
-        Err(fault) => fault == Fault::NotIssued { dot },
-    };
+    let row = deletion(alloc, key, dot)?;
+    let refused = is_not_issued(book, shares, list, &row, dot);
     Ok(refused && holds_nothing(book, 1, 1, key) && is_covered(book, key, dot, &[(0, 0)])?)
 }
 

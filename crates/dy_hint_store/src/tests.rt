@@ -31,17 +31,27 @@ fn put(alloc: Global, store: &mut HintStore, home: u8, key: &[u8], counter: u32)
     }
 }
 
-// Whether these are the homes and keys of the hints listed.
-fn are_listed(alloc: Global, store: &HintStore, wanted: &[(u8, &[u8])]) -> bool {
-    let Ok(hints) = store.list(alloc) else {
-        return false;
-    };
-    for (hint, (home, key)) in hints.iter().zip(wanted) {
-        if hint.0.number() != *home || hint.1.key().as_bytes() != *key {
+// Whether the hint is for this home, and of this key.
+fn is_of(home: NodeId, row: &Row, wanted: &(u8, &[u8])) -> bool {
+    home.number() == wanted.0 && row.key().as_bytes() == wanted.1
+}
+
+// Whether these are the homes and keys of the hints.
+fn are_of(hints: &[(NodeId, &Row)], wanted: &[(u8, &[u8])]) -> bool {
+    for (hint, wanted) in hints.iter().zip(wanted) {
+        if !is_of(hint.0, hint.1, wanted) {
             return false;
         }
     }
     hints.len() == wanted.len()
+}
+
+// Whether these are the homes and keys of the hints listed.
+fn are_listed(alloc: Global, store: &HintStore, wanted: &[(u8, &[u8])]) -> bool {
+    match store.list(alloc) {
+        Ok(hints) => are_of(hints.as_slice(), wanted),
+        Err(_) => false,
+    }
 }
 
 #[test]
@@ -54,12 +64,15 @@ fn hints_are_listed_by_home_and_then_by_key(rt: HostRuntime) {
     assert!(rt; are_listed(rt.alloc(), &store, wanted.as_slice()));
 }
 
+// Whether the row for the home is gone once it is without the dot.
+fn leaves_with(store: &mut HintStore, home: NodeId, key: &Key, dot: Dot) -> bool {
+    store.remove_dots(home, key, [dot].as_slice());
+    store.row(home, key).is_none()
+}
+
 // Whether the row for the home leaves with its dot, and not with another.
 fn leaves(store: &mut HintStore, home: NodeId, key: &Key, dot: Dot, other: Dot) -> bool {
-    store.remove_dots(home, key, [other].as_slice());
-    let stays = store.row(home, key).is_some();
-    store.remove_dots(home, key, [dot].as_slice());
-    stays && store.row(home, key).is_none()
+    !leaves_with(store, home, key, other) && leaves_with(store, home, key, dot)
 }
 
 // Whether the row for the home is taken out, once.

@@ -93,12 +93,16 @@ fn replaces(rows: &mut RowMap, row: Row, dot: Dot) -> bool {
     rows.replace_row(row).covers(dot)
 }
 
+// Whether the key's row is gone once it is without the dots.
+fn leaves_with(rows: &mut RowMap, key: &Key, dots: &[Dot]) -> bool {
+    rows.remove_dots(key, dots);
+    rows.row(key).is_none()
+}
+
 // Whether the key's row leaves with the second of the dots, and not before.
 fn leaves(rows: &mut RowMap, key: &Key, first: Dot, second: Dot) -> bool {
-    rows.remove_dots(key, [first].as_slice());
-    let stays = rows.row(key).is_some();
-    rows.remove_dots(key, [first, second].as_slice());
-    stays && rows.row(key).is_none()
+    !leaves_with(rows, key, [first].as_slice())
+        && leaves_with(rows, key, [first, second].as_slice())
 }
 
 fn gives_way(alloc: Global, rows: &mut RowMap) -> Option<bool> {

@@ -102,18 +102,32 @@ pub fn acknowledge<J: Naming>(
     book.ack(session, 1, receipts.as_slice())
 }
 
+// Whether the answers are of two homes.
+fn are_of_two<J: Naming>(one: &Seen<J>, two: &Seen<J>) -> bool
+    ensures { result ≡ true → one.now.home ≢ two.now.home }
+{
+    one.home() != two.home()
+}
+
+// Both answers.
+fn both<J: Naming>(alloc: Global, one: Seen<J>, two: Seen<J>) -> Result<Vec<Seen<J>>, Fault>
+    ensures { IfOk result (λ seens. seens.items ≡ one ∷ two ∷ []) }
+{
+    let mut seens = Vec::with_capacity(alloc, 2)?;
+    seens.push_reserved(one);
+    seens.push_reserved(two);
+    Ok(seens)
+}
+
 // The two answers, where they are of two homes, else none.
 fn pair<J: Naming>(alloc: Global, one: Seen<J>, two: Seen<J>) -> Result<Vec<Seen<J>>, Fault>
     ensures items { IfOk result (λ seens. seens.items ≡ one ∷ two ∷ []) }
     ensures homes { IfOk result (λ seens. one.home ≢ two.home) }
 {
-    if one.home() == two.home() {
+    if !are_of_two(&one, &two) {
         return Err(Fault::Down);
     }
-    let mut seens = Vec::with_capacity(alloc, 2)?;
-    seens.push_reserved(one);
-    seens.push_reserved(two);
-    Ok(seens)
+    both(alloc, one, two)
 }
 
 // The first two nodes answer for themselves, and the session is told.
