@@ -94,15 +94,15 @@ same_hints homes others same = maps.same_map home_then_key_total home_then_key_e
 -- ---- changes
 
 -- the row of these versions, if there are any
-abbrev row_with : List ℕ → List VersionParts → Option Siblings
+abbrev pub row_with : List ℕ → List VersionParts → Option Siblings
 row_with key [] = None
 row_with key (v ∷ vs) = Some (record { key = key; versions = v ∷ vs })
 
-get_with_versions : (rows : Rows) (key : List ℕ) (vs : List VersionParts) (q : List ℕ) → maps.get (with_versions rows key vs) q ≡ cond (eq_by_cmp (slice_cmp nat_cmp) q key) (row_with key vs) (maps.get rows q)
+pub get_with_versions : (rows : Rows) (key : List ℕ) (vs : List VersionParts) (q : List ℕ) → maps.get (with_versions rows key vs) q ≡ cond (eq_by_cmp (slice_cmp nat_cmp) q key) (row_with key vs) (maps.get rows q)
 get_with_versions rows key [] q = maps.get-remove nat_list_cmp_total rows key q
 get_with_versions rows key (v ∷ vs) q = maps.get-insert nat_list_cmp_total rows key (record { key = key; versions = v ∷ vs }) q
 
-get_with_versions_for : (hints : Hints) (home : ℕ) (key : List ℕ) (vs : List VersionParts) (q : ℕ × List ℕ) → maps.get (with_versions_for hints home key vs) q ≡ cond (eq_by_cmp home_then_key q (home, key)) (row_with key vs) (maps.get hints q)
+pub get_with_versions_for : (hints : Hints) (home : ℕ) (key : List ℕ) (vs : List VersionParts) (q : ℕ × List ℕ) → maps.get (with_versions_for hints home key vs) q ≡ cond (eq_by_cmp home_then_key q (home, key)) (row_with key vs) (maps.get hints q)
 get_with_versions_for hints home key [] q = maps.get-remove home_then_key_total hints (home, key) q
 get_with_versions_for hints home key (v ∷ vs) q = maps.get-insert home_then_key_total hints (home, key) (record { key = key; versions = v ∷ vs }) q
 

@@ -1,0 +1,82 @@
+// A node's answers, by its flag and mode.
+ghost use Rattle.std.specs.Prelude.{◌≡◌, ◌↔◌, true, false, None};
+ghost use Rattle.dy_node.specs.Answers.{AnsweredBy, IsDone, IsDown, IsPutOff, IsRepeated, MayAsk};
+
+use crate::asks::{Answer, Ask};
+use crate::modes::Mode;
+use crate::nodes::Node;
+use dy_book::Book;
+use dy_shares::Naming;
+
+// Does what is asked, whatever the mode.
+fn run<J: Naming>(node: &mut Node<J>, book: &mut Book<J>, ask: &Ask<'_, J>) -> Answer<J>
+    requires { MayAsk J.ring J.n node.old.part.node ask.now }
+    ensures done { IsDone ask.now node.old book.old node.new book.new result }
+    ensures number { node.new.part.node ≡ node.old.part.node }
+{
+    match ask {
+        Ask::Store { home, row } => match node.store(book, *home, row) {
+            Ok(receipts) => Answer::Stored(receipts),
+            Err(fault) => Answer::Refused(fault),
+        },
+        Ask::Fetch { home, key, since } => match node.fetch(book, *home, key, since) {
+            Ok(seen) => Answer::Rows(seen),
+            Err(fault) => Answer::Refused(fault),
+        },
+    }
+}
+
+// Keeps a row for later, and does nothing else.
+fn delay<J: Naming>(node: &mut Node<J>, ask: &Ask<'_, J>) -> Answer<J>
+    requires { MayAsk J.ring J.n node.old.part.node ask.now }
+    ensures { IsPutOff ask.now node.old node.new result }
+{
+    match ask {
+        Ask::Store { home, row } => match node.defer(*home, row) {
+            Ok(()) => Answer::NoAnswer,
+            Err(fault) => Answer::Refused(fault),
+        },
+        Ask::Fetch { .. } => Answer::NoAnswer,
+    }
+}
+
+// Does what is asked three times.
+fn repeat<J: Naming>(node: &mut Node<J>, book: &mut Book<J>, ask: &Ask<'_, J>) -> Answer<J>
+    requires { MayAsk J.ring J.n node.old.part.node ask.now }
+    ensures { IsRepeated ask.now node.old book.old node.new book.new result }
+{
+    let _first = run(node, book, ask);
+    let _second = run(node, book, ask);
+    run(node, book, ask)
+}
+
+/// A node's answer to an ask by its flag and mode, and a second one where it is up and late.
+pub fn answer<J: Naming>(
+    node: &mut Node<J>,
+    book: &mut Book<J>,
+    ask: &Ask<'_, J>,
+) -> (Answer<J>, Option<Answer<J>>)
+    requires { MayAsk J.ring J.n node.old.part.node ask.now }
+    ensures down { IsDown result.0 ↔ (node.old.is_up ≡ false) }
+    ensures nothing { node.old.is_up ≡ false →
+        (result.1 ≡ None) × (node.new ≡ node.old) × (book.new ≡ book.old) }
+    ensures up { node.old.is_up ≡ true →
+        AnsweredBy node.old.mode ask.now node.old book.old node.new book.new result.0 result.1 }
+{
+    if !node.is_up() {
+        return (Answer::Down, None);
+    }
+    match node.mode() {
+        Mode::Plain => (run(node, book, ask), None),
+        Mode::Mute => {
+            let _done = run(node, book, ask);
+            (Answer::NoAnswer, None)
+        }
+        Mode::Late => {
+            let done = run(node, book, ask);
+            (Answer::NoAnswer, Some(done))
+        }
+        Mode::Repeat => (repeat(node, book, ask), None),
+        Mode::Delay => (delay(node, ask), None),
+    }
+}

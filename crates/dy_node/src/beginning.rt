@@ -1,0 +1,200 @@
+// Versions that a node makes.
+ghost use Rattle.std.specs.Prelude.{◌≡◌, ◌+◌, ◌≤◌, ◌∷◌, [], IsTrue, IfOk, OnOk, OnErr, IsOkUnless};
+ghost use Rattle.std.specs.List.{Contains};
+ghost use Rattle.std.specs.Result.{result_err};
+ghost use Rattle.dy_dots.specs.declared.dots.TheConstants.{MAX_COUNTER};
+ghost use Rattle.dy_siblings.specs.Siblings.{IsSameRow, merge};
+ghost use Rattle.dy_node_store.specs.Counters.{greatest_used};
+ghost use Rattle.dy_preference.specs.Preferences.{homes_of, may_hold};
+ghost use Rattle.dy_core.specs.Worlds.{layout_of};
+ghost use Rattle.dy_core.specs.Steps.{version_made};
+ghost use Rattle.dy_shares.specs.Shares.{receipt_parts, with_steps};
+ghost use Rattle.dy_book.specs.Books.{MayIssue, issue_steps, with_untold, world_of};
+ghost use Rattle.dy_node.specs.Stored.{Shows, versions_at};
+ghost use Rattle.dy_node.specs.Nodes.{version_begun};
+ghost use Rattle.dy_node.specs.Refusals.{BeginRefused, PlanRefused};
+ghost use Rattle.dy_node.specs.inside.Agreed.{IsAgreed};
+
+use crate::begun::Begun;
+use crate::nodes::Node;
+use crate::stores::Stores;
+use dy_book::Book;
+use dy_dots::{Context, Fault, NodeId};
+use dy_shares::{Naming, NodeShare, Receipt};
+use dy_siblings::{Key, Row, Value, Version};
+use std::alloc::Global;
+
+// The version that the node would make now, with its counter; nothing is changed.
+fn plan_next<J: Naming>(
+    stores: &Stores,
+    share: &NodeShare<J>,
+    book: &Book<J>,
+    key: &Key,
+    context: &Context,
+    value: Option<Value>,
+) -> Result<(Version, u32), Fault>
+    requires agreed { IsAgreed (layout_of J.ring J.n) book.now share.now }
+    requires shown { Shows share.now stores.now }
+    ensures version { IfOk result (λ p.
+        p.0 ≡ version_made (world_of book.now) share.now.node key.now context.now value) }
+    ensures may { IfOk result (λ p. MayIssue book.now share.now.node p.0) }
+    ensures few { OnOk result (book.now.options.counter_limit ≤ MAX_COUNTER) }
+    ensures counter { IfOk result (λ p. p.1 ≡ greatest_used stores.now.counters key.now + 1) }
+    ensures refused { PlanRefused book.now share.now.node key.now context.now
+        (result_err result) }
+{
+    let limit = book.counter_limit();
+    let counter = match stores.next_counter(key, limit) {
+        Ok(counter) => counter,
+        Err(_fault) => return Err(Fault::CounterFull),
+    };
+    let version = match book.plan(share, key, context, value) {
+        Ok(version) => version,
+        Err(fault) => return Err(fault),
+    };
+    Ok((version, counter))
+}
+
+// The row that is kept once the version is held for the home, twice.
+fn whole_row<J: Naming>(
+    alloc: Global,
+    stores: &Stores,
+    share: &NodeShare<J>,
+    book: &Book<J>,
+    home: NodeId,
+    version: &Version,
+) -> Result<(Row, Row), Fault>
+    requires agreed { IsAgreed (layout_of J.ring J.n) book.now share.now }
+    requires shown { Shows share.now stores.now }
+    requires may { MayIssue book.now share.now.node version.now }
+    requires few { book.now.options.counter_limit ≤ MAX_COUNTER }
+    ensures key { IfOk result (λ p. p.0.key ≡ version.now.key) }
+    ensures whole { IfOk result (λ p. IsSameRow p.0.versions
+        (merge (versions_at stores.now.rooms home version.now.key) (version.now ∷ []))) }
+    ensures in_row { IfOk result (λ p. Contains p.0.versions version.now) }
+    ensures copy { IfOk result (λ p. p.1 ≡ p.0) }
+    ensures memory { IsOkUnless result Fault.OutOfMemory }
+{
+    let row = Row::of(alloc, version.try_clone(alloc)?)?;
+    let Some(whole) = stores.joined_with(alloc, home, row)? else {
+        unreachable!();
+    };
+    let copy = whole.try_clone(alloc)?;
+    Ok((whole, copy))
+}
+
+// Makes the version that was planned and holds it for the home; what is refused changes nothing.
+fn issue_row<J: Naming>(
+    stores: &mut Stores,
+    share: &mut NodeShare<J>,
+    book: &mut Book<J>,
+    home: NodeId,
+    version: &Version,
+    counter: u32,
+    whole: Row,
+) -> Result<Receipt<J>, Fault>
+    requires may_hold { IsTrue
+        (may_hold (homes_of J.ring J.n version.now.key) share.old.node home) }
+    requires shown { Shows share.old stores.old }
+    requires may { MayIssue book.old share.old.node version.now }
+    requires counter { counter ≡ greatest_used stores.old.counters version.now.key + 1 }
+    requires key { whole.key ≡ version.now.key }
+    requires whole { IsSameRow whole.versions
+        (merge (versions_at stores.old.rooms home version.now.key) (version.now ∷ [])) }
+    ensures shown { Shows share.new stores.new }
+    ensures log { OnOk result
+        (book.new ≡ with_untold book.old (issue_steps share.old.node home version.now)) }
+    ensures share { OnOk result
+        (share.new ≡ with_steps share.old (issue_steps share.old.node home version.now)) }
+    ensures receipt { IfOk result (λ r. r ≡
+        receipt_parts version.now.key version.now.dot share.old.node home) }
+    ensures rooms { OnErr result (stores.new.rooms ≡ stores.old.rooms) }
+    ensures err { OnErr result ((share.new ≡ share.old) × (book.new ≡ book.old)) }
+    ensures memory { IsOkUnless result Fault.OutOfMemory }
+{
+    book.agree(share);
+    stores.make_counter(version.key())?;
+    let placed = stores.place(home, whole)?;
+    match book.issue(share, home, version) {
+        Ok(receipt) => {
+            stores.use_made(version.key(), counter);
+            book.agree(share);
+            Ok(receipt)
+        }
+        Err(fault) => {
+            stores.take_back(home, version.key(), placed);
+            Err(fault)
+        }
+    }
+}
+
+impl<J: Naming> Node<J> {
+    /// Makes a version of the key, and holds it alone for the home: in the log, the share and the
+    /// store, or in none of them. Its dot is the node's next of the key, and its past the histories
+    /// of the versions that the context names.
+    pub fn begin(
+        &mut self,
+        book: &mut Book<J>,
+        home: NodeId,
+        key: &Key,
+        context: &Context,
+        value: Option<Value>,
+    ) -> Result<Begun<J>, Fault>
+        requires may_hold { IsTrue
+            (may_hold (homes_of J.ring J.n key.now) self.old.part.node home) }
+        ensures log { OnOk result (book.new ≡ with_untold book.old (issue_steps
+            self.old.part.node home
+            (version_begun book.old self.old key.now context.now value))) }
+        ensures share { OnOk result (self.new.part ≡ with_steps self.old.part (issue_steps
+            self.old.part.node home
+            (version_begun book.old self.old key.now context.now value))) }
+        ensures dot { IfOk result (λ begun.
+            begun.dot ≡ (version_begun book.old self.old key.now context.now value).dot) }
+        ensures key { IfOk result (λ begun. begun.row.key ≡ key.now) }
+        ensures row { IfOk result (λ begun. IsSameRow begun.row.versions
+            (merge (versions_at self.old.rooms home key.now)
+            (version_begun book.old self.old key.now context.now value ∷ []))) }
+        ensures in_row { IfOk result (λ begun. Contains begun.row.versions
+            (version_begun book.old self.old key.now context.now value)) }
+        ensures receipt { IfOk result (λ begun. begun.receipt ≡ receipt_parts key.now
+            (version_begun book.old self.old key.now context.now value).dot
+            self.old.part.node home) }
+        ensures is_up { self.new.is_up ≡ self.old.is_up }
+        ensures mode { self.new.mode ≡ self.old.mode }
+        ensures waiting { self.new.waiting ≡ self.old.waiting }
+        ensures refused { BeginRefused book.old self.old key.now context.now
+            (result_err result) }
+        ensures err { OnErr result ((self.new ≡ self.old) × (book.new ≡ book.old)) }
+    {
+        if !self.is_up {
+            return Err(Fault::Down);
+        }
+        book.agree(&mut self.share);
+        let (stores, share) = (&self.stores, &self.share);
+        let (version, counter) = match plan_next(stores, share, book, key, context, value) {
+            Ok(planned) => planned,
+            Err(fault) => return Err(fault),
+        };
+        let (whole, copy) = match whole_row(self.alloc, stores, share, book, home, &version) {
+            Ok(rows) => rows,
+            Err(_fault) => return Err(Fault::OutOfMemory),
+        };
+        let receipt = match issue_row(
+            &mut self.stores,
+            &mut self.share,
+            book,
+            home,
+            &version,
+            counter,
+            whole,
+        ) {
+            Ok(receipt) => receipt,
+            Err(_fault) => return Err(Fault::OutOfMemory),
+        };
+        Ok(Begun {
+            dot: version.dot(),
+            row: copy,
+            receipt,
+        })
+    }
+}

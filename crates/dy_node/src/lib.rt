@@ -1,0 +1,28 @@
+//! One node: what it keeps, its share, whether it is up, and its answers.
+#![tactic(auto)]
+
+mod answering;
+mod asks;
+mod beginning;
+mod begun;
+mod deliveries;
+mod fetching;
+mod holding;
+mod messages;
+mod modes;
+mod nodes;
+mod offers;
+mod placed;
+mod rests;
+mod settling;
+mod stores;
+#[cfg(test)]
+mod tests;
+
+pub use answering::answer;
+pub use asks::{Answer, Ask};
+pub use begun::Begun;
+pub use messages::Message;
+pub use modes::Mode;
+pub use nodes::Node;
+pub use rests::Rest;

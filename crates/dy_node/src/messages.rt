@@ -1,0 +1,9 @@
+use dy_dots::NodeId;
+use dy_siblings::Row;
+
+/// A row that came, and is stored later.
+#[derive(Debug, Drop)]
+pub struct Message {
+    pub home: NodeId,
+    pub row: Row,
+}

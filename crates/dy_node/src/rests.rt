@@ -1,0 +1,99 @@
+// A node without its share.
+ghost use Rattle.std.specs.Prelude.{◌≡◌};
+ghost use Rattle.dy_node.specs.Stored.{Shows};
+ghost use Rattle.dy_node.specs.Nodes.{AreDeferred};
+
+use crate::messages::Message;
+use crate::modes::Mode;
+use crate::nodes::Node;
+use crate::stores::Stores;
+use dy_shares::{Naming, NodeShare};
+use std::alloc::Global;
+use std::collections::VecDeque;
+use std::marker::Model;
+
+/// What is left of a node whose share was taken out: it keeps what the node kept, and may be
+/// dropped.
+#[derive(Drop)]
+pub struct Rest {
+    alloc: Global,
+    stores: Stores,
+    is_up: bool,
+    mode: Mode,
+    waiting: VecDeque<Message>,
+}
+
+impl Model for Rest {
+    ghost use Rattle.dy_node.specs.Nodes.{RestState, rest_code};
+
+    ghost Value = { RestState };
+
+    ghost coded = { rest_code };
+
+    ghost view = { λ r. record {
+        stored = r.stores;
+        is_up = r.is_up;
+        mode = r.mode;
+        waiting = r.waiting.items;
+    } };
+}
+
+impl<J: Naming> Node<J> {
+    /// The node's share, which can be handed in, and the rest of the node. Takes no memory.
+    pub fn retire(self) -> (NodeShare<J>, Rest)
+        ensures share { result.0 ≡ self.part }
+        ensures rooms { result.1.stored.rooms ≡ self.rooms }
+        ensures shown { Shows result.0 result.1.stored }
+        ensures is_up { result.1.is_up ≡ self.is_up }
+        ensures mode { result.1.mode ≡ self.mode }
+        ensures waiting { result.1.waiting ≡ self.waiting }
+        ensures deferred { AreDeferred J.ring J.n result.0.node result.1.waiting }
+    {
+        let Node {
+            alloc,
+            stores,
+            share,
+            is_up,
+            mode,
+            waiting,
+        } = self;
+        let rest = Rest {
+            alloc,
+            stores,
+            is_up,
+            mode,
+            waiting,
+        };
+        (share, rest)
+    }
+
+    /// The node of this share and this rest, which is the one that retired where the share is
+    /// unchanged. Takes no memory.
+    pub fn rejoin(share: NodeShare<J>, rest: Rest) -> Node<J>
+        requires shown { Shows share rest.stored }
+        requires deferred { AreDeferred J.ring J.n share.node rest.waiting }
+        ensures { result ≡ record {
+            part = share;
+            rooms = rest.stored.rooms;
+            is_up = rest.is_up;
+            mode = rest.mode;
+            waiting = rest.waiting;
+        } }
+    {
+        let Rest {
+            alloc,
+            stores,
+            is_up,
+            mode,
+            waiting,
+        } = rest;
+        Node {
+            alloc,
+            stores,
+            share,
+            is_up,
+            mode,
+            waiting,
+        }
+    }
+}

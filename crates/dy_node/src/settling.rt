@@ -1,0 +1,132 @@
+// Hints that are given up by receipts.
+ghost use Rattle.std.specs.Prelude.{◌≡◌, ◌≢◌, IfOk, OnOk, OnErr, IsOkUnless};
+ghost use Rattle.std.specs.Result.{result_err};
+ghost use Rattle.std.specs.List.{All, list_any};
+ghost use Rattle.dy_node.specs.Stored.{Shows};
+ghost use Rattle.dy_node.specs.Settling.{AreReleased, IsSettlement, ReleaseRefused, SettleRefused};
+ghost use Rattle.dy_node.specs.Settling.{same_release, without_all};
+ghost use Rattle.dy_node.specs.inside.Chosen.{taken};
+
+use crate::nodes::Node;
+use crate::stores::Stores;
+use dy_book::Book;
+use dy_dots::Fault;
+use dy_shares::{Naming, NodeShare, Receipt};
+use std::alloc::Global;
+
+// Whether the two have one home, key and dot.
+fn is_same<J: Naming>(a: &Receipt<J>, b: &Receipt<J>) -> bool
+    ensures { result ≡ same_release a.now b.now }
+{
+    a.home() == b.home() && (a.key() == b.key() && a.dot() == b.dot())
+}
+
+// Whether one of those chosen has its home, key and dot.
+fn is_chosen<J: Naming>(chosen: &[Receipt<J>], receipt: &Receipt<J>) -> bool
+    ensures { result ≡ list_any (λ r. same_release r receipt.now) chosen.now }
+{
+    chosen.iter().any(|other| is_same(other, receipt))
+}
+
+// Takes in a copy of the receipt, where its dot stands in the hint for its home and is not there.
+fn take_in<J: Naming>(
+    alloc: Global,
+    stores: &Stores,
+    chosen: &mut Vec<Receipt<J>>,
+    receipt: &Receipt<J>,
+) -> Result<(), Fault>
+    ensures chosen { OnOk result
+        (chosen.new.items ≡ taken stores.now.rooms chosen.old.items receipt.now) }
+    ensures memory { IsOkUnless result Fault.OutOfMemory }
+{
+    let stands = stores.has_hint(receipt.home(), receipt.key(), receipt.dot());
+    if stands && !is_chosen(chosen.as_slice(), receipt) {
+        let copy = receipt.try_clone(alloc)?;
+        if chosen.push(copy).is_err() {
+            return Err(Fault::OutOfMemory);
+        }
+    }
+    Ok(())
+}
+
+// The receipts whose dot stands in the hint for their home, each dot once.
+fn choose<J: Naming>(
+    alloc: Global,
+    stores: &Stores,
+    receipts: &[Receipt<J>],
+) -> Result<Vec<Receipt<J>>, Fault>
+    ensures chosen { IfOk result (λ chosen.
+        AreReleased stores.now.rooms receipts.now chosen.items) }
+    ensures memory { IsOkUnless result Fault.OutOfMemory }
+{
+    let mut chosen = Vec::new(alloc);
+    for receipt in receipts {
+        take_in(alloc, stores, &mut chosen, receipt)?;
+    }
+    Ok(chosen)
+}
+
+// Drops the dot of each receipt from the hint for its home.
+fn drop_all<J: Naming>(stores: &mut Stores, receipts: &[Receipt<J>])
+    requires { All (λ r. r.home ≢ stores.old.rooms.node) receipts.now }
+    ensures rooms { stores.new.rooms ≡ without_all stores.old.rooms receipts.now }
+    ensures counters { stores.new.counters ≡ stores.old.counters }
+{
+    for receipt in receipts {
+        stores.drop_hint(receipt.home(), receipt.key(), receipt.dot());
+    }
+}
+
+// Releases the dot of each receipt that stands in the hint for its home, all or none.
+fn settle_receipts<J: Naming>(
+    alloc: Global,
+    stores: &mut Stores,
+    share: &mut NodeShare<J>,
+    book: &mut Book<J>,
+    receipts: &[Receipt<J>],
+) -> Result<usize, Fault>
+    requires own { All (λ r. r.holder ≡ r.home) receipts.now }
+    requires shown { Shows share.old stores.old }
+    ensures shown { Shows share.new stores.new }
+    ensures ok { IfOk result (λ count. IsSettlement book.old share.old stores.old.rooms
+        receipts.now count book.new share.new stores.new.rooms) }
+    ensures stores { OnErr result (stores.new ≡ stores.old) }
+    ensures share { OnErr result (share.new ≡ share.old) }
+    ensures book { OnErr result (book.new ≡ book.old) }
+    ensures refused { ReleaseRefused book.old stores.old.rooms receipts.now (result_err result) }
+{
+    book.agree(share);
+    let chosen = match choose(alloc, stores, receipts) {
+        Ok(chosen) => chosen,
+        Err(_fault) => return Err(Fault::OutOfMemory),
+    };
+    match book.release(share, chosen.as_slice()) {
+        Ok(()) => {
+            drop_all(stores, chosen.as_slice());
+            book.agree(share);
+            Ok(chosen.len())
+        }
+        Err(fault) => Err(fault),
+    }
+}
+
+impl<J: Naming> Node<J> {
+    /// Releases each receipted dot that stands in the hint for the receipt's home, all or none, and
+    /// tells how many. A refusal for want of memory may come before that for want of steps.
+    pub fn settle(&mut self, book: &mut Book<J>, receipts: &[Receipt<J>]) -> Result<usize, Fault>
+        requires { All (λ r. r.holder ≡ r.home) receipts.now }
+        ensures ok { IfOk result (λ count. IsSettlement book.old self.old.part self.old.rooms
+            receipts.now count book.new self.new.part self.new.rooms) }
+        ensures is_up { self.new.is_up ≡ self.old.is_up }
+        ensures mode { self.new.mode ≡ self.old.mode }
+        ensures waiting { self.new.waiting ≡ self.old.waiting }
+        ensures refused { SettleRefused book.old self.old receipts.now (result_err result) }
+        ensures err { OnErr result (self.new ≡ self.old) }
+        ensures book { OnErr result (book.new ≡ book.old) }
+    {
+        if !self.is_up {
+            return Err(Fault::Down);
+        }
+        settle_receipts(self.alloc, &mut self.stores, &mut self.share, book, receipts)
+    }
+}

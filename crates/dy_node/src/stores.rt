@@ -1,0 +1,336 @@
+// What a node keeps, apart from books and shares.
+ghost use Rattle.std.specs.Prelude.{◌≡◌, ◌≢◌, ◌↔◌, ◌<◌, ◌+◌, ◌++◌, ◌∷◌, [], None, Some, map};
+ghost use Rattle.std.specs.Prelude.{length};
+ghost use Rattle.std.specs.Prelude.{IsSome, IfSome, IfNone, IfOk, IfErr, OnOk, OnErr, IsOk, IsTrue};
+ghost use Rattle.std.specs.Prelude.{IsOkUnless};
+ghost use Rattle.std.specs.Option.{option_copied};
+ghost use Rattle.std.specs.Result.{OkIff};
+ghost use Rattle.std.specs.FinMap as maps;
+ghost use Rattle.dy_siblings.specs.Siblings.{AreOneByDot, IsSameRow, has_dot, merge};
+ghost use Rattle.dy_node_store.specs.Rows.{IsRowOf, without_dots};
+ghost use Rattle.dy_node_store.specs.Counters.{greatest_used, with_used};
+ghost use Rattle.dy_hint_store.specs.Hints.{home_and_row, shown};
+ghost use Rattle.dy_node.specs.Stored.{empty_rooms, kept_rows, stands, versions_at, with_row};
+ghost use Rattle.dy_node.specs.inside.Placing.{FitsBack, IsAdded, IsPlaced, row_kept, taken_back};
+
+use crate::placed::Placed;
+use dy_dots::{Dot, Fault, NodeId};
+use dy_hint_store::HintStore;
+use dy_node_store::NodeStore;
+use dy_siblings::{Key, Row, Version};
+use std::alloc::Global;
+use std::marker::Model;
+
+/// What a node keeps: its own rows and counters, and the rows that it keeps for others.
+#[derive(Drop)]
+pub(crate) struct Stores {
+    node: NodeId,
+    own: NodeStore,
+    hints: HintStore,
+}
+
+impl Model for Stores {
+    ghost use Rattle.std.specs.Prelude.{◌≡◌, ℕ, List, None};
+    ghost use Rattle.std.specs.FinMap as maps;
+    ghost use Rattle.dy_node.specs.Stored.{Stored, stored_code};
+
+    ghost Value = { Stored };
+
+    ghost coded = { stored_code };
+
+    ghost view = { λ s. record {
+        rooms = record { node = s.node; rows = s.own.rows; hints = s.hints };
+        counters = s.own.counters;
+    } };
+
+    ghost invariant = { λ s. (key : List ℕ) → maps.get s.hints (s.node, key) ≡ None };
+}
+
+impl Stores {
+    /// Nothing is kept. Takes no memory.
+    pub(crate) fn new(alloc: Global, node: NodeId) -> Stores
+        ensures { result ≡ record { rooms = empty_rooms node; counters = maps.empty } }
+    {
+        Stores {
+            node,
+            own: NodeStore::new(alloc),
+            hints: HintStore::new(alloc),
+        }
+    }
+
+    /// The row that is kept of the key for the home. Takes no memory.
+    pub(crate) fn row(&self, home: NodeId, key: &Key) -> Option<&Row>
+        ensures value { option_copied result ≡ row_kept self.now.rooms home key.now }
+        ensures valid { IfSome result (λ row. IsRowOf key.now row.now) }
+    {
+        if home == self.node {
+            self.own.row(key)
+        } else {
+            self.hints.row(home, key)
+        }
+    }
+
+    /// The counter after the greatest that was used of the key. Takes no memory.
+    pub(crate) fn next_counter(&self, key: &Key, limit: u32) -> Result<u32, Fault>
+        ensures ok { OkIff result (greatest_used self.now.counters key.now < limit)
+            (greatest_used self.now.counters key.now + 1) }
+        ensures counter_full { IfErr result (λ fault. fault ≡ Fault.CounterFull) }
+    {
+        self.own.next_counter(key, limit)
+    }
+
+    /// Makes room for the key's counter.
+    pub(crate) fn make_counter(&mut self, key: &Key) -> Result<(), Fault>
+        ensures ok { OnOk result (self.new ≡
+            record self.old { counters = with_used self.old.counters key.now 0 }) }
+        ensures err { OnErr result (self.new ≡ self.old) }
+        ensures memory { IsOkUnless result Fault.OutOfMemory }
+    {
+        self.own.use_counter(key, 0)?;
+        Ok(())
+    }
+
+    /// Uses the counter, for which there is room. Takes no memory.
+    pub(crate) fn use_made(&mut self, key: &Key, counter: u32)
+        requires { maps.get self.old.counters key.now ≢ None }
+        ensures { self.new ≡
+            record self.old { counters = with_used self.old.counters key.now counter } }
+    {
+        match self.own.use_counter(key, counter) {
+            Ok(()) => {}
+            Err(_fault) => unreachable!(),
+        }
+    }
+
+    /// Whether a row is kept of the key for the home. Takes no memory.
+    pub(crate) fn is_kept(&self, home: NodeId, key: &Key) -> bool
+        ensures value { IsTrue result ↔ IsSome (row_kept self.now.rooms home key.now) }
+        ensures valid { IfSome (row_kept self.now.rooms home key.now) (IsRowOf key.now) }
+    {
+        match self.row(home, key) {
+            Some(_row) => true,
+            None => false,
+        }
+    }
+
+    // Puts the row in the place of its key's for the home.
+    fn put(&mut self, home: NodeId, row: Row) -> Result<(), Fault>
+        ensures ok { OnOk result (self.new ≡
+            record self.old { rooms = with_row self.old.rooms home row.key row.versions }) }
+        ensures err { OnErr result (self.new ≡ self.old) }
+        ensures memory { IsOkUnless result Fault.OutOfMemory }
+    {
+        if home == self.node {
+            self.own.put_row(row)?;
+        } else {
+            self.hints.put_row(home, row)?;
+        }
+        Ok(())
+    }
+
+    // Puts the row in the place of its key's for the home, and gives that back.
+    fn replace(&mut self, home: NodeId, row: Row) -> Row
+        requires present { IsSome (row_kept self.old.rooms home row.key) }
+        requires filled { 0 < length row.versions }
+        ensures value { row_kept self.old.rooms home row.key ≡ Some result }
+        ensures rooms { self.new ≡
+            record self.old { rooms = with_row self.old.rooms home row.key row.versions } }
+    {
+        if home == self.node {
+            self.own.replace_row(row)
+        } else {
+            self.hints.replace_row(home, row)
+        }
+    }
+
+    // Takes the row out.
+    fn remove(&mut self, home: NodeId, key: &Key)
+        ensures { self.new ≡ record self.old { rooms = with_row self.old.rooms home key.now [] } }
+    {
+        if home == self.node {
+            let _row = self.own.remove_row(key);
+        } else {
+            let _row = self.hints.remove_row(home, key);
+        }
+    }
+
+    // Whether the row is kept for the home as it is.
+    fn has_same(&self, home: NodeId, row: &Row) -> bool
+        ensures { IsTrue result ↔ (row_kept self.now.rooms home row.now.key ≡ Some row.now) }
+    {
+        match self.row(home, row.key()) {
+            Some(kept) => kept.is_same(row),
+            None => false,
+        }
+    }
+
+    // What is kept of the row's key for the home, merged with the row, where no dot is that of two
+    // versions.
+    fn joined(&self, alloc: Global, home: NodeId, row: &Row) -> Result<Option<Row>, Fault>
+        ensures none { IfOk result (λ o. IfNone o
+            (AreOneByDot (versions_at self.now.rooms home row.now.key ++ row.now.versions) → ⊥)) }
+        ensures key { IfOk result (λ o. IfSome o (λ m. m.key ≡ row.now.key)) }
+        ensures merged { IfOk result (λ o. IfSome o (λ m. IsSameRow m.versions
+            (merge (versions_at self.now.rooms home row.now.key) row.now.versions))) }
+        ensures memory { IsOkUnless result Fault.OutOfMemory }
+    {
+        let Some(kept) = self.row(home, row.key()) else {
+            let copy = row.try_clone(alloc)?;
+            return Ok(Some(copy));
+        };
+        if !kept.agrees(row) {
+            return Ok(None);
+        }
+        let merged = kept.merged(alloc, row)?;
+        Ok(Some(merged))
+    }
+
+    /// The same of a row that is not needed any more: where none is kept, it is the row itself.
+    pub(crate) fn joined_with(
+        &self,
+        alloc: Global,
+        home: NodeId,
+        row: Row,
+    ) -> Result<Option<Row>, Fault>
+        ensures none { IfOk result (λ o. IfNone o
+            (AreOneByDot (versions_at self.now.rooms home row.key ++ row.versions) → ⊥)) }
+        ensures key { IfOk result (λ o. IfSome o (λ m. m.key ≡ row.key)) }
+        ensures merged { IfOk result (λ o. IfSome o (λ m. IsSameRow m.versions
+            (merge (versions_at self.now.rooms home row.key) row.versions))) }
+        ensures memory { IsOkUnless result Fault.OutOfMemory }
+    {
+        // They are a row's: none of them is past.
+        let _versions = row.versions();
+        if !self.is_kept(home, row.key()) {
+            return Ok(Some(row));
+        }
+        self.joined(alloc, home, &row)
+    }
+
+    /// Puts a row in its place, and tells how to take it back.
+    pub(crate) fn place(&mut self, home: NodeId, row: Row) -> Result<Placed, Fault>
+        ensures rooms { IfOk result (IsPlaced self.old.rooms self.new.rooms home row) }
+        ensures counters { OnOk result (self.new.counters ≡ self.old.counters) }
+        ensures err { OnErr result (self.new ≡ self.old) }
+        ensures memory { IsOkUnless result Fault.OutOfMemory }
+    {
+        if row.is_empty() {
+            return Ok(Placed::Nothing);
+        }
+        if self.is_kept(home, row.key()) {
+            let before = self.replace(home, row);
+            return Ok(Placed::Over(before));
+        }
+        self.put(home, row)?;
+        Ok(Placed::New)
+    }
+
+    /// Merges the row into what is kept for the home, and tells how to take it back. Where a dot is
+    /// that of two versions, nothing is changed. Takes no memory where the row is kept as it is.
+    pub(crate) fn add(&mut self, alloc: Global, home: NodeId, row: &Row) -> Result<Placed, Fault>
+        ensures added { IfOk result (IsAdded self.old.rooms self.new.rooms home row.now) }
+        ensures counters { OnOk result (self.new.counters ≡ self.old.counters) }
+        ensures err { OnErr result (self.new ≡ self.old) }
+        ensures spared { row_kept self.old.rooms home row.now.key ≡ Some row.now → IsOk result }
+        ensures memory { IsOkUnless result Fault.OutOfMemory }
+    {
+        // They are a row's: none of them is past.
+        let _versions = row.versions();
+        if self.has_same(home, row) {
+            return Ok(Placed::Nothing);
+        }
+        let Some(merged) = self.joined(alloc, home, row)? else {
+            return Ok(Placed::Nothing);
+        };
+        let placed = self.place(home, merged)?;
+        Ok(placed)
+    }
+
+    /// Takes back what was put. Takes no memory.
+    pub(crate) fn take_back(&mut self, home: NodeId, key: &Key, placed: Placed)
+        requires { FitsBack self.old.rooms home key.now placed }
+        ensures { self.new ≡
+            record self.old { rooms = taken_back self.old.rooms home key.now placed } }
+    {
+        match placed {
+            Placed::Nothing => {}
+            Placed::New => self.remove(home, key),
+            Placed::Over(before) => {
+                let _row = self.replace(home, before);
+            }
+        }
+    }
+
+    /// Drops one dot from the key's row for another home. Takes no memory.
+    pub(crate) fn drop_hint(&mut self, home: NodeId, key: &Key, dot: Dot)
+        requires { home ≢ self.old.rooms.node }
+        ensures { self.new ≡ record self.old { rooms = with_row self.old.rooms home key.now
+            (without_dots (versions_at self.old.rooms home key.now) (dot ∷ [])) } }
+    {
+        self.hints.remove_dots(home, key, &[dot]);
+    }
+
+    /// Whether the dot stands in a row that is kept for another home. Takes no memory.
+    pub(crate) fn has_hint(&self, home: NodeId, key: &Key, dot: Dot) -> bool
+        ensures { result ≡ stands self.now.rooms home key.now dot }
+    {
+        if home == self.node {
+            return false;
+        }
+        match self.hints.row(home, key) {
+            Some(row) => has_version(row.versions(), dot),
+            None => false,
+        }
+    }
+
+    /// What is kept of the key: the node's own row, and the hints in the order of their homes.
+    pub(crate) fn list_key(&self, alloc: Global, key: &Key) -> Result<Vec<(NodeId, &Row)>, Fault>
+        ensures value { IfOk result
+            (λ rows. map shown rows.items ≡ kept_rows self.now.rooms key.now) }
+        ensures memory { IsOkUnless result Fault.OutOfMemory }
+    {
+        let mut rows = Vec::new(alloc);
+        if let Some(row) = self.own.row(key) {
+            add_row(&mut rows, self.node, row)?;
+        }
+        for number in 0..32 {
+            let home = NodeId::nth(number);
+            if let Some(row) = self.hints.row(home, key) {
+                add_row(&mut rows, home, row)?;
+            }
+        }
+        Ok(rows)
+    }
+
+    /// The rows that are kept for other homes.
+    pub(crate) fn list(&self, alloc: Global) -> Result<Vec<(NodeId, &Row)>, Fault>
+        ensures value { IfOk result (λ hints.
+            map shown hints.items ≡ map home_and_row (maps.entries self.now.rooms.hints)) }
+        ensures memory { IsOkUnless result Fault.OutOfMemory }
+    {
+        self.hints.list(alloc)
+    }
+}
+
+// Whether one of the versions has this dot as its own.
+fn has_version(versions: &[Version], dot: Dot) -> bool
+    ensures { result ≡ has_dot versions.now dot }
+{
+    versions.iter().any(|version| version.dot() == dot)
+}
+
+// Adds the row with its home.
+fn add_row<'a>(
+    rows: &mut Vec<(NodeId, &'a Row)>,
+    home: NodeId,
+    row: &'a Row,
+) -> Result<(), Fault>
+    ensures ok { OnOk result
+        (map shown rows.new.items ≡ map shown rows.old.items ++ (home, row.now) ∷ []) }
+    ensures memory { IsOkUnless result Fault.OutOfMemory }
+{
+    if rows.push((home, row)).is_err() {
+        return Err(Fault::OutOfMemory);
+    }
+    Ok(())
+}
