@@ -1,10 +1,14 @@
-//! Which receipts of a put make a quorum.
+//! Which receipts of a put make a quorum, and which answers of a get are used.
 #![tactic(auto)]
 
+mod gatherings;
 mod laws;
+mod merges;
 mod tallies;
 #[cfg(test)]
 mod tests;
 
-pub use laws::distinct_homes_are_enough;
+pub use gatherings::{GATHERING_ROOM, Gathering};
+pub use laws::{distinct_homes_are_enough, first_answers_are_one_a_home};
+pub use merges::merge_all;
 pub use tallies::{TALLY_ROOM, Tally};

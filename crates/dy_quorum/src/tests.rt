@@ -1,3 +1,4 @@
+mod gets;
 mod scenes;
 mod watched;
 

@@ -1,11 +1,8 @@
 -- How the homes of receipts are counted.
-use Rattle.std.specs.Prelude.{◌≡◌, ◌≤◌, ◌++◌, ◌∷◌, [], List, ℕ, length, map, nat_eq, if◌then◌else◌}
-use Rattle.std.specs.List.{All, AllPairs, Contains, list_any, fold}
+use Rattle.std.specs.Prelude.{◌≡◌, List, ℕ, map}
+use Rattle.std.specs.List.{AllPairs}
 use Rattle.dy_shares.specs.Shares.{ReceiptParts}
-
--- two receipts of distinct homes
-abbrev pub HomesDiffer : ReceiptParts → ReceiptParts → Type 0
-HomesDiffer x y = x.home ≡ y.home → ⊥
+use Rattle.dy_quorum.specs.Firsts.{firsts_by, AreFirstsBy}
 
 -- two receipts of distinct holders
 abbrev pub HoldersDiffer : ReceiptParts → ReceiptParts → Type 0
@@ -15,18 +12,11 @@ HoldersDiffer x y = x.holder ≡ y.holder → ⊥
 abbrev pub receipt_homes : List ReceiptParts → List ℕ
 receipt_homes rs = map (λ r. r.home) rs
 
--- with the receipt at the end, where none of its home is there
-abbrev pub add_first : List ReceiptParts → ReceiptParts → List ReceiptParts
-add_first fs r = if list_any (λ y. nat_eq y r.home) (receipt_homes fs) then fs else fs ++ r ∷ []
-
 -- the first receipt of each home
 abbrev pub firsts : List ReceiptParts → List ReceiptParts
-firsts rs = fold add_first [] rs
+firsts rs = firsts_by (λ r. r.home) rs
 
--- these are the first of each home: among all, of each home, of distinct homes and distinct holders
+-- these are the first of each home, and of distinct holders
 pub record IsCount (rs fs : List ReceiptParts) : Type 0 where
-  pub among : All (λ x. Contains rs x) fs
-  pub cover : All (λ x. Contains (receipt_homes fs) x.home) rs
-  pub homes : AllPairs HomesDiffer fs
+  pub firsts_are : AreFirstsBy (λ r. r.home) rs fs
   pub holders : AllPairs HoldersDiffer fs
-  pub few : length fs ≤ length rs

@@ -12,7 +12,7 @@ use std::marker::Brand;
 
 // A ring of five nodes. The key `a` lies at 0cc1.. (RFC 1321, A.5), so its nodes are 0 to 4, in
 // this order, and the first n are its homes.
-fn five_nodes(alloc: Global, n: u8) -> Result<World, Fault>
+pub fn five_nodes(alloc: Global, n: u8) -> Result<World, Fault>
     ensures nodes { IfOk result (λ world. world.ring.nodes ≡ 5) }
     ensures steps { IfOk result (λ world. world.steps ≡ []) }
 {

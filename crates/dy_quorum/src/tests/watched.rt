@@ -1,11 +1,11 @@
 ghost use Rattle.std.specs.Prelude.{◌≡◌, ◌∷◌, [], None, Some, IfOk, IfSome, IsTrue};
 ghost use Rattle.std.specs.FinSet as set;
-ghost use Rattle.dy_core.specs.declared.steps.Step.TheVariants.{Hold, Issue};
+ghost use Rattle.dy_core.specs.declared.steps.Step.TheVariants.{Fetch, Hold, Issue};
 ghost use Rattle.dy_shares.specs.Shares.{MayFollow, empty_account, node_of, receipt_parts};
 
 use dy_core::{Place, Step, World};
 use dy_dots::{Context, Dot, Fault, NodeId};
-use dy_shares::{Ledger, Naming, NodeShare, Receipt};
+use dy_shares::{Ledger, Naming, NodeShare, Receipt, Seen};
 use dy_siblings::{Key, Row};
 use std::alloc::Global;
 use std::marker::Model;
@@ -53,6 +53,15 @@ fn holding(alloc: Global, place: Place, row: &Row) -> Result<Step, Fault>
     let row = row.try_clone(alloc)?;
     let Place { holder, home } = place;
     Ok(Step::Hold { holder, home, row })
+}
+
+// The row of the key at the place is answered.
+fn fetching(alloc: Global, place: Place, key: &Key) -> Result<Step, Fault>
+    ensures { IfOk result (λ step. step ≡ Fetch place.holder place.home key.now) }
+{
+    let key = key.try_clone(alloc)?;
+    let Place { holder, home } = place;
+    Ok(Step::Fetch { holder, home, key })
 }
 
 // The one step.
@@ -171,6 +180,30 @@ impl<J: Naming> Watched<J> {
         let same = holding(alloc, place, &row)?;
         let _held = self.node_step(alloc, share, step, same)?;
         Ok(self.receipt(key.try_clone(alloc)?, dot, place))
+    }
+
+    // What is answered at the place.
+    pub fn fetch(
+        &mut self,
+        alloc: Global,
+        place: Place,
+        key: &Key,
+    ) -> Result<Option<Seen<J>>, Fault>
+        ensures { IfOk result (λ found. IfSome found (λ seen. seen.key ≡ key.now)) }
+    {
+        if !self.is_whole {
+            return Ok(None);
+        }
+        let Place { holder, home } = place;
+        let step = fetching(alloc, Place { holder, home }, key)?;
+        let same = fetching(alloc, Place { holder, home }, key)?;
+        let of_seen = key.try_clone(alloc)?;
+        self.is_whole = false;
+        let row = self.world.apply(alloc, same)?;
+        self.ledger.fetch_step(step)?;
+        self.is_whole = true;
+        let at = self.ledger.steps().len();
+        Ok(Some(self.ledger.seen(at, place, of_seen, row)))
     }
 
     // A receipt, where the holder covers the dot for the home now.

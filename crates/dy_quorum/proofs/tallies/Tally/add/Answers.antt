@@ -3,7 +3,8 @@ use Rattle.std.proofs.lemmas.List.{length-map}
 use Rattle.dy_shares.specs.Shares.{ReceiptParts}
 use Rattle.dy_quorum.specs.Tallies.{Counted, FitsAll}
 use Rattle.dy_quorum.specs.inside.Counting.{firsts}
-use Rattle.dy_quorum.proofs.Choices.{agree_more, count_push, homes_same, homes_more}
+use Rattle.dy_quorum.proofs.Firsts.{homes_same, homes_more}
+use Rattle.dy_quorum.proofs.Choices.{agree_more, count_push}
 use Rattle.dy_quorum.proofs.tallies.Tally.add.Goals as goal
 use Rattle.dy_quorum.proofs.tallies.Tally.add.Goals.{then-not-contains, else-not-contains}
 
@@ -11,7 +12,8 @@ pub push_reserved-requires : goal.push_reserved-requires
 push_reserved-requires g c =
     let n : length c.self.inside.homes.items ≡ length (firsts c.self.inside.added.items) = ap length c.self.invariant.0 ∙ length-map (firsts c.self.inside.added.items) (λ (r : ReceiptParts). r.home) in
     let i = c.self.invariant.1 in
-    let few = i.few in
+    let f = i.firsts_are in
+    let few = f.few in
     let cap = c.self.invariant.4 in
     let P : Counted → Type 0 = λ t. length t.added < 64 in
     let room : length c.self.inside.added.items < 64 = subst P (sym c.self.view_is) c.requires.room in
@@ -28,7 +30,7 @@ invariant_of-self g c =
     let more : length (c.self.inside.added.items ++ c.args.receipt ∷ []) ≡ length c.self.inside.added.items + 1 = length-append c.self.inside.added.items (c.args.receipt ∷ []) in
     rw (c.push_reserved-2.ensures.items, c.push_reserved-2.ensures.capacity) (elim c.if-not-contains.branch [
       | then-not-contains w ↦ rw (w.self-inside-is)
-          (rw (w.push_reserved.ensures.items, c.home-home.ensures) (homes_more c.self.inside.added.items c.args.receipt _ inv.0 (sym tested ∙ w.if-not-contains.true)), count_push _ _ inv.1 fits, omega arith, inv.3, rw w.push_reserved.ensures.capacity inv.4, inv.5, inv.6, agree_more _ _ inv.7 fits)
+          (rw (w.push_reserved.ensures.items, c.home-home.ensures) (homes_more (λ (r : ReceiptParts). r.home) c.self.inside.added.items c.args.receipt _ inv.0 (sym tested ∙ w.if-not-contains.true)), count_push _ _ inv.1 fits, omega arith, inv.3, rw w.push_reserved.ensures.capacity inv.4, inv.5, inv.6, agree_more _ _ inv.7 fits)
       | else-not-contains w ↦ rw (w.self-inside-is)
-          (homes_same c.self.inside.added.items c.args.receipt _ inv.0 (sym tested ∙ w.if-not-contains.false), count_push _ _ inv.1 fits, omega arith, inv.3, inv.4, inv.5, inv.6, agree_more _ _ inv.7 fits)
+          (homes_same (λ (r : ReceiptParts). r.home) c.self.inside.added.items c.args.receipt _ inv.0 (sym tested ∙ w.if-not-contains.false), count_push _ _ inv.1 fits, omega arith, inv.3, inv.4, inv.5, inv.6, agree_more _ _ inv.7 fits)
     ])
