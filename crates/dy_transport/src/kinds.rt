@@ -1,0 +1,82 @@
+ghost use Rattle.std.specs.Prelude.{◌≡◌, Some};
+ghost use Rattle.dy_transport.specs.Kinds.{fault_number, kind_of, kind_text};
+
+use dy_core::Place;
+use dy_dots::Fault;
+use dy_node::Answer;
+use dy_shares::Naming;
+use std::fmt;
+
+/// What kind of answer it was, without what came with it. It prints as `stored`, `rows`, `down`,
+/// `noanswer`, or the number of the refusal, as `E12`.
+#[derive(Clone, Copy, Debug, PartialEq, Eq)]
+pub enum AnswerKind {
+    Stored,
+    Rows,
+    Down,
+    NoAnswer,
+    Refused(Fault),
+}
+
+impl AnswerKind {
+    /// The kind of an answer. Takes no memory.
+    pub fn of<J: Naming>(answer: &Answer<J>) -> AnswerKind
+        ensures { result ≡ kind_of answer.now }
+    {
+        match answer {
+            Answer::Stored(_) => AnswerKind::Stored,
+            Answer::Rows(_) => AnswerKind::Rows,
+            Answer::Down => AnswerKind::Down,
+            Answer::NoAnswer => AnswerKind::NoAnswer,
+            Answer::Refused(fault) => AnswerKind::Refused(*fault),
+        }
+    }
+}
+
+impl fmt::Display for AnswerKind {
+    ghost output = { λ kind. Some (kind_text kind) };
+
+    fn fmt<W: fmt::Write>(&self, f: &mut fmt::Formatter<W>) -> fmt::Result {
+        match self {
+            AnswerKind::Stored => f.write_str("stored"),
+            AnswerKind::Rows => f.write_str("rows"),
+            AnswerKind::Down => f.write_str("down"),
+            AnswerKind::NoAnswer => f.write_str("noanswer"),
+            AnswerKind::Refused(fault) => write!(f, "E{}", number_of(*fault)),
+        }
+    }
+}
+
+// The number that the text of a refusal begins with.
+fn number_of(fault: Fault) -> u8
+    ensures { result ≡ fault_number fault }
+{
+    match fault {
+        Fault::OutOfMemory => 0,
+        Fault::ContextSyntax => 1,
+        Fault::KeySize => 2,
+        Fault::ValueSize => 3,
+        Fault::TokenClash { position: _ } => 4,
+        Fault::NodeWithoutToken { node: _ } => 5,
+        Fault::TooMany => 6,
+        Fault::CounterFull => 7,
+        Fault::ContextUnknown { dot: _ } => 8,
+        Fault::VersionsFull => 9,
+        Fault::NotIssued { dot: _ } => 10,
+        Fault::SharesMissing => 11,
+        Fault::StepsFull => 12,
+        Fault::Down => 13,
+        Fault::NoNode => 14,
+        Fault::NotEnough => 15,
+        Fault::BadQuorum => 16,
+        Fault::ScriptSyntax { command: _ } => 17,
+        Fault::UnknownCommand { command: _ } => 18,
+    }
+}
+
+/// An answer as a call lists it: who answered for which home, and what kind of answer it was.
+#[derive(Clone, Copy, Debug, PartialEq, Eq)]
+pub struct AnswerRead {
+    pub place: Place,
+    pub kind: AnswerKind,
+}

@@ -1,0 +1,23 @@
+//! What carries the messages of one put, get, repair or pass, and tells what was done.
+#![tactic(auto)]
+
+mod asked;
+mod directs;
+mod kinds;
+mod lines;
+mod replies;
+mod snapshots;
+#[cfg(test)]
+mod tests;
+mod trails;
+mod transports;
+mod tries;
+
+pub use asked::{Asked, What};
+pub use directs::Direct;
+pub use kinds::{AnswerKind, AnswerRead};
+pub use lines::{Line, Waiting};
+pub use replies::Reply;
+pub use trails::Trail;
+pub use transports::{SPARE_TRIES, Transport};
+pub use tries::Try;

@@ -1,0 +1,166 @@
+ghost use Rattle.std.specs.Prelude.{◌≡◌, ◌<◌, ◌+◌, ◌*◌, ◌^◌, ◌++◌, ◌∷◌, [], ℕ, length, IfNone};
+ghost use Rattle.std.specs.Prelude.{IfOk, IfSome, IsOkUnless};
+ghost use Rattle.dy_node.specs.declared.asks.Answer.TheVariants.{NoAnswer};
+ghost use Rattle.dy_transport.specs.Asking.{IsAnswerTo};
+ghost use Rattle.dy_transport.specs.Lines.{IsReadNext, later_for, nothing_in_line, waiting_for};
+ghost use Rattle.dy_transport.specs.Lines.{with_told};
+ghost use Rattle.dy_transport.specs.Told.{with_ask, with_none, with_reply, with_try};
+ghost use Rattle.dy_transport.specs.Told.{AllAnswered, Answers, IsAwaited};
+ghost use Rattle.dy_transport.specs.declared.transports.TheConstants.{SPARE_TRIES};
+
+use crate::asked::home_asked;
+use crate::trails::Trail;
+use crate::tries::Try;
+use dy_dots::{Fault, NodeId};
+use dy_node::{Answer, Ask};
+use dy_shares::Naming;
+use std::alloc::Global;
+use std::collections::VecDeque;
+use std::marker::Model;
+
+/// An answer that nobody has read yet: the number of its ask, from 0, the node asked, the home, and
+/// what is answered.
+#[derive(Drop)]
+pub struct Waiting<J: Naming> {
+    pub number: usize,
+    pub node: NodeId,
+    pub home: NodeId,
+    pub answer: Answer<J>,
+}
+
+/// Answers in line behind what is told: the first ones in the order of the asks, and the second
+/// ones after all first ones. It takes no lock and no thread, so a transport of any kind can stand
+/// on it.
+#[derive(Drop)]
+pub struct Line<J: Naming> {
+    trail: Trail<J>,
+    first: VecDeque<Waiting<J>>,
+    second: VecDeque<Waiting<J>>,
+}
+
+impl<J: Naming> Model for Line<J> {
+    ghost use Rattle.std.specs.Prelude.{◌≤◌};
+    ghost use Rattle.std.specs.VecDeque.{deque_capacity};
+    ghost use Rattle.std.specs.Coded.{codes};
+    ghost use Rattle.dy_dots.specs.Dots.{dot_set_code};
+    ghost use Rattle.dy_siblings.specs.Siblings.{siblings_code};
+    ghost use Rattle.dy_shares.specs.Shares.{answer_code, receipt_parts_code as receipt_code};
+    ghost use Rattle.dy_transport.specs.Lines.{LineParts};
+    ghost use Rattle.dy_transport.specs.inside.Lines.{IsLine};
+
+    ghost Value = { LineParts J };
+
+    ghost coded = { Prim.hlevel (codes, dot_set_code, siblings_code, receipt_code, answer_code) };
+
+    ghost view = { λ l.
+        record { told = l.trail; first = l.first.items; second = l.second.items } };
+
+    ghost invariant = { λ l.
+        IsLine l.trail.asks l.trail.room l.trail.replies l.first.items l.second.items
+        × (l.trail.room ≤ deque_capacity l.first) × (l.trail.room ≤ deque_capacity l.second) };
+}
+
+impl<J: Naming> Line<J> {
+    /// A line of nothing, with room for so many asks, two answers to each, and the tries.
+    pub fn new(alloc: Global, room: usize) -> Result<Line<J>, Fault>
+        requires { room < 2 ^ 32 }
+        ensures ok { IfOk result (λ line. line ≡ nothing_in_line room) }
+        ensures memory { IsOkUnless result Fault.OutOfMemory }
+    {
+        let trail = Trail::new(alloc, room)?;
+        let first = VecDeque::with_capacity(alloc, room)?;
+        let second = VecDeque::with_capacity(alloc, room)?;
+        Ok(Line {
+            trail,
+            first,
+            second,
+        })
+    }
+
+    /// For how many asks there is room. Takes no memory.
+    pub fn room(&self) -> usize
+        ensures { result ≡ self.now.told.room }
+    {
+        self.trail.room()
+    }
+
+    /// Tells of a try. Takes no memory.
+    pub fn note_try(&mut self, tried: Try<J>)
+        requires { length self.old.told.tries < self.old.told.room + SPARE_TRIES }
+        ensures { self.new ≡ with_told self.old (with_try self.old.told tried) }
+    {
+        self.trail.note_try(tried);
+    }
+
+    /// Tells of an ask, and puts its answers in line: one, or a first that nothing came and a later
+    /// one. Takes no memory.
+    pub fn put(&mut self, to: NodeId, ask: &Ask<'_, J>, answer: Answer<J>, later: Option<Answer<J>>)
+        requires room { length self.old.told.asks < self.old.told.room }
+        requires first { IsAnswerTo to ask.now answer }
+        requires second { IfSome later (λ second. IsAnswerTo to ask.now second) }
+        requires awaited { IfSome later (λ _. answer ≡ NoAnswer) }
+        ensures told { self.new.told ≡ with_ask self.old.told to ask.now }
+        ensures first_ones { self.new.first ≡ self.old.first
+            ++ waiting_for (length self.old.told.asks) to ask.now answer ∷ [] }
+        ensures second_ones { self.new.second ≡ self.old.second
+            ++ later_for (length self.old.told.asks) to ask.now later }
+    {
+        let number = self.trail.ask_count();
+        let home = home_asked(ask);
+        self.trail.note_ask(to, ask);
+        self.first.push_back_reserved(Waiting {
+            number,
+            node: to,
+            home,
+            answer,
+        });
+        if let Some(answer) = later {
+            self.second.push_back_reserved(Waiting {
+                number,
+                node: to,
+                home,
+                answer,
+            });
+        }
+    }
+
+    /// Reads the next answer: the node, the home and what it answered; none where none is left.
+    /// Takes no memory.
+    pub fn next(&mut self) -> Option<(NodeId, NodeId, Answer<J>)>
+        ensures next { IsReadNext self.old.told self.old.first self.old.second result self.new }
+        ensures none { IfNone result (AllAnswered self.new.told) }
+        ensures some { IfSome result (λ r. (number : ℕ)
+            × (self.new.told ≡ with_reply self.old.told number r.0 r.1 r.2)
+            × Answers self.old.told.asks number r.0 r.1 r.2
+            × IsAwaited self.old.told.replies number) }
+        ensures drained { IfNone result (self.new.told ≡ with_none self.old.told) }
+        ensures within { IfSome result
+            (λ _. length self.old.told.replies < 2 * length self.old.told.asks) }
+    {
+        if let Some(waiting) = self.first.pop_front() {
+            return Some(read(&mut self.trail, waiting));
+        }
+        if let Some(waiting) = self.second.pop_front() {
+            return Some(read(&mut self.trail, waiting));
+        }
+        self.trail.note_none();
+        None
+    }
+}
+
+// Tells of an answer, and hands it on.
+fn read<J: Naming>(trail: &mut Trail<J>, waiting: Waiting<J>) -> (NodeId, NodeId, Answer<J>)
+    requires { length trail.old.replies < 2 * trail.old.room }
+    ensures told { trail.new
+        ≡ with_reply trail.old waiting.number waiting.node waiting.home waiting.answer }
+    ensures same { result ≡ (waiting.node, waiting.home, waiting.answer) }
+{
+    let Waiting {
+        number,
+        node,
+        home,
+        answer,
+    } = waiting;
+    trail.note_reply(number, node, home, &answer);
+    (node, home, answer)
+}

@@ -1,0 +1,14 @@
+use dy_dots::NodeId;
+use dy_node::Answer;
+use dy_shares::Naming;
+use std::snapshot::Snapshot;
+
+/// An answer that was read: the number of its ask, from 0, the node asked, the home, and what was
+/// answered, which stands here for contracts alone.
+#[derive(Drop)]
+pub struct Reply<J: Naming> {
+    pub number: usize,
+    pub node: NodeId,
+    pub home: NodeId,
+    pub answer: Snapshot<Answer<J>>,
+}

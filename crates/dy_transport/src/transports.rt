@@ -1,0 +1,127 @@
+ghost use Rattle.std.specs.Prelude.{◌≡◌, ◌<◌, ◌≤◌, ◌+◌, ◌*◌, ℕ, ◌∷◌, [], List, length, map, nat_eq};
+ghost use Rattle.std.specs.Prelude.{IsTrue, IfOk, IfErr, OnOk, OnErr, IfNone, IfSome};
+ghost use Rattle.std.specs.List.{All, IsDistinct};
+ghost use Rattle.dy_dots.specs.declared.dots.Dot.{Dot as DotParts};
+ghost use Rattle.dy_preference.specs.Preferences.{homes_of, may_hold};
+ghost use Rattle.dy_core.specs.declared.steps.Step.TheVariants.{Ack};
+ghost use Rattle.dy_shares.specs.Shares.{with_ack};
+ghost use Rattle.dy_book.specs.Books.{AreOf};
+ghost use Rattle.dy_node.specs.Answers.{MayAsk};
+ghost use Rattle.dy_transport.specs.Snapshots.{snapshot_of};
+ghost use Rattle.dy_transport.specs.Asking.{IsBegun, IsSeenAt};
+ghost use Rattle.dy_transport.specs.Refusals.{IsOfBegin, IsOfNode, IsOfOffer, IsOfStep};
+ghost use Rattle.dy_transport.specs.Told.{Told, with_try, with_ask, with_none, with_reply};
+ghost use Rattle.dy_transport.specs.Told.{Answers, AllAnswered, IsAwaited};
+ghost use Rattle.dy_transport.specs.declared.tries.Try.TheVariants.{Begin, Look, Offer, Settle};
+ghost use Rattle.dy_transport.specs.declared.transports.TheConstants.{SPARE_TRIES};
+
+use dy_dots::{Context, Fault, NodeId};
+use dy_node::{Answer, Ask, Begun};
+use dy_shares::{Naming, Receipt, Seen, SessionShare, Since};
+use dy_siblings::{Key, Row, Value};
+use std::sync::Wait;
+
+/// For how many tries there is room beyond those for asks.
+pub const SPARE_TRIES: usize = 32;
+
+/// What carries the messages of one put, get, repair or pass (Dynamo, section 4.5): it reaches the
+/// nodes and the book, and tells what was tried, asked and answered.
+pub trait Transport<J: Naming> {
+    ghost told: { Self → Told J };
+
+    /// For how many asks, with two answers each, it was made. Takes no memory.
+    fn room(&self) -> usize
+        ensures { result ≡ (told self.now).room };
+
+    /// Begins a put at a node for a home. May wait for locks.
+    fn begin<R: Wait>(
+        &mut self,
+        rt: &R,
+        node: NodeId,
+        home: NodeId,
+        key: &Key,
+        context: &Context,
+        value: &Option<Value>,
+    ) -> Result<Begun<J>, Fault>
+        requires room { length (told self.old).tries < (told self.old).room + SPARE_TRIES }
+        requires may_hold { IsTrue (may_hold (homes_of J.ring J.n key.now) node home) }
+        ensures begun { IfOk result (λ b. IsBegun node home key.now value.now b) }
+        ensures refused { IfErr result IsOfBegin }
+        ensures told { told self.new ≡ with_try (told self.old)
+            (Begin node home (snapshot_of key.now) (snapshot_of context.now)
+            (snapshot_of value.now) (snapshot_of result)) };
+
+    /// Fetches at a node what it keeps of the key for a home. May wait for locks.
+    fn look<R: Wait>(
+        &mut self,
+        rt: &R,
+        node: NodeId,
+        home: NodeId,
+        key: &Key,
+        since: &Since<J>,
+    ) -> Result<Seen<J>, Fault>
+        requires { length (told self.old).tries < (told self.old).room + SPARE_TRIES }
+        ensures seen { IfOk result (λ s. IsSeenAt node home key.now since.now s) }
+        ensures refused { IfErr result IsOfNode }
+        ensures told { told self.new ≡ with_try (told self.old)
+            (Look node home (snapshot_of key.now) since.now (snapshot_of result)) };
+
+    /// Lists the hints of a node, each with the home that it is for. May wait for a lock.
+    fn offer<R: Wait>(&mut self, rt: &R, node: NodeId) -> Result<Vec<(NodeId, Row)>, Fault>
+        requires { length (told self.old).tries < (told self.old).room + SPARE_TRIES }
+        ensures refused { IfErr result IsOfOffer }
+        ensures told { told self.new ≡ with_try (told self.old) (Offer node (snapshot_of result)) };
+
+    /// Lets a node give up what these receipts of homes name, and tells how many dots it gave up.
+    /// May wait for locks.
+    fn settle<R: Wait>(
+        &mut self,
+        rt: &R,
+        node: NodeId,
+        receipts: &Vec<Receipt<J>>,
+    ) -> Result<usize, Fault>
+        requires room { length (told self.old).tries < (told self.old).room + SPARE_TRIES }
+        requires homes { All (λ r. r.holder ≡ r.home) receipts.now.items }
+        ensures refused { IfErr result IsOfNode }
+        ensures told { told self.new ≡ with_try (told self.old)
+            (Settle node (snapshot_of receipts.now) (snapshot_of result)) };
+
+    /// Asks a node. An ask that cannot be sent is answered all the same. May wait for locks.
+    fn ask<R: Wait>(&mut self, rt: &R, to: NodeId, ask: &Ask<'_, J>)
+        requires room { length (told self.old).asks < (told self.old).room }
+        requires may_ask { MayAsk J.ring J.n to ask.now }
+        ensures { told self.new ≡ with_ask (told self.old) to ask.now };
+
+    /// The next answer: the node, the home and what it answered; none where none is outstanding.
+    /// May wait for an answer. Takes no memory.
+    fn next_reply<R: Wait>(&mut self, rt: &R) -> Option<(NodeId, NodeId, Answer<J>)>
+        ensures none { IfNone result
+            ((told self.new ≡ with_none (told self.old)) × AllAnswered (told self.new)) }
+        ensures some { IfSome result (λ r. (number : ℕ)
+            × (told self.new ≡ with_reply (told self.old) number r.0 r.1 r.2)
+            × Answers (told self.old).asks number r.0 r.1 r.2
+            × IsAwaited (told self.old).replies number) }
+        ensures within { IfSome result
+            (λ _. length (told self.old).replies < 2 * length (told self.old).asks) };
+
+    /// Acknowledges the dot of these receipts, of as many homes as the put named, and tells the
+    /// session. May wait for a lock.
+    fn record<R: Wait>(
+        &mut self,
+        rt: &R,
+        session: &mut SessionShare<J>,
+        w: u8,
+        receipts: &[Receipt<J>],
+    ) -> Result<(), Fault>
+        requires some { 1 ≤ w }
+        requires few { w ≤ J.n }
+        requires count { length receipts.now ≡ w }
+        requires one_dot { (key : List ℕ) × (d : DotParts) × AreOf key d receipts.now }
+        requires homes { IsDistinct nat_eq (map (λ r. r.home) receipts.now) }
+        requires holders { IsDistinct nat_eq (map (λ r. r.holder) receipts.now) }
+        ensures told { told self.new ≡ told self.old }
+        ensures ok { (key : List ℕ) (d : DotParts) → AreOf key d receipts.now →
+            OnOk result ((at : ℕ) × (session.new ≡ with_ack session.old at (Ack key d w))) }
+        ensures err { OnErr result (session.new ≡ session.old) }
+        ensures refused { IfErr result IsOfStep };
+}
