@@ -1,0 +1,2 @@
+pub mod Getting
+pub mod Holders

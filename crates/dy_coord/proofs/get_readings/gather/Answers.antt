@@ -1,0 +1,99 @@
+-- There is room for all that may be asked and read, and what was read is the coordinator's own row
+-- and what the replies bring.
+use Rattle.std.proofs.Common.{◌≡◌, ◌<◌, ◌≤◌, ◌+◌, ◌++◌, ◌∷◌, [], ℕ, List, length, arith, sym, ◌∙◌}
+use Rattle.std.proofs.Common.{refl, ap, subst}
+use Rattle.std.proofs.lemmas.List.Elements.{All-cons}
+use Rattle.std.specs.List.{All}
+use Rattle.dy_preference.specs.Preferences.{home_for, stand_ins_of}
+use Rattle.dy_core.specs.Logs.{Answer}
+use Rattle.dy_transport.specs.Snapshots.{snapshot_of}
+use Rattle.dy_transport.specs.declared.asked.Asked.{Asked}
+use Rattle.dy_transport.specs.declared.asked.What.TheVariants.{Fetch}
+use Rattle.dy_reads.specs.Lists.{homes_in}
+use Rattle.dy_reads.specs.Rules.{home_asks}
+use Rattle.dy_reads.proofs.Lists.{few_asked, all_home_whats, all_used}
+use Rattle.dy_coord.specs.Gets.{seens_of}
+use Rattle.dy_coord.proofs.Getting.{IsLaterOf, seens_fit}
+use Rattle.dy_coord.proofs.get_readings.gather.Goals as goal
+
+pub ask_homes-requires-clause-room : goal.ask_homes-requires-clause-room
+ask_homes-requires-clause-room g c =
+    let p = c.requires.valid in
+    let few : length c.args.list.now.nodes ≤ 32 = p.few in
+    let enough = p.enough in
+    let room : 32 ≤ (g.T.Transport.told c.args.transport.now).room = c.requires.room in
+    rw c.requires.fresh_asks (omega arith)
+
+pub read_rows-requires-clause-room : goal.read_rows-requires-clause-room
+read_rows-requires-clause-room g c =
+    let what = Fetch (snapshot_of c.args.key.now) c.args.since.now in
+    let few : length (home_asks what (home_for (homes_in c.args.list.now) c.args.coordinator)
+    (homes_in c.args.list.now))
+    + length (stand_ins_of c.args.list.now.nodes c.args.list.now.n c.args.coordinator) < 32 =
+    few_asked c.args.list.now what c.args.coordinator c.requires.valid in
+    let room : 32 ≤ (g.T.Transport.told c.args.transport.now).room = c.requires.room in
+    rw (
+      c.ask_homes.ensures.room,
+      c.ask_homes.ensures.asks,
+      c.requires.fresh_asks,
+      c.home_for-held.ensures.value,
+      c.new-assign.ensures.value,
+    ) (omega arith)
+
+pub read_rows-requires-clause-few : goal.read_rows-requires-clause-few
+read_rows-requires-clause-few g c =
+    let what = Fetch (snapshot_of c.args.key.now) c.args.since.now in
+    let few = few_asked c.args.list.now what c.args.coordinator c.requires.valid in
+    rw (
+      c.ask_homes.ensures.asks,
+      c.requires.fresh_asks,
+      c.home_for-held.ensures.value,
+      c.new-assign.ensures.value,
+    ) few
+
+pub read_rows-requires-clause-whats : goal.read_rows-requires-clause-whats
+read_rows-requires-clause-whats g c =
+    let what = Fetch (snapshot_of c.args.key.now) c.args.since.now in
+    let list = c.args.list.now in
+    let P : List Asked → Type 0 = λ xs. All (λ a. a.what ≡ what) xs in
+    let is : (g.T.Transport.told c.ask_homes.new.transport).asks
+    ≡ home_asks what c.home_for-held.result (homes_in list) =
+    c.ask_homes.ensures.asks ∙ rw c.requires.fresh_asks refl in
+    subst P (sym is) (all_home_whats what c.home_for-held.result (homes_in list))
+
+pub returns-clause-collects : goal.returns-clause-collects
+returns-clause-collects g c =
+    let told = g.T.Transport.told c.read_rows.new.transport in
+    let key = c.args.key.now in
+    let since = c.args.since.now in
+    let what = Fetch (snapshot_of key) since in
+    let list = c.args.list.now in
+    let co = c.args.coordinator in
+    let own : Answer = c.args.own in
+    let is : (g.T.Transport.told c.ask_homes.new.transport).asks
+    ≡ home_asks what (home_for (homes_in list) co) (homes_in list) =
+    c.ask_homes.ensures.asks
+    ∙ rw (c.requires.fresh_asks, c.home_for-held.ensures.value) refl in
+    let reading = rw (is, c.new-assign.ensures.value) at c.read_rows.ensures.reading in
+    let seens = c.read_rows.ensures.seens ∙ rw (c.add.ensures, c.requires.none) refl in
+    let fit : All (IsLaterOf key since) (own ∷ seens_of told.replies) =
+    All-cons (IsLaterOf key since) own (seens_of told.replies)
+    (c.requires.own.key_is, c.requires.own.later)
+    (seens_fit key since told.asks told.replies reading.whats reading.known) in
+    let r = ap (λ t. t.r) c.add.ensures in
+    record {
+      asks = ap (λ p. p.0) reading.so_far;
+      seens_are = seens;
+      answers_are = c.read_rows.ensures.answers
+          ∙ rw (
+            c.push_reserved.ensures.items,
+            c.requires.no_answers,
+            c.home_for-held.ensures.value,
+          ) refl;
+      of_key = rw seens (λ k d lt. (fit k d lt).0);
+      later = rw seens (λ k d lt. (fit k d lt).1);
+      most = rw r at c.read_rows.ensures.most;
+      stops = rw (c.add.ensures, c.requires.none) at c.read_rows.ensures.stops;
+      out = λ lt. (let o = c.read_rows.ensures.out (rw r lt) in
+          (o, all_used list what co told c.read_rows.new.assign reading o.1));
+    }

@@ -1,0 +1,27 @@
+use Rattle.std.proofs.Common.{◌≡◌, ◌≤◌, ◌+◌, ◌++◌, ◌∷◌, length, map, vec_len, vec_capacity}
+use Rattle.dy_shares.specs.Shares.{receipt_parts}
+use Rattle.dy_transport.specs.Snapshots.{snapshot_of}
+use Rattle.dy_transport.specs.declared.asked.What.TheVariants.{Store}
+use Rattle.dy_reads.specs.Rules.{HasRead, MayStandIn, as_read}
+use Rattle.dy_coord.specs.Puts.{receipts_read}
+use Rattle.dy_coord.proofs.put_reads.read_put.Given as goal
+
+abbrev pub invariant-reading : goal.invariant-reading
+invariant-reading g l =
+    let told = g.T.Transport.told l.transport in
+    let start = g.T.Transport.told l.initial.transport in
+    record {
+      reading : HasRead (Store (snapshot_of l.row)) start.asks l.initial.assign told.asks
+          told.replies
+          l.assign;
+      may_ask : MayStandIn g.J.Naming.ring g.J.Naming.n l.request told.asks l.assign;
+      room : told.room ≡ start.room;
+      tries : told.tries ≡ start.tries;
+      added : l.tally.added ≡ receipt_parts l.row.key l.dot l.fn.coordinator l.fn.held ∷
+          receipts_read l.row.key l.dot told.replies;
+      count : length l.tally.added ≤ 1 + length told.replies;
+      w : l.tally.w ≡ l.initial.tally.w;
+      answers : l.answers.items ≡ l.initial.answers.items ++ map as_read told.replies;
+      answers_len : vec_len l.answers ≡ vec_len l.initial.answers + length told.replies;
+      answers_room : vec_capacity l.answers ≡ vec_capacity l.initial.answers;
+    }

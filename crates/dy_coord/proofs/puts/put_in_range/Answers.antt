@@ -1,0 +1,99 @@
+-- What was begun is spread, and then it is decided: the pieces of one put are put together.
+use Rattle.std.proofs.Common.{◌≡◌, ℕ, List, sym, ◌∙◌, refl, subst, inl, inr}
+use Rattle.dy_preference.specs.Preferences.{home_for, preference_of}
+use Rattle.dy_shares.specs.Shares.{ReceiptParts, receipt_parts}
+use Rattle.dy_book.specs.Books.{AreOf}
+use Rattle.dy_reads.specs.Lists.{homes_in}
+use Rattle.dy_coord.proofs.Holders.{all_of_one, dot_in}
+use Rattle.dy_coord.proofs.puts.put_in_range.Goals as goal
+
+pub returns-in-Err : goal.returns-in-Err
+returns-in-Err g c = inr (
+  refl,
+  c.requires.fresh_asks,
+  c.requires.fresh_replies,
+  (
+    c.early.result,
+    refl,
+    c.early.ensures.dot,
+    c.early.ensures.answers,
+    inl (
+      c.early.ensures.fault
+          ∙ c.in-Err.ensures.memory,
+      c.requires.fresh_tries,
+    ),
+  ),
+)
+
+pub returns-in-NoNode : goal.returns-in-NoNode
+returns-in-NoNode g c =
+    let l = c.in-NoNode.ensures in
+    inr (
+      refl,
+      l.asks ∙ c.requires.fresh_asks,
+      l.replies ∙ c.requires.fresh_replies,
+      (
+        c.early-in-NoNode.result,
+        refl,
+        c.early-in-NoNode.ensures.dot,
+        c.early-in-NoNode.ensures.answers,
+        inr (inl (c.early-in-NoNode.ensures.fault, l.tries)),
+      ),
+    )
+
+pub returns-in-Refused : goal.returns-in-Refused
+returns-in-Refused g c =
+    let l = c.in-Refused.ensures in
+    inr (
+      refl,
+      l.asks ∙ c.requires.fresh_asks,
+      l.replies ∙ c.requires.fresh_replies,
+      (
+        c.early-in-Refused.result,
+        refl,
+        c.early-in-Refused.ensures.dot,
+        c.early-in-Refused.ensures.answers,
+        inr (inr (rw c.early-in-Refused.ensures.fault l.tries)),
+      ),
+    )
+
+-- the row that was begun has a version of the dot
+pub spread-requires-clause-dot : goal.spread-requires-clause-dot
+spread-requires-clause-dot g c = let b = c.in-At.ensures.begun in
+    dot_in c.in-At.begun.dot c.in-At.begun.row.versions b.version b.in_row b.dot_is
+
+-- it is of the put's key
+pub spread-requires-clause-nodes : goal.spread-requires-clause-nodes
+spread-requires-clause-nodes g c =
+    let P : List ℕ → Type 0 = λ k. c.args.list.now.nodes ≡ preference_of g.J.Naming.ring k in
+    subst P (sym c.in-At.ensures.begun.key_is) c.requires.nodes
+
+pub spread-requires-clause-own : goal.spread-requires-clause-own
+spread-requires-clause-own g c =
+    let b = c.in-At.ensures.begun in
+    let P : List ℕ → Type 0 = λ k. c.in-At.begun.receipt ≡ receipt_parts k c.in-At.begun.dot
+    c.in-At.c (home_for (homes_in c.args.list.now) c.in-At.c) in
+    subst P (sym b.key_is) b.receipt_is
+
+-- so are all receipts
+pub conclude-requires-clause-of_one : goal.conclude-requires-clause-of_one
+conclude-requires-clause-of_one g c =
+    let P : List ReceiptParts → Type 0 = λ xs. AreOf c.in-At.begun.row.key c.in-At.begun.dot xs in
+    let Q : List ℕ → Type 0 = λ k. AreOf k c.in-At.begun.dot c.spread.new.tally.added in
+    subst Q c.in-At.ensures.begun.key_is (subst P (sym c.spread.ensures.spreads.added_are)
+    (all_of_one c.in-At.begun.row.key c.in-At.begun.dot (home_for (homes_in c.args.list.now)
+    c.in-At.c) c.in-At.c (g.T.Transport.told c.spread.new.transport).replies))
+
+pub returns-in-At : goal.returns-in-At
+returns-in-At g c = inl (
+  c.in-At.c,
+  c.in-At.begun,
+  record {
+    added = c.spread.new.tally.added;
+    answers = c.spread.new.answers.items;
+    tries = rw (c.conclude.ensures.told, c.spread.ensures.tries) c.in-At.ensures.tries;
+    begun_is = c.in-At.ensures.begun;
+    spreads = rw c.conclude.ensures.told c.spread.ensures.spreads;
+    ends = c.conclude.ensures.ends;
+  },
+)

@@ -1,0 +1,113 @@
+-- From the homes on: those asked and those left are few and all different, may hold, and are asked
+-- for one row; so a put reads until nothing is left, by the rule.
+use Rattle.std.proofs.Common.{◌≡◌, ◌++◌, ◌∷◌, ℕ, List, nat_eq, arith, sym, ◌∙◌, refl, ap, subst}
+use Rattle.std.specs.List.{All, IsDistinct}
+use Rattle.dy_preference.specs.Preferences.{home_for, stand_ins_of}
+use Rattle.dy_transport.specs.Snapshots.{snapshot_of}
+use Rattle.dy_transport.specs.declared.asked.Asked.{Asked}
+use Rattle.dy_transport.specs.declared.asked.What.TheVariants.{Store}
+use Rattle.dy_reads.specs.Lists.{homes_in}
+use Rattle.dy_reads.specs.Rules.{home_asks, nodes_asked, MayStandIn}
+use Rattle.dy_reads.specs.declared.requests.Request.TheVariants as request
+use Rattle.dy_reads.proofs.Lists.{few_asked, apart_asked, all_home_whats, all_used}
+use Rattle.dy_reads.proofs.Allowed.{homes_may, stand_ins_may}
+use Rattle.dy_coord.proofs.puts.spread.Goals as goal
+
+pub ask_homes-requires-clause-room : goal.ask_homes-requires-clause-room
+ask_homes-requires-clause-room g c =
+    let few = c.requires.valid.few in
+    let enough = c.requires.valid.enough in
+    let room = c.requires.room in
+    rw c.requires.fresh_asks (omega arith)
+
+pub ask_homes-requires-clause-may_ask : goal.ask_homes-requires-clause-may_ask
+ask_homes-requires-clause-may_ask g c =
+    homes_may {J = g.row.J.Denot} g.J.Naming.ring g.J.Naming.n (request.Store c.args.row)
+    c.args.list.now (c.requires.nodes, c.requires.homes)
+
+pub read_put-requires-clause-room : goal.read_put-requires-clause-room
+read_put-requires-clause-room g c =
+    let few = few_asked c.args.list.now (Store (snapshot_of c.args.row.now)) c.args.coordinator
+    c.requires.valid in
+    let room = c.requires.room in
+    rw (
+      c.ask_homes.ensures.room,
+      c.ask_homes.ensures.asks,
+      c.requires.fresh_asks,
+      c.home_for-held.ensures.value,
+      c.new-assign.ensures.value,
+    ) (omega arith)
+
+pub read_put-requires-clause-few : goal.read_put-requires-clause-few
+read_put-requires-clause-few g c =
+    let few = few_asked c.args.list.now (Store (snapshot_of c.args.row.now)) c.args.coordinator
+    c.requires.valid in
+    rw (
+      c.ask_homes.ensures.asks,
+      c.requires.fresh_asks,
+      c.home_for-held.ensures.value,
+      c.new-assign.ensures.value,
+    ) few
+
+pub read_put-requires-clause-whats : goal.read_put-requires-clause-whats
+read_put-requires-clause-whats g c =
+    let P : List Asked → Type 0 = λ xs. All (λ a. a.what ≡ Store (snapshot_of c.args.row.now)) xs in
+    let is : (g.T.Transport.told c.ask_homes.new.transport).asks ≡ home_asks
+    (Store (snapshot_of c.args.row.now)) c.home_for-held.result (homes_in c.args.list.now) =
+    c.ask_homes.ensures.asks ∙ rw c.requires.fresh_asks refl in
+    subst P (sym is) (all_home_whats (Store (snapshot_of c.args.row.now)) c.home_for-held.result
+    (homes_in c.args.list.now))
+
+pub read_put-requires-clause-may_ask : goal.read_put-requires-clause-may_ask
+read_put-requires-clause-may_ask g c =
+    let list = c.args.list.now in
+    let co = c.args.coordinator in
+    let P : List Asked → Type 0 = λ xs. MayStandIn {J = g.row.J.Denot} g.J.Naming.ring g.J.Naming.n
+    (request.Store c.args.row) xs (stand_ins_of list.nodes list.n co) in
+    let Q : List ℕ → Type 0 = λ ss. MayStandIn {J = g.row.J.Denot} g.J.Naming.ring g.J.Naming.n
+    (request.Store c.args.row) (g.T.Transport.told c.ask_homes.new.transport).asks ss in
+    let is : (g.T.Transport.told c.ask_homes.new.transport).asks ≡ home_asks
+    (Store (snapshot_of c.args.row.now)) c.home_for-held.result (homes_in list) =
+    c.ask_homes.ensures.asks ∙ rw c.requires.fresh_asks refl in
+    subst Q (sym c.new-assign.ensures.value) (subst P (sym is)
+    (stand_ins_may {J = g.row.J.Denot} g.J.Naming.ring g.J.Naming.n (request.Store c.args.row)
+    (Store (snapshot_of c.args.row.now)) c.home_for-held.result co list c.requires.valid
+    (c.requires.nodes, c.requires.homes)))
+
+pub read_put-requires-clause-apart : goal.read_put-requires-clause-apart
+read_put-requires-clause-apart g c =
+    let list = c.args.list.now in
+    let co = c.args.coordinator in
+    let is : (g.T.Transport.told c.ask_homes.new.transport).asks ≡ home_asks
+    (Store (snapshot_of c.args.row.now)) (home_for (homes_in list) co) (homes_in list) =
+    c.ask_homes.ensures.asks ∙ rw (c.requires.fresh_asks, c.home_for-held.ensures.value) refl in
+    let P : List Asked → Type 0 = λ xs. IsDistinct nat_eq (co ∷ nodes_asked xs ++ stand_ins_of
+    list.nodes list.n co) in
+    let Q : List ℕ → Type 0 = λ ss. IsDistinct nat_eq (co ∷ nodes_asked (g.T.Transport.told
+    c.ask_homes.new.transport).asks ++ ss) in
+    subst Q (sym c.new-assign.ensures.value) (subst P (sym is) (apart_asked list
+    (Store (snapshot_of c.args.row.now)) co c.requires.valid))
+
+pub returns-clause-spreads : goal.returns-clause-spreads
+returns-clause-spreads g c =
+    let told = g.T.Transport.told c.read_put.new.transport in
+    let list = c.args.list.now in
+    let co = c.args.coordinator in
+    let is : (g.T.Transport.told c.ask_homes.new.transport).asks ≡ home_asks
+    (Store (snapshot_of c.args.row.now)) (home_for (homes_in list) co) (homes_in list) =
+    c.ask_homes.ensures.asks ∙ rw (c.requires.fresh_asks, c.home_for-held.ensures.value) refl in
+    let reading = rw (is, c.new-assign.ensures.value) at c.read_put.ensures.reading in
+    let out = c.read_put.ensures.out in
+    record {
+      asks = ap (λ p. p.0) reading.so_far;
+      out = out;
+      used = all_used list (Store (snapshot_of c.args.row.now)) co told c.read_put.new.assign
+          reading
+          out.1;
+      added_are = rw c.home_for-held.ensures.value at c.read_put.ensures.added;
+      answers_are = c.read_put.ensures.answers ∙ rw (
+        c.push_reserved.ensures.items,
+        c.requires.no_answers,
+        c.home_for-held.ensures.value,
+      ) refl;
+    }

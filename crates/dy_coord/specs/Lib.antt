@@ -1,0 +1,4 @@
+pub mod Gets
+pub mod Puts
+pub mod PutEnds
+pub mod inside

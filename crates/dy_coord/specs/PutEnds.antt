@@ -1,0 +1,89 @@
+-- How a put ends.
+use Rattle.std.specs.Prelude.{◌≡◌, ◌<◌, ◌≤◌, ◌⊎◌, [], List, ℕ, Option, Some, None}
+use Rattle.std.specs.Prelude.{Result, Ok, Err}
+use Rattle.dy_dots.specs.Dots.{DotSet}
+use Rattle.dy_dots.specs.declared.dots.Dot.{Dot}
+use Rattle.dy_dots.specs.declared.faults.Fault.{Fault}
+use Rattle.dy_dots.specs.declared.faults.Fault.TheVariants.{OutOfMemory, NoNode, NotEnough}
+use Rattle.dy_dots.specs.declared.faults.Fault.TheVariants.{BadQuorum}
+use Rattle.dy_preference.specs.Preferences.{Preferred, home_for}
+use Rattle.dy_core.specs.declared.steps.Step.TheVariants.{Ack}
+use Rattle.dy_shares.specs.Shares.{ReceiptParts, SessionPart, with_ack}
+use Rattle.dy_quorum.specs.Tallies.{CanChoose}
+use Rattle.dy_node.specs.declared.begun.Begun.{Begun}
+use Rattle.dy_transport.specs.Asking.{IsBegun}
+use Rattle.dy_transport.specs.Refusals.{IsOfBegin, IsOfStep}
+use Rattle.dy_transport.specs.Told.{Told}
+use Rattle.dy_transport.specs.declared.kinds.AnswerRead.{AnswerRead}
+use Rattle.dy_reads.specs.Lists.{homes_in}
+use Rattle.dy_reads.specs.Tries.{TriesRefused, TriesAt, begin_try, downs}
+use Rattle.dy_coord.specs.Puts.{Spreads}
+use Rattle.dy_coord.specs.declared.put_results.PutDone.{PutDone}
+use Rattle.dy_coord.specs.declared.put_results.PutFault.{PutFault}
+
+-- refused with this dot, and with these answers, for such a reason
+abbrev pub PutRefuses : Result PutDone PutFault → Option Dot → List AnswerRead → (Fault → Type 0)
+    → Type 0
+PutRefuses result dot answers IsReason =
+    (e : PutFault) × (result ≡ Err e) × (e.dot ≡ dot) × (e.answers.items ≡ answers)
+    × IsReason e.fault
+
+-- Ok with this dot and these answers, and the session was told one ack more, of the key and the
+-- dot, with the number of homes that was named
+pub record Acknowledges (key : List ℕ) (dot : Dot) (w : ℕ) (answers : List AnswerRead)
+    (before after : SessionPart) (result : Result PutDone PutFault) : Type 0 where
+  pub done : PutDone
+  pub result_is : result ≡ Ok done
+  pub dot_is : done.dot ≡ dot
+  pub answers_are : done.answers.items ≡ answers
+  pub at : ℕ
+  pub told : after ≡ with_ack before at (Ack key dot w)
+
+-- a put that began: where w receipts of distinct homes and distinct holders can be chosen it is
+-- acknowledged, or the step of the ack is refused; where not, there are not enough
+abbrev pub EndsAfter : List ℕ → Dot → ℕ → List ReceiptParts → List AnswerRead
+    → SessionPart → SessionPart → Result PutDone PutFault → Type 0
+EndsAfter key dot w added answers before after result =
+    (CanChoose w added × Acknowledges key dot w answers before after result)
+    ⊎ (CanChoose w added × (after ≡ before) × PutRefuses result (Some dot) answers IsOfStep)
+    ⊎ ((CanChoose w added → ⊥) × (after ≡ before)
+    × PutRefuses result (Some dot) answers (λ f. f ≡ NotEnough))
+
+module _ {J : Type 0} where
+  -- what began at a coordinator: the first node that was not down made the version, for the home
+  -- that it holds for; its whole row was asked to be held; and how it ended
+  pub record IsPut (list : Preferred) (w : ℕ) (key : List ℕ) (context : DotSet)
+      (value : Option (List ℕ)) (before after : SessionPart) (told : Told J)
+      (result : Result PutDone PutFault) (c : ℕ) (begun : Begun J) : Type 0 where
+    pub added : List ReceiptParts
+    pub answers : List AnswerRead
+    pub tries : TriesAt (begin_try list key context value) list.nodes told.tries c (Ok begun)
+    pub begun_is : IsBegun c (home_for (homes_in list) c) key value begun
+    pub spreads : Spreads list begun.row begun.dot c told added answers
+    pub ends : EndsAfter key begun.dot w added answers before after result
+
+  -- why a put asked nobody: want of memory before the first try, every node down, or what a begin
+  -- was refused for
+  abbrev pub EndsEarly : Preferred → List ℕ → DotSet → Option (List ℕ) → Told J → Fault → Type 0
+  EndsEarly list key context value told f =
+      ((f ≡ OutOfMemory) × (told.tries ≡ []))
+      ⊎ ((f ≡ NoNode) × (told.tries ≡ downs (begin_try list key context value) list.nodes))
+      ⊎ TriesRefused (begin_try list key context value) IsOfBegin list.nodes told.tries f
+
+  -- a put that named a number of homes that there are: it began, or it asked nobody, made no
+  -- version and told the session nothing
+  abbrev pub PutRuns : Preferred → ℕ → List ℕ → DotSet → Option (List ℕ)
+      → SessionPart → SessionPart → Told J → Result PutDone PutFault → Type 0
+  PutRuns list w key context value before after told result =
+      ((c : ℕ) × (begun : Begun J)
+      × IsPut list w key context value before after told result c begun)
+      ⊎ ((after ≡ before) × (told.asks ≡ []) × (told.replies ≡ [])
+      × PutRefuses result None [] (EndsEarly list key context value told))
+
+  -- any number of homes but 1 to n is refused before anybody is tried or asked
+  abbrev pub PutEnds : Preferred → ℕ → List ℕ → DotSet → Option (List ℕ)
+      → SessionPart → SessionPart → Told J → Told J → Result PutDone PutFault → Type 0
+  PutEnds list w key context value before after old new result =
+      ((1 ≤ w) × (w ≤ list.n) × PutRuns list w key context value before after new result)
+      ⊎ (((w ≡ 0) ⊎ (list.n < w)) × (after ≡ before) × (new ≡ old)
+      × PutRefuses result None [] (λ f. f ≡ BadQuorum))

@@ -1,0 +1,79 @@
+ghost use Rattle.std.specs.Prelude.{◌≡◌, ◌<◌, ◌≤◌, ℕ, List, length, map};
+ghost use Rattle.std.specs.Prelude.{IfOk, IfErr, OnOk, OnErr, IsOkUnless};
+ghost use Rattle.std.specs.List.{All};
+ghost use Rattle.dy_siblings.specs.Siblings.{IsSameRow, context_of, newest};
+ghost use Rattle.dy_core.specs.Logs.{rows_of};
+ghost use Rattle.dy_shares.specs.Shares.{since_of, with_get};
+ghost use Rattle.dy_quorum.specs.Gatherings.{first_answers};
+ghost use Rattle.dy_coord.specs.inside.GetParts.{Finishes};
+
+use crate::get_dones::GetDone;
+use crate::get_faults::GetFault;
+use dy_dots::{Context, Fault};
+use dy_quorum::{Gathering, merge_all};
+use dy_shares::{Naming, SessionShare};
+use dy_siblings::Row;
+use dy_transport::AnswerRead;
+use std::alloc::Global;
+
+// Merges the rows of the first answer of each home, and tells the session of these.
+fn tell<J: Naming>(
+    alloc: Global,
+    gathering: &Gathering<J>,
+    session: &mut SessionShare<J>,
+) -> Result<(Row, Context), Fault>
+    requires some { 1 ≤ J.r }
+    requires count { length (first_answers gathering.now.seens) ≡ J.r }
+    requires one_key { (key : List ℕ) × All (λ a. a.key ≡ key) gathering.now.seens }
+    requires later { All (λ a. since_of session.old < a.at) gathering.now.seens }
+    ensures row { IfOk result (λ p.
+        IsSameRow p.0.versions (newest (rows_of (first_answers gathering.now.seens)))) }
+    ensures key { (key : List ℕ) → All (λ a. a.key ≡ key) gathering.now.seens →
+        IfOk result (λ p. p.0.key ≡ key) }
+    ensures context { IfOk result (λ p. p.1 ≡ context_of p.0.versions) }
+    ensures told { OnOk result (session.new ≡
+        with_get session.old (since_of session.old) (first_answers gathering.now.seens)) }
+    ensures err { OnErr result (session.new ≡ session.old) }
+    ensures memory { IsOkUnless result Fault.OutOfMemory }
+{
+    let chosen = gathering.chosen(alloc)?;
+    let row = merge_all(alloc, chosen.as_slice())?;
+    let context = row.context(alloc)?;
+    session.note_get(chosen)?;
+    Ok((row, context))
+}
+
+/// Ends a get that r homes answered.
+pub(crate) fn finish<J: Naming>(
+    alloc: Global,
+    gathering: Gathering<J>,
+    answers: Vec<AnswerRead>,
+    session: &mut SessionShare<J>,
+) -> Result<GetDone<J>, GetFault>
+    requires some { 1 ≤ J.r }
+    requires count { length (first_answers gathering.seens) ≡ J.r }
+    requires one_key { (key : List ℕ) × All (λ a. a.key ≡ key) gathering.seens }
+    requires later { All (λ a. since_of session.old < a.at) gathering.seens }
+    ensures ok { IfOk result (λ done. Finishes gathering.seens answers.items done) }
+    ensures key { (key : List ℕ) → All (λ a. a.key ≡ key) gathering.seens →
+        IfOk result (λ done. done.row.key ≡ key) }
+    ensures told { OnOk result (session.new ≡
+        with_get session.old (since_of session.old) (first_answers gathering.seens)) }
+    ensures err { OnErr result (session.new ≡ session.old) }
+    ensures memory { IfErr result (λ e. e.fault ≡ Fault.OutOfMemory) }
+    ensures listed { IfErr result (λ e. e.answers.items ≡ answers.items) }
+{
+    match tell(alloc, &gathering, session) {
+        Ok((row, context)) => {
+            let (seen, from) = gathering.into_parts();
+            Ok(GetDone {
+                row,
+                context,
+                from,
+                seen,
+                answers,
+            })
+        }
+        Err(fault) => Err(GetFault { fault, answers }),
+    }
+}

@@ -1,0 +1,25 @@
+ghost use Rattle.std.specs.Prelude.{◌≡◌, []};
+
+use dy_dots::Fault;
+use dy_transport::AnswerRead;
+use std::alloc::Global;
+
+/// A get that was refused, with each answer that was read.
+#[derive(Drop)]
+pub struct GetFault {
+    pub fault: Fault,
+    pub answers: Vec<AnswerRead>,
+}
+
+impl GetFault {
+    // A refusal before anything was read.
+    pub(crate) fn early(alloc: Global, fault: Fault) -> GetFault
+        ensures fault { result.fault ≡ fault }
+        ensures answers { result.answers.items ≡ [] }
+    {
+        GetFault {
+            fault,
+            answers: Vec::new(alloc),
+        }
+    }
+}

@@ -1,0 +1,125 @@
+ghost use Rattle.std.specs.Prelude.{◌≡◌, ◌<◌, ◌≤◌, ◌+◌, ◌*◌, ℕ, [], ◌∷◌, ◌++◌, map, length};
+ghost use Rattle.std.specs.Prelude.{vec_len, vec_capacity, IfNone, IfSome};
+ghost use Rattle.std.specs.List.{All};
+ghost use Rattle.dy_dots.specs.declared.nodes.TheConstants.{MAX_NODES};
+ghost use Rattle.dy_preference.specs.Preferences.{IsPreferred, home_for};
+ghost use Rattle.dy_quorum.specs.Gatherings.{first_answers};
+ghost use Rattle.dy_transport.specs.Asking.{IsSeenAt};
+ghost use Rattle.dy_transport.specs.Snapshots.{snapshot_of};
+ghost use Rattle.dy_transport.specs.Told.{Told};
+ghost use Rattle.dy_transport.specs.declared.asked.What.TheVariants.{Fetch};
+ghost use Rattle.dy_reads.specs.Lists.{homes_in};
+ghost use Rattle.dy_reads.specs.Rules.{IsReadOut, HasRead, as_read};
+ghost use Rattle.dy_coord.specs.Gets.{StopsSoon, seen_in, seens_of};
+ghost use Rattle.dy_coord.specs.inside.GetParts.{Collects};
+ghost use Rattle.dy_coord.specs.declared.put_reads.TheConstants.{MAX_ANSWERS};
+
+use dy_core::Place;
+use dy_dots::NodeId;
+use dy_node::Answer;
+use dy_preference::{Assign, Preference};
+use dy_quorum::Gathering;
+use dy_reads::{Request, ask_homes, read_next};
+use dy_shares::{Naming, Seen, Since};
+use dy_siblings::Key;
+use dy_transport::{AnswerKind, AnswerRead, Transport};
+use std::sync::Wait;
+
+// The row in an answer, where it is one of rows.
+fn seen_of<J: Naming>(answer: Answer<J>) -> Option<Seen<J>>
+    ensures some { IfSome result (λ seen. seen_in answer ≡ seen ∷ []) }
+    ensures none { IfNone result (seen_in answer ≡ []) }
+{
+    match answer {
+        Answer::Rows(seen) => Some(seen),
+        Answer::Stored(_receipts) => None,
+        Answer::Down | Answer::NoAnswer | Answer::Refused(_) => None,
+    }
+}
+
+// Reads until enough homes have answered with a row, or no answer is left.
+fn read_rows<J: Naming, T: Transport<J>, R: Wait>(
+    rt: &R,
+    transport: &mut T,
+    key: &Key,
+    since: &Since<J>,
+    assign: &mut Assign<'_>,
+    gathering: &mut Gathering<J>,
+    answers: &mut Vec<AnswerRead>,
+)
+    requires fresh { (T.told transport.old).replies ≡ [] }
+    requires room { length (T.told transport.old).asks + length assign.old
+        ≤ (T.told transport.old).room }
+    requires few { length (T.told transport.old).asks + length assign.old < MAX_NODES }
+    requires answers_room { vec_len answers.old + MAX_ANSWERS ≤ vec_capacity answers.old + 1 }
+    requires one { length gathering.old.seens ≡ 1 }
+    requires r { length (first_answers gathering.old.seens) ≤ gathering.old.r }
+    requires whats { All (λ a. a.what ≡ Fetch (snapshot_of key.now) since.now)
+        (T.told transport.old).asks }
+    ensures reading { HasRead (Fetch (snapshot_of key.now) since.now) (T.told transport.old).asks
+        assign.old (T.told transport.new).asks (T.told transport.new).replies assign.new }
+    ensures tries { (T.told transport.new).tries ≡ (T.told transport.old).tries }
+    ensures seens { gathering.new.seens
+        ≡ gathering.old.seens ++ seens_of (T.told transport.new).replies }
+    ensures r { gathering.new.r ≡ gathering.old.r }
+    ensures answers { answers.new.items
+        ≡ answers.old.items ++ map as_read (T.told transport.new).replies }
+    ensures most { length (first_answers gathering.new.seens) ≤ gathering.old.r }
+    ensures stops { StopsSoon gathering.old.r gathering.old.seens (T.told transport.new).replies }
+    ensures out { length (first_answers gathering.new.seens) < gathering.old.r →
+        IsReadOut (T.told transport.new) }
+{
+    let request = Request::Fetch { key, since };
+    'reading: for _ in rt.forever() {
+        if gathering.is_ready() {
+            break;
+        }
+        let Some((_, _, answer)) = read_next(rt, transport, &request, assign, answers) else {
+            break;
+        };
+        if let Some(seen) = seen_of(answer) {
+            gathering.add(seen);
+        }
+    }
+}
+
+/// Asks the homes, and reads until enough of them have answered with a row.
+pub(crate) fn gather<J: Naming, T: Transport<J>, R: Wait>(
+    rt: &R,
+    transport: &mut T,
+    list: &Preference,
+    key: &Key,
+    since: &Since<J>,
+    coordinator: NodeId,
+    own: Seen<J>,
+    gathering: &mut Gathering<J>,
+    answers: &mut Vec<AnswerRead>,
+)
+    requires valid { IsPreferred list.now }
+    requires fresh_asks { (T.told transport.old).asks ≡ [] }
+    requires fresh_replies { (T.told transport.old).replies ≡ [] }
+    requires room { MAX_NODES ≤ (T.told transport.old).room }
+    requires own { IsSeenAt coordinator (home_for (homes_in list.now) coordinator)
+        key.now since.now own }
+    requires none { gathering.old.seens ≡ [] }
+    requires r { 1 ≤ gathering.old.r }
+    requires no_answers { answers.old.items ≡ [] }
+    requires answers_room { MAX_ANSWERS ≤ vec_capacity answers.old }
+    ensures collects { Collects list.now key.now gathering.old.r since.now coordinator own
+        (T.told transport.new) gathering.new.seens answers.new.items }
+    ensures tries { (T.told transport.new).tries ≡ (T.told transport.old).tries }
+    ensures r { gathering.new.r ≡ gathering.old.r }
+{
+    let held = list.home_for(coordinator);
+    answers.push_reserved(AnswerRead {
+        place: Place {
+            holder: coordinator,
+            home: held,
+        },
+        kind: AnswerKind::Rows,
+    });
+    gathering.add(own);
+    ask_homes(rt, transport, &Request::Fetch { key, since }, held, list);
+    let mut assign = Assign::new(list, coordinator);
+    read_rows(rt, transport, key, since, &mut assign, gathering, answers);
+}

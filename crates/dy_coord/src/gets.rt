@@ -1,0 +1,96 @@
+ghost use Rattle.std.specs.Prelude.{◌≡◌, ◌≤◌, [], IfOk, IfErr, OnErr, IsOkUnless, vec_capacity};
+ghost use Rattle.dy_dots.specs.declared.nodes.TheConstants.{MAX_NODES};
+ghost use Rattle.dy_preference.specs.Preferences.{preference_of};
+ghost use Rattle.dy_shares.specs.Shares.{since_of, with_get};
+ghost use Rattle.dy_quorum.specs.Gatherings.{first_answers};
+ghost use Rattle.dy_transport.specs.Told.{Told};
+ghost use Rattle.dy_coord.specs.Gets.{IsGetRefused, IsGot};
+ghost use Rattle.dy_coord.specs.declared.put_reads.TheConstants.{MAX_ANSWERS};
+
+use crate::get_dones::GetDone;
+use crate::get_endings::finish;
+use crate::get_faults::GetFault;
+use crate::get_readings::gather;
+use crate::put_reads::MAX_ANSWERS;
+use dy_dots::Fault;
+use dy_preference::Preference;
+use dy_quorum::Gathering;
+use dy_reads::{Somewhere, look_somewhere};
+use dy_shares::{Naming, SessionShare};
+use dy_siblings::Key;
+use dy_transport::{AnswerRead, Transport};
+use std::alloc::Global;
+use std::sync::Wait;
+
+// What is made before the first try.
+fn prepare<J: Naming>(alloc: Global, r: u8) -> Result<(Vec<AnswerRead>, Gathering<J>), Fault>
+    ensures none { IfOk result (λ p. p.0.items ≡ []) }
+    ensures room { IfOk result (λ p. MAX_ANSWERS ≤ vec_capacity p.0) }
+    ensures empty { IfOk result (λ p. p.1 ≡ record { r = r; seens = [] }) }
+    ensures memory { IsOkUnless result Fault.OutOfMemory }
+{
+    let answers = Vec::with_capacity(alloc, MAX_ANSWERS)?;
+    let gathering = Gathering::new(alloc, r as usize)?;
+    Ok((answers, gathering))
+}
+
+/// A get (Dynamo, section 4.5): looks at the first node of the list that is not down, asks each
+/// home, reads until r homes have answered with a row, by themselves or by a node that stands in,
+/// and tells the session. A refusal leaves the session as it was. May wait for locks and answers.
+pub fn get<J: Naming, T: Transport<J>, R: Wait>(
+    rt: &R,
+    alloc: Global,
+    transport: &mut T,
+    list: &Preference,
+    r: u8,
+    session: &mut SessionShare<J>,
+    key: &Key,
+) -> Result<GetDone<J>, GetFault>
+    requires nodes { list.now.nodes ≡ preference_of J.ring key.now }
+    requires homes { list.now.n ≡ J.n }
+    requires fresh_tries { (T.told transport.old).tries ≡ [] }
+    requires fresh_asks { (T.told transport.old).asks ≡ [] }
+    requires fresh_replies { (T.told transport.old).replies ≡ [] }
+    requires room { MAX_NODES ≤ (T.told transport.old).room }
+    requires some { 1 ≤ r }
+    requires r { r ≡ J.r }
+    ensures ok { IfOk result (λ done.
+        IsGot list.now key.now J.r (since_of session.old) (T.told transport.new) done) }
+    ensures told { IfOk result (λ done. session.new ≡
+        with_get session.old (since_of session.old) (first_answers done.seen.items)) }
+    ensures err { OnErr result (session.new ≡ session.old) }
+    ensures refused { IfErr result (λ e.
+        IsGetRefused list.now key.now J.r (since_of session.old) (T.told transport.new) e) }
+{
+    let (mut answers, mut gathering) = match prepare(alloc, r) {
+        Ok(made) => made,
+        Err(fault) => return Err(GetFault::early(alloc, fault)),
+    };
+    // A list has no more nodes than there is room for.
+    let _nodes = list.nodes();
+    let since = session.since();
+    match look_somewhere(rt, transport, list, key, &since) {
+        Somewhere::At(c, own) => {
+            gather(
+                rt,
+                transport,
+                list,
+                key,
+                &since,
+                c,
+                own,
+                &mut gathering,
+                &mut answers,
+            );
+            if !gathering.is_ready() {
+                return Err(GetFault {
+                    fault: Fault::NotEnough,
+                    answers,
+                });
+            }
+            finish(alloc, gathering, answers, session)
+        }
+        Somewhere::NoNode => Err(GetFault::early(alloc, Fault::NoNode)),
+        Somewhere::Refused(fault) => Err(GetFault::early(alloc, fault)),
+    }
+}

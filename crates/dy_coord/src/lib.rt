@@ -1,0 +1,17 @@
+//! Puts and gets, over whatever carries messages.
+#![tactic(auto)]
+
+mod get_dones;
+mod get_endings;
+mod get_faults;
+mod get_readings;
+mod gets;
+mod put_reads;
+mod put_results;
+mod puts;
+
+pub use get_dones::GetDone;
+pub use get_faults::GetFault;
+pub use gets::get;
+pub use put_results::{PutDone, PutFault};
+pub use puts::put;

@@ -1,0 +1,107 @@
+ghost use Rattle.std.specs.Prelude.{◌≡◌, ◌<◌, ◌≤◌, ◌+◌, ◌++◌, [], ◌∷◌, ℕ, IsTrue, length, map};
+ghost use Rattle.std.specs.Prelude.{nat_eq, vec_capacity, vec_len};
+ghost use Rattle.std.specs.List.{All, IsDistinct};
+ghost use Rattle.dy_dots.specs.Dots.{same_dot};
+ghost use Rattle.dy_dots.specs.declared.nodes.TheConstants.{MAX_NODES};
+ghost use Rattle.dy_siblings.specs.Siblings.{has_dot};
+ghost use Rattle.dy_shares.specs.Shares.{receipt_parts};
+ghost use Rattle.dy_transport.specs.Snapshots.{snapshot_of};
+ghost use Rattle.dy_transport.specs.Told.{Told};
+ghost use Rattle.dy_transport.specs.declared.asked.What.TheVariants as what;
+ghost use Rattle.dy_reads.specs.Rules.{HasRead, IsReadOut, MayStandIn, as_read, nodes_asked};
+ghost use Rattle.dy_reads.specs.declared.requests.Request.TheVariants as request;
+ghost use Rattle.dy_coord.specs.Puts.{receipts_read};
+ghost use Rattle.dy_coord.specs.inside.PutReads.{first_of, receipt_at};
+ghost use Rattle.dy_coord.specs.declared.put_reads.TheConstants.{MAX_ANSWERS};
+
+use dy_dots::{Dot, NodeId};
+use dy_node::Answer;
+use dy_preference::Assign;
+use dy_quorum::Tally;
+use dy_reads::{Request, read_next};
+use dy_shares::{Naming, Receipt};
+use dy_siblings::Row;
+use dy_transport::{AnswerRead, Transport};
+use std::sync::Wait;
+
+// How many answers a put, or a get, reads at most: its own, and two of each other node.
+pub(crate) const MAX_ANSWERS: usize = 63;
+
+// Whether the receipt is of the dot.
+fn is_of<J: Naming>(receipt: &Receipt<J>, dot: Dot) -> bool
+    ensures { result ≡ same_dot receipt.now.dot dot }
+{
+    receipt.dot() == dot
+}
+
+// The first of these receipts that is of the dot.
+fn receipt_of_dot<J: Naming>(receipts: Vec<Receipt<J>>, dot: Dot) -> Option<Receipt<J>>
+    ensures { result ≡ first_of dot receipts.items }
+{
+    for receipt in receipts {
+        if is_of(&receipt, dot) {
+            return Some(receipt);
+        }
+    }
+    None
+}
+
+// The receipt of the dot in an answer, where it holds the row.
+fn receipt_in<J: Naming>(answer: Answer<J>, dot: Dot) -> Option<Receipt<J>>
+    ensures { result ≡ receipt_at dot answer }
+{
+    match answer {
+        Answer::Stored(receipts) => receipt_of_dot(receipts, dot),
+        Answer::Rows(_seen) => None,
+        Answer::Down | Answer::NoAnswer | Answer::Refused(_) => None,
+    }
+}
+
+// Reads every answer, and adds the receipt of each node that holds the row.
+pub(crate) fn read_put<J: Naming, T: Transport<J>, R: Wait>(
+    rt: &R,
+    transport: &mut T,
+    row: &Row,
+    dot: Dot,
+    coordinator: NodeId,
+    held: NodeId,
+    assign: &mut Assign<'_>,
+    tally: &mut Tally<J>,
+    answers: &mut Vec<AnswerRead>,
+)
+    requires fresh { (T.told transport.old).replies ≡ [] }
+    requires room { length (T.told transport.old).asks + length assign.old
+        ≤ (T.told transport.old).room }
+    requires few { length (T.told transport.old).asks + length assign.old < MAX_NODES }
+    requires answers_room { vec_len answers.old + MAX_ANSWERS ≤ vec_capacity answers.old + 1 }
+    requires dot { IsTrue (has_dot row.now.versions dot) }
+    requires one_key { All (λ v. v.key ≡ row.now.key) row.now.versions }
+    requires own { tally.old.added ≡ receipt_parts row.now.key dot coordinator held ∷ [] }
+    requires whats { All (λ a. a.what ≡ what.Store (snapshot_of row.now))
+        (T.told transport.old).asks }
+    requires may_ask { MayStandIn {J = J} J.ring J.n (request.Store row)
+        (T.told transport.old).asks assign.old }
+    requires apart { IsDistinct nat_eq
+        (coordinator ∷ nodes_asked (T.told transport.old).asks ++ assign.old) }
+    ensures reading { HasRead (what.Store (snapshot_of row.now))
+        (T.told transport.old).asks assign.old
+        (T.told transport.new).asks (T.told transport.new).replies assign.new }
+    ensures tries { (T.told transport.new).tries ≡ (T.told transport.old).tries }
+    ensures added { tally.new.added ≡ receipt_parts row.now.key dot coordinator held
+        ∷ receipts_read row.now.key dot (T.told transport.new).replies }
+    ensures w { tally.new.w ≡ tally.old.w }
+    ensures answers { answers.new.items
+        ≡ answers.old.items ++ map as_read (T.told transport.new).replies }
+    ensures out { IsReadOut (T.told transport.new) }
+{
+    let _ = (coordinator, held);
+    let request = Request::Store(row);
+    'reading: for _ in rt.forever() {
+        let Some((_, _, answer)) = read_next(rt, transport, &request, assign, answers) else {
+            break;
+        };
+        if let Some(receipt) = receipt_in(answer, dot) {
+            tally.add(receipt);
+        }
+    }
+}

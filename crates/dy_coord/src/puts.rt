@@ -1,0 +1,211 @@
+ghost use Rattle.std.specs.Prelude.{◌≡◌, ◌≤◌, [], ℕ, IsTrue, IfOk, IsOkUnless, vec_capacity};
+ghost use Rattle.dy_dots.specs.declared.faults.Fault.TheVariants as Fault;
+ghost use Rattle.dy_dots.specs.declared.nodes.TheConstants.{MAX_NODES};
+ghost use Rattle.dy_siblings.specs.Siblings.{has_dot};
+ghost use Rattle.dy_preference.specs.Preferences.{IsPreferred, home_for, preference_of};
+ghost use Rattle.dy_shares.specs.Shares.{receipt_parts};
+ghost use Rattle.dy_book.specs.Books.{AreOf};
+ghost use Rattle.dy_transport.specs.Told.{Told};
+ghost use Rattle.dy_reads.specs.Lists.{homes_in};
+ghost use Rattle.dy_coord.specs.Puts.{Spreads};
+ghost use Rattle.dy_coord.specs.PutEnds.{EndsAfter, PutEnds, PutRuns};
+ghost use Rattle.dy_coord.specs.declared.put_reads.TheConstants.{MAX_ANSWERS};
+
+use crate::put_reads::{MAX_ANSWERS, read_put};
+use crate::put_results::{PutDone, PutFault};
+use dy_core::Place;
+use dy_dots::{Context, Dot, Fault, NodeId};
+use dy_node::Begun;
+use dy_preference::{Assign, Preference};
+use dy_quorum::Tally;
+use dy_reads::{Request, Somewhere, ask_homes, begin_somewhere};
+use dy_shares::{Naming, Receipt, SessionShare};
+use dy_siblings::{Key, Row, Value};
+use dy_transport::{AnswerKind, AnswerRead, Transport};
+use std::alloc::Global;
+use std::sync::Wait;
+
+// What is made before the first try.
+fn prepare<J: Naming>(alloc: Global, w: u8) -> Result<(Vec<AnswerRead>, Tally<J>), Fault>
+    ensures ok { IfOk result (λ p. (p.0.items ≡ []) × (MAX_ANSWERS ≤ vec_capacity p.0)
+        × (p.1 ≡ record { w = w; added = [] })) }
+    ensures memory { IsOkUnless result Fault.OutOfMemory }
+{
+    let answers = Vec::with_capacity(alloc, MAX_ANSWERS)?;
+    let tally = Tally::new(alloc, w as usize)?;
+    Ok((answers, tally))
+}
+
+// Asks the homes, and reads every answer.
+fn spread<J: Naming, T: Transport<J>, R: Wait>(
+    rt: &R,
+    transport: &mut T,
+    list: &Preference,
+    coordinator: NodeId,
+    row: &Row,
+    dot: Dot,
+    own: Receipt<J>,
+    tally: &mut Tally<J>,
+    answers: &mut Vec<AnswerRead>,
+)
+    requires fresh_asks { (T.told transport.old).asks ≡ [] }
+    requires fresh_replies { (T.told transport.old).replies ≡ [] }
+    requires room { MAX_NODES ≤ (T.told transport.old).room }
+    requires valid { IsPreferred list.now }
+    requires nodes { list.now.nodes ≡ preference_of J.ring row.now.key }
+    requires homes { list.now.n ≡ J.n }
+    requires dot { IsTrue (has_dot row.now.versions dot) }
+    requires own { own
+        ≡ receipt_parts row.now.key dot coordinator (home_for (homes_in list.now) coordinator) }
+    requires none { tally.old.added ≡ [] }
+    requires no_answers { answers.old.items ≡ [] }
+    requires answers_room { MAX_ANSWERS ≤ vec_capacity answers.old }
+    ensures spreads { Spreads list.now row.now dot coordinator
+        (T.told transport.new) tally.new.added answers.new.items }
+    ensures tries { (T.told transport.new).tries ≡ (T.told transport.old).tries }
+    ensures w { tally.new.w ≡ tally.old.w }
+{
+    let _versions = row.versions();
+    let held = list.home_for(coordinator);
+    answers.push_reserved(AnswerRead {
+        place: Place {
+            holder: coordinator,
+            home: held,
+        },
+        kind: AnswerKind::Stored,
+    });
+    tally.add(own);
+    ask_homes(rt, transport, &Request::Store(row), held, list);
+    let mut assign = Assign::new(list, coordinator);
+    read_put(
+        rt,
+        transport,
+        row,
+        dot,
+        coordinator,
+        held,
+        &mut assign,
+        tally,
+        answers,
+    );
+}
+
+// Decides, after every answer was read.
+fn conclude<J: Naming, T: Transport<J>, R: Wait>(
+    rt: &R,
+    transport: &mut T,
+    key: &Key,
+    dot: Dot,
+    w: u8,
+    tally: Tally<J>,
+    answers: Vec<AnswerRead>,
+    session: &mut SessionShare<J>,
+) -> Result<PutDone, PutFault>
+    requires some { 1 ≤ w }
+    requires few { w ≤ J.n }
+    requires w { tally.w ≡ w }
+    requires of_one { AreOf key.now dot tally.added }
+    ensures told { T.told transport.new ≡ T.told transport.old }
+    ensures ends { EndsAfter key.now dot w tally.added answers.items
+        session.old session.new result }
+{
+    let _ = key;
+    if !tally.ready() {
+        return Err(PutFault {
+            fault: Fault::NotEnough,
+            dot: Some(dot),
+            answers,
+        });
+    }
+    let receipts = tally.into_receipts();
+    match transport.record(rt, session, w, &receipts) {
+        Ok(()) => Ok(PutDone { dot, answers }),
+        Err(fault) => Err(PutFault {
+            fault,
+            dot: Some(dot),
+            answers,
+        }),
+    }
+}
+
+// A put that named a number of homes that there are.
+fn put_in_range<J: Naming, T: Transport<J>, R: Wait>(
+    rt: &R,
+    alloc: Global,
+    transport: &mut T,
+    list: &Preference,
+    w: u8,
+    session: &mut SessionShare<J>,
+    key: &Key,
+    context: &Context,
+    value: &Option<Value>,
+) -> Result<PutDone, PutFault>
+    requires fresh_tries { (T.told transport.old).tries ≡ [] }
+    requires fresh_asks { (T.told transport.old).asks ≡ [] }
+    requires fresh_replies { (T.told transport.old).replies ≡ [] }
+    requires room { MAX_NODES ≤ (T.told transport.old).room }
+    requires valid { IsPreferred list.now }
+    requires nodes { list.now.nodes ≡ preference_of J.ring key.now }
+    requires homes { list.now.n ≡ J.n }
+    requires some { 1 ≤ w }
+    requires few { w ≤ list.now.n }
+    ensures { PutRuns {J = J} list.now w key.now context.now value.now
+        session.old session.new (T.told transport.new) result }
+{
+    let (mut answers, mut tally) = match prepare(alloc, w) {
+        Ok(made) => made,
+        Err(fault) => return Err(PutFault::early(alloc, fault)),
+    };
+    match begin_somewhere(rt, transport, list, key, context, value) {
+        Somewhere::At(c, begun) => {
+            let Begun { dot, row, receipt } = begun;
+            spread(
+                rt,
+                transport,
+                list,
+                c,
+                &row,
+                dot,
+                receipt,
+                &mut tally,
+                &mut answers,
+            );
+            conclude(rt, transport, key, dot, w, tally, answers, session)
+        }
+        Somewhere::NoNode => Err(PutFault::early(alloc, Fault::NoNode)),
+        Somewhere::Refused(fault) => Err(PutFault::early(alloc, fault)),
+    }
+}
+
+/// A put (Dynamo, sections 4.5 and 4.6): it begins at the first node that is not down, asks the
+/// homes, reads every answer with its stand-ins, and is acknowledged where as many homes as it
+/// named hold the version on as many nodes. May wait for answers, and for locks. Takes no memory
+/// after its first try, but for what the transport sends.
+pub fn put<J: Naming, T: Transport<J>, R: Wait>(
+    rt: &R,
+    alloc: Global,
+    transport: &mut T,
+    list: &Preference,
+    w: u8,
+    session: &mut SessionShare<J>,
+    key: &Key,
+    context: &Context,
+    value: Option<Value>,
+) -> Result<PutDone, PutFault>
+    requires fresh_tries { (T.told transport.old).tries ≡ [] }
+    requires fresh_asks { (T.told transport.old).asks ≡ [] }
+    requires fresh_replies { (T.told transport.old).replies ≡ [] }
+    requires room { MAX_NODES ≤ (T.told transport.old).room }
+    requires nodes { list.now.nodes ≡ preference_of J.ring key.now }
+    requires homes { list.now.n ≡ J.n }
+    ensures { PutEnds {J = J} list.now w key.now context.now value
+        session.old session.new (T.told transport.old) (T.told transport.new) result }
+{
+    if w < 1 {
+        return Err(PutFault::early(alloc, Fault::BadQuorum));
+    }
+    if w as usize > list.homes().len() {
+        return Err(PutFault::early(alloc, Fault::BadQuorum));
+    }
+    put_in_range(rt, alloc, transport, list, w, session, key, context, &value)
+}

@@ -1,0 +1,3 @@
+pub mod Readings
+pub mod Lists
+pub mod Allowed
