@@ -9,7 +9,7 @@ use Rattle.std.proofs.lemmas.List.{get_or_append_left, append-nil}
 use Rattle.std.proofs.lemmas.List.Elements.{All-nil, All-cons, All-head, All-tail, All-append}
 use Rattle.std.proofs.lemmas.List.Elements.{All-contains}
 use Rattle.std.proofs.lemmas.Map.Made.{AllPairs-from_IsDistinct}
-use Rattle.std.specs.List.{All, AllPairs, Contains, IsDistinct, slice_get}
+use Rattle.std.specs.List.{All, Contains, IsDistinct, slice_get}
 use Rattle.dy_dots.specs.Dots.{same_dot}
 use Rattle.dy_dots.specs.declared.dots.Dot.{Dot}
 use Rattle.dy_dots.proofs.SameDots.{same_dot_is, same_dot_self}

@@ -87,8 +87,10 @@ told_from (Err e) f is = ap Err (some_is e f is)
 same_cause : {X : Type 0} (r : Result X Fault) (f : Fault) (cause : Type 0) →
     (IsErrOf r f ↔ cause) →
     (result_err r ≡ Some f) ↔ cause
-same_cause r f cause both = ((λ is. both.0 (told_from r f is)),
-    (λ there. told_of r f (both.1 there)))
+same_cause r f cause both = (
+  (λ is. both.0 (told_from r f is)),
+  (λ there. told_of r f (both.1 there)),
+)
 
 -- another refusal is not for want of memory
 past_memory : (told : Option Fault) (f : Fault) (cause : Type 0) → (Some OutOfMemory ≡ Some f → ⊥) →
@@ -112,18 +114,18 @@ hold_told : {X : Type 0} (b : BookParts) (row : Siblings) (r : Result X Fault) �
     ((d : Dot) → IsErrOf r (NotIssued d) ↔ IsLeastNotIssued (world_of b).versions row.versions d) →
     (IsErrOf r StepsFull ↔ (AreMadeOf (world_of b) row.key row.versions × LacksRoom b 1)) →
     ((f : Fault) → IsErrOf r f →
-        ((d : Dot) × (f ≡ NotIssued d)) ⊎ ((f ≡ StepsFull) ⊎ (f ≡ OutOfMemory))) →
+    ((d : Dot) × (f ≡ NotIssued d)) ⊎ ((f ≡ StepsFull) ⊎ (f ≡ OutOfMemory))) →
     HoldRefused b row (result_err r)
 hold_told b row r not_issued full only =
     record {
       not_issued = λ d. past_memory (result_err r) (NotIssued d)
           (IsLeastNotIssued (world_of b).versions row.versions d)
           (memory_not_named d) (same_cause r (NotIssued d)
-              (IsLeastNotIssued (world_of b).versions row.versions d) (not_issued d));
+          (IsLeastNotIssued (world_of b).versions row.versions d) (not_issued d));
       steps_full = past_memory (result_err r) StepsFull
           (AreMadeOf (world_of b) row.key row.versions × LacksRoom b 1)
           memory_not_full (same_cause r StepsFull
-              (AreMadeOf (world_of b) row.key row.versions × LacksRoom b 1) full);
+          (AreMadeOf (world_of b) row.key row.versions × LacksRoom b 1) full);
       only = λ f is. only f (told_from r f is);
     }
 
@@ -136,9 +138,9 @@ one_error e f is = sym (some_is e f (told_of (Err e) f is))
 -- the row was held
 pub hold_done : {X : Type 0} (b : BookParts) (row : Siblings) (x : X) →
     ((d : Dot) → IsErrOf {T = X} {E = Fault} (Ok x) (NotIssued d) ↔ IsLeastNotIssued
-        (world_of b).versions row.versions d) →
+    (world_of b).versions row.versions d) →
     (IsErrOf {T = X} {E = Fault} (Ok x) StepsFull ↔
-        (AreMadeOf (world_of b) row.key row.versions × LacksRoom b 1)) →
+    (AreMadeOf (world_of b) row.key row.versions × LacksRoom b 1)) →
     HoldRefused b row None
 hold_done b row x not_issued full = hold_told b row (Ok x) not_issued full
     (λ f is. absurd (no_error x f is))
@@ -146,15 +148,15 @@ hold_done b row x not_issued full = hold_told b row (Ok x) not_issued full
 -- the row was refused
 pub hold_by : {X : Type 0} (b : BookParts) (row : Siblings) (e : Fault) →
     ((d : Dot) → IsErrOf {T = X} {E = Fault} (Err e) (NotIssued d) ↔ IsLeastNotIssued
-        (world_of b).versions row.versions d) →
+    (world_of b).versions row.versions d) →
     (IsErrOf {T = X} {E = Fault} (Err e) StepsFull ↔
-        (AreMadeOf (world_of b) row.key row.versions × LacksRoom b 1)) →
+    (AreMadeOf (world_of b) row.key row.versions × LacksRoom b 1)) →
     ((d : Dot) × (e ≡ NotIssued d)) ⊎ ((e ≡ StepsFull) ⊎ (e ≡ OutOfMemory)) → HoldRefused b row
-        (Some e)
+    (Some e)
 hold_by {X} b row e not_issued full only =
     hold_told {X = X} b row (Err e) not_issued full
     (λ f is. subst (λ g. ((d : Dot) × (g ≡ NotIssued d)) ⊎ ((g ≡ StepsFull) ⊎ (g ≡ OutOfMemory)))
-        (sym (one_error {X = X} e f is)) only)
+    (sym (one_error {X = X} e f is)) only)
 
 hold_not_down : (b : BookParts) (row : Siblings) (told : Option Fault) → HoldRefused b row told →
     told ≡ Some Down → ⊥
@@ -174,8 +176,10 @@ pub store_up : (b : BookParts) (n : NodeState) (row : Siblings) (told : Option F
     n.is_up ≡ true → HoldRefused b row told → StoreRefused b n row told
 store_up b n row told up refused =
     record {
-      down = ((λ is. absurd (hold_not_down b row told refused is)),
-          (λ down. absurd (true≢false (sym up ∙ down))));
+      down = (
+        (λ is. absurd (hold_not_down b row told refused is)),
+        (λ down. absurd (true≢false (sym up ∙ down))),
+      );
       up = λ is. refused;
     }
 
@@ -185,15 +189,17 @@ pub fetch_down : (b : BookParts) (n : NodeState) → n.is_up ≡ false → Fetch
 fetch_down b n down =
     record {
       down = ((λ is. down), (λ is. refl));
-      steps_full = ((λ is. absurd (down_not_full is)),
-          (λ there. absurd (true≢false (sym there.0 ∙ down))));
+      steps_full = (
+        (λ is. absurd (down_not_full is)),
+        (λ there. absurd (true≢false (sym there.0 ∙ down))),
+      );
       only = λ f is. inl (sym (some_is Down f is));
     }
 
 fetch_up : {X : Type 0} (b : BookParts) (n : NodeState) (r : Result X Fault) → n.is_up ≡ true →
     (IsErrOf r StepsFull ↔ LacksRoom b 1) →
     ((f : Fault) → IsErrOf r f → (f ≡ StepsFull) ⊎ (f ≡ OutOfMemory)) →
-        FetchRefused b n (result_err r)
+    FetchRefused b n (result_err r)
 fetch_up b n r up full only =
     record {
       down = (
@@ -219,8 +225,8 @@ pub fetch_by : {X : Type 0} (b : BookParts) (n : NodeState) (e : Fault) → n.is
     (e ≡ StepsFull) ⊎ (e ≡ OutOfMemory) → FetchRefused b n (Some e)
 fetch_by {X} b n e up full only =
     fetch_up {X = X} b n (Err e) up full
-        (λ f is. subst (λ g. (g ≡ StepsFull) ⊎ (g ≡ OutOfMemory)) (sym (one_error {X = X} e f is))
-        only)
+    (λ f is. subst (λ g. (g ≡ StepsFull) ⊎ (g ≡ OutOfMemory)) (sym (one_error {X = X} e f is))
+    only)
 
 -- ---- a plan
 
@@ -233,35 +239,49 @@ pub plan_full : (b : BookParts) (node : ℕ) (key : List ℕ) (context : DotSet)
 plan_full b node key context lacks =
     record {
       counter_full = ((λ is. lacks), (λ is. refl));
-      context_unknown = λ d. ((λ is. absurd (counter_not_unknown d is)),
-          (λ there. absurd (left_not_lacks b node key there.0 lacks)));
-      versions_full = ((λ is. absurd (counter_not_versions is)),
-          (λ there. absurd (left_not_lacks b node key there.0 lacks)));
-      steps_full = ((λ is. absurd (counter_not_full is)),
-          (λ there. absurd (left_not_lacks b node key there.0 lacks)));
+      context_unknown = λ d. (
+        (λ is. absurd (counter_not_unknown d is)),
+        (λ there. absurd (left_not_lacks b node key there.0 lacks)),
+      );
+      versions_full = (
+        (λ is. absurd (counter_not_versions is)),
+        (λ there. absurd (left_not_lacks b node key there.0 lacks)),
+      );
+      steps_full = (
+        (λ is. absurd (counter_not_full is)),
+        (λ there. absurd (left_not_lacks b node key there.0 lacks)),
+      );
       only = λ f is. inl (sym (some_is CounterFull f is));
     }
 
 plan_told : {X : Type 0} (b : BookParts) (node : ℕ) (key : List ℕ) (context : DotSet)
     (r : Result X Fault) → HasCounterLeft b node key →
     ((d : Dot) → IsErrOf r (ContextUnknown d) ↔ IsLeastUnknown (world_of b).versions key context d)
-        →
+    →
     (IsErrOf r VersionsFull ↔ (IsKnown (world_of b) key context × (HasVersionsLeft b → ⊥))) →
     (IsErrOf r StepsFull ↔ (IsKnown (world_of b) key context × HasVersionsLeft b × LacksRoom b 2)) →
     ((f : Fault) → IsErrOf r f →
-        ((d : Dot) × (f ≡ ContextUnknown d))
-        ⊎ ((f ≡ VersionsFull) ⊎ ((f ≡ StepsFull) ⊎ (f ≡ OutOfMemory)))) →
+    ((d : Dot) × (f ≡ ContextUnknown d))
+    ⊎ ((f ≡ VersionsFull) ⊎ ((f ≡ StepsFull) ⊎ (f ≡ OutOfMemory)))) →
     PlanRefused b node key context (result_err r)
 plan_told b node key context r left unknown versions full only =
     record {
-      counter_full = ((λ is. absurd (not_counter (told_from r CounterFull is))),
-          (λ lacks. absurd (left_not_lacks b node key left lacks)));
-      context_unknown = λ d. ((λ is. (left, (unknown d).0 (told_from r (ContextUnknown d) is))),
-          (λ there. told_of r (ContextUnknown d) ((unknown d).1 there.1)));
-      versions_full = ((λ is. (left, versions.0 (told_from r VersionsFull is))),
-          (λ there. told_of r VersionsFull (versions.1 there.1)));
-      steps_full = ((λ is. (left, full.0 (told_from r StepsFull is))),
-          (λ there. told_of r StepsFull (full.1 there.1)));
+      counter_full = (
+        (λ is. absurd (not_counter (told_from r CounterFull is))),
+        (λ lacks. absurd (left_not_lacks b node key left lacks)),
+      );
+      context_unknown = λ d. (
+        (λ is. (left, (unknown d).0 (told_from r (ContextUnknown d) is))),
+        (λ there. told_of r (ContextUnknown d) ((unknown d).1 there.1)),
+      );
+      versions_full = (
+        (λ is. (left, versions.0 (told_from r VersionsFull is))),
+        (λ there. told_of r VersionsFull (versions.1 there.1)),
+      );
+      steps_full = (
+        (λ is. (left, full.0 (told_from r StepsFull is))),
+        (λ there. told_of r StepsFull (full.1 there.1)),
+      );
       only = λ f is. inr (only f (told_from r f is));
     }
   where
@@ -281,40 +301,40 @@ plan_told b node key context r left unknown versions full only =
     not_counter is =
         ⊎_elim (λ u. named u.0 u.1)
         (λ rest. ⊎_elim (λ v. of_versions v)
-            (λ last. ⊎_elim (λ s. of_steps s) (λ m. of_memory m) last) rest)
+        (λ last. ⊎_elim (λ s. of_steps s) (λ m. of_memory m) last) rest)
         (only CounterFull is)
 
 -- the version was planned
 pub plan_done : {X : Type 0} (b : BookParts) (node : ℕ) (key : List ℕ) (context : DotSet) (x : X) →
     HasCounterLeft b node key →
     ((d : Dot) → IsErrOf {T = X} {E = Fault} (Ok x) (ContextUnknown d) ↔ IsLeastUnknown
-        (world_of b).versions key context d) →
+    (world_of b).versions key context d) →
     (IsErrOf {T = X} {E = Fault} (Ok x) VersionsFull ↔
-        (IsKnown (world_of b) key context × (HasVersionsLeft b → ⊥))) →
+    (IsKnown (world_of b) key context × (HasVersionsLeft b → ⊥))) →
     (IsErrOf {T = X} {E = Fault} (Ok x) StepsFull ↔
-        (IsKnown (world_of b) key context × HasVersionsLeft b × LacksRoom b 2)) →
+    (IsKnown (world_of b) key context × HasVersionsLeft b × LacksRoom b 2)) →
     PlanRefused b node key context None
 plan_done b node key context x left unknown versions full =
     plan_told b node key context (Ok x) left unknown versions full
-        (λ f is. absurd (no_error x f is))
+    (λ f is. absurd (no_error x f is))
 
 -- the plan was refused
 pub plan_by : {X : Type 0} (b : BookParts) (node : ℕ) (key : List ℕ) (context : DotSet)
     (e : Fault) → HasCounterLeft b node key →
     ((d : Dot) → IsErrOf {T = X} {E = Fault} (Err e) (ContextUnknown d) ↔ IsLeastUnknown
-        (world_of b).versions key context d) →
+    (world_of b).versions key context d) →
     (IsErrOf {T = X} {E = Fault} (Err e) VersionsFull ↔
-        (IsKnown (world_of b) key context × (HasVersionsLeft b → ⊥))) →
+    (IsKnown (world_of b) key context × (HasVersionsLeft b → ⊥))) →
     (IsErrOf {T = X} {E = Fault} (Err e) StepsFull ↔
-        (IsKnown (world_of b) key context × HasVersionsLeft b × LacksRoom b 2)) →
+    (IsKnown (world_of b) key context × HasVersionsLeft b × LacksRoom b 2)) →
     ((d : Dot) × (e ≡ ContextUnknown d))
-        ⊎ ((e ≡ VersionsFull) ⊎ ((e ≡ StepsFull) ⊎ (e ≡ OutOfMemory))) →
+    ⊎ ((e ≡ VersionsFull) ⊎ ((e ≡ StepsFull) ⊎ (e ≡ OutOfMemory))) →
     PlanRefused b node key context (Some e)
 plan_by {X} b node key context e left unknown versions full only =
     plan_told {X = X} b node key context (Err e) left unknown versions full
     (λ f is. subst (λ g. ((d : Dot) × (g ≡ ContextUnknown d))
-        ⊎ ((g ≡ VersionsFull) ⊎ ((g ≡ StepsFull) ⊎ (g ≡ OutOfMemory))))
-        (sym (one_error {X = X} e f is)) only)
+    ⊎ ((g ≡ VersionsFull) ⊎ ((g ≡ StepsFull) ⊎ (g ≡ OutOfMemory))))
+    (sym (one_error {X = X} e f is)) only)
 
 -- what could be planned is refused for want of memory alone
 pub plan_memory : (b : BookParts) (node : ℕ) (key : List ℕ) (context : DotSet) →
@@ -322,14 +342,22 @@ pub plan_memory : (b : BookParts) (node : ℕ) (key : List ℕ) (context : DotSe
     PlanRefused b node key context (Some OutOfMemory)
 plan_memory b node key context planned =
     record {
-      counter_full = ((λ is. absurd (memory_not_counter is)),
-          (λ there. absurd (none_told CounterFull (planned.counter_full.1 there))));
-      context_unknown = λ d. ((λ is. absurd (memory_not_unknown d is)),
-          (λ there. absurd (none_told (ContextUnknown d) ((planned.context_unknown d).1 there))));
-      versions_full = ((λ is. absurd (memory_not_versions is)),
-          (λ there. absurd (none_told VersionsFull (planned.versions_full.1 there))));
-      steps_full = ((λ is. absurd (memory_not_full is)),
-          (λ there. absurd (none_told StepsFull (planned.steps_full.1 there))));
+      counter_full = (
+        (λ is. absurd (memory_not_counter is)),
+        (λ there. absurd (none_told CounterFull (planned.counter_full.1 there))),
+      );
+      context_unknown = λ d. (
+        (λ is. absurd (memory_not_unknown d is)),
+        (λ there. absurd (none_told (ContextUnknown d) ((planned.context_unknown d).1 there))),
+      );
+      versions_full = (
+        (λ is. absurd (memory_not_versions is)),
+        (λ there. absurd (none_told VersionsFull (planned.versions_full.1 there))),
+      );
+      steps_full = (
+        (λ is. absurd (memory_not_full is)),
+        (λ there. absurd (none_told StepsFull (planned.steps_full.1 there))),
+      );
       only = λ f is. inr (inr (inr (inr (sym (some_is OutOfMemory f is)))));
     }
 
@@ -339,7 +367,7 @@ plan_not_down b node key context told refused is =
     ⊎_elim (λ c. down_not_counter c)
     (λ rest. ⊎_elim (λ u. down_not_unknown u.0 u.1)
     (λ more. ⊎_elim (λ v. down_not_versions v)
-        (λ last. ⊎_elim (λ s. down_not_steps s) (λ m. down_not_memory m) last) more) rest)
+    (λ last. ⊎_elim (λ s. down_not_steps s) (λ m. down_not_memory m) last) more) rest)
     (refused.only Down is)
 
 -- ---- a begin
@@ -354,8 +382,10 @@ pub begin_up : (b : BookParts) (n : NodeState) (key : List ℕ) (context : DotSe
     BeginRefused b n key context told
 begin_up b n key context told up refused =
     record {
-      down = ((λ is. absurd (plan_not_down b n.part.node key context told refused is)),
-          (λ down. absurd (true≢false (sym up ∙ down))));
+      down = (
+        (λ is. absurd (plan_not_down b n.part.node key context told refused is)),
+        (λ down. absurd (true≢false (sym up ∙ down))),
+      );
       up = λ is. refused;
     }
 
@@ -366,7 +396,7 @@ pub begin_agreed : (b c : BookParts) (p : NodePart) (n : NodeState) (key : List 
 begin_agreed b c p n key context told same share up refused =
     begin_up c n key context told up
     (subst (λ (q : NodePart). PlanRefused c q.node key context told) share
-        (subst (λ x. PlanRefused x p.node key context told) same refused))
+    (subst (λ x. PlanRefused x p.node key context told) same refused))
 
 -- ---- a settle
 
@@ -381,13 +411,13 @@ release_memory b r receipts =
 release_told : {X : Type 0} (b : BookParts) (r : Rooms) (receipts chosen : List ReceiptParts)
     (res : Result X Fault) → AreReleased r receipts chosen →
     (IsErrOf res StepsFull ↔ LacksRoom b (length chosen)) →
-        ((f : Fault) → IsErrOf res f → (f ≡ StepsFull) ⊎ (f ≡ OutOfMemory)) →
+    ((f : Fault) → IsErrOf res f → (f ≡ StepsFull) ⊎ (f ≡ OutOfMemory)) →
     ReleaseRefused b r receipts (result_err res)
 release_told b r receipts chosen res are full only =
     record {
       steps_full = past_memory (result_err res) StepsFull
           ((released : List ReceiptParts) × AreReleased r receipts released × LacksRoom b
-              (length released))
+          (length released))
           memory_not_full (
             (λ is. (chosen, are, full.0 (told_from res StepsFull is))),
             (λ there. told_of res StepsFull
@@ -401,7 +431,7 @@ release_told b r receipts chosen res are full only =
 pub release_done : {X : Type 0} (b : BookParts) (r : Rooms) (receipts chosen : List ReceiptParts)
     (x : X) → AreReleased r receipts chosen →
     (IsErrOf {T = X} {E = Fault} (Ok x) StepsFull ↔ LacksRoom b (length chosen)) →
-        ReleaseRefused b r receipts None
+    ReleaseRefused b r receipts None
 release_done b r receipts chosen x are full = release_told b r receipts chosen (Ok x) are full
     (λ f is. absurd (no_error x f is))
 
@@ -409,11 +439,11 @@ release_done b r receipts chosen x are full = release_told b r receipts chosen (
 pub release_by : {X : Type 0} (b : BookParts) (r : Rooms) (receipts chosen : List ReceiptParts)
     (e : Fault) → AreReleased r receipts chosen →
     (IsErrOf {T = X} {E = Fault} (Err e) StepsFull ↔ LacksRoom b (length chosen)) →
-        (e ≡ StepsFull) ⊎ (e ≡ OutOfMemory) → ReleaseRefused b r receipts (Some e)
+    (e ≡ StepsFull) ⊎ (e ≡ OutOfMemory) → ReleaseRefused b r receipts (Some e)
 release_by {X} b r receipts chosen e are full only =
     release_told {X = X} b r receipts chosen (Err e) are full
-        (λ f is. subst (λ g. (g ≡ StepsFull) ⊎ (g ≡ OutOfMemory)) (sym (one_error {X = X} e f is))
-        only)
+    (λ f is. subst (λ g. (g ≡ StepsFull) ⊎ (g ≡ OutOfMemory)) (sym (one_error {X = X} e f is))
+    only)
 
 pub settle_down : (b : BookParts) (n : NodeState) (receipts : List ReceiptParts) → n.is_up ≡ false →
     SettleRefused b n receipts (Some Down)

@@ -46,9 +46,11 @@ next_one layout b p s home v agreed is may few = one_by_dot w1 layout sound1 v.k
         ⊎_elim
         (λ old.
         let m = made_at (world_of b) s.rooms.node home v.key (versions_at s.rooms home v.key)
-            ((matches_world (steps_of b.log) p agreed.belongs s is).rows_are home v.key) u old in
-        (in_tail (version_made (world_of b) p.node v.key may.next.context v.value) u
-            (world_of b).versions m.0, m.1))
+        ((matches_world (steps_of b.log) p agreed.belongs s is).rows_are home v.key) u old in (
+          in_tail (version_made (world_of b) p.node v.key may.next.context v.value) u
+              (world_of b).versions m.0,
+          m.1,
+        ))
         (λ new.
         ⊎_elim
         (λ same. (

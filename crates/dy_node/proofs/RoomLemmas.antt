@@ -33,17 +33,23 @@ versions_in-row_with key (v ∷ vs) = refl
 
 pub own_place : (rows : Rows) (key : List ℕ) (vs : List Version) (k : List ℕ) →
     ((k ≡ key) × (versions_of (with_versions rows key vs) k ≡ vs))
-        ⊎ ((k ≡ key → ⊥) × (versions_of (with_versions rows key vs) k ≡ versions_of rows k))
+    ⊎ ((k ≡ key → ⊥) × (versions_of (with_versions rows key vs) k ≡ versions_of rows k))
 own_place rows key vs k =
     elim (eq_by_cmp (slice_cmp nat_cmp) k key) as (λ b. eq_by_cmp (slice_cmp nat_cmp) k key ≡ b →
-        ((k ≡ key) × (versions_of (with_versions rows key vs) k ≡ vs))
-            ⊎ ((k ≡ key → ⊥) × (versions_of (with_versions rows key vs) k ≡ versions_of rows k))) [
-      | true ↦ λ tied. inl (tells_apart exact_bytes k key tied, ap versions_in
-          (get_with_versions rows key vs k ∙ ap (λ b. cond b (row_with key vs) (maps.get rows k))
-          tied) ∙ versions_in-row_with key vs)
-      | false ↦ λ apart. inr ((λ same. differs (same) apart), ap versions_in
-          (get_with_versions rows key vs k ∙ ap (λ b. cond b (row_with key vs) (maps.get rows k))
-          apart))
+    ((k ≡ key) × (versions_of (with_versions rows key vs) k ≡ vs))
+    ⊎ ((k ≡ key → ⊥) × (versions_of (with_versions rows key vs) k ≡ versions_of rows k))) [
+      | true ↦ λ tied. inl (
+        tells_apart exact_bytes k key tied,
+        ap versions_in
+            (get_with_versions rows key vs k ∙ ap (λ b. cond b (row_with key vs) (maps.get rows k))
+            tied) ∙ versions_in-row_with key vs,
+      )
+      | false ↦ λ apart. inr (
+        (λ same. differs (same) apart),
+        ap versions_in
+            (get_with_versions rows key vs k ∙ ap (λ b. cond b (row_with key vs) (maps.get rows k))
+            apart),
+      )
     ] refl
   where
     differs : k ≡ key → eq_by_cmp (slice_cmp nat_cmp) k key ≡ false → ⊥
@@ -54,30 +60,37 @@ own_place rows key vs k =
 pub hint_place : (hints : Hints) (home : ℕ) (key : List ℕ) (vs : List Version) (o : ℕ)
     (k : List ℕ) →
     ((o ≡ home) × (k ≡ key) × (versions_for (with_versions_for hints home key vs) o k ≡ vs))
-        ⊎ ((o ≡ home → k ≡ key → ⊥) × (versions_for (with_versions_for hints home key vs) o
-        k ≡ versions_for hints o k))
+    ⊎ ((o ≡ home → k ≡ key → ⊥) × (versions_for (with_versions_for hints home key vs) o
+    k ≡ versions_for hints o k))
 hint_place hints home key vs o k =
     elim (eq_by_cmp home_then_key (o, k) (home, key)) as
-        (λ b. eq_by_cmp home_then_key (o, k) (home, key) ≡ b →
-        ((o ≡ home) × (k ≡ key) × (versions_for (with_versions_for hints home key vs) o k ≡ vs))
-            ⊎ ((o ≡ home → k ≡ key → ⊥) × (versions_for (with_versions_for hints home key vs) o
-            k ≡ versions_for hints o k))) [
+    (λ b. eq_by_cmp home_then_key (o, k) (home, key) ≡ b →
+    ((o ≡ home) × (k ≡ key) × (versions_for (with_versions_for hints home key vs) o k ≡ vs))
+    ⊎ ((o ≡ home → k ≡ key → ⊥) × (versions_for (with_versions_for hints home key vs) o
+    k ≡ versions_for hints o k))) [
       | true ↦ λ tied. let same = tells_apart home_then_key_exact (o, k) (home, key) tied in
-          inl (ap (λ p. p.0) same, ap (λ p. p.1) same, ap versions_in
-              (get_with_versions_for hints home key vs (o, k)
-              ∙ ap (λ b. cond b (row_with key vs) (maps.get hints (o, k))) tied)
-              ∙ versions_in-row_with key vs)
-      | false ↦ λ apart. inr ((λ h j. differs h j apart), ap versions_in
-          (get_with_versions_for hints home key vs (o, k)
-          ∙ ap (λ b. cond b (row_with key vs) (maps.get hints (o, k))) apart))
+          inl (
+            ap (λ p. p.0) same,
+            ap (λ p. p.1) same,
+            ap versions_in
+                (get_with_versions_for hints home key vs (o, k)
+                ∙ ap (λ b. cond b (row_with key vs) (maps.get hints (o, k))) tied)
+                ∙ versions_in-row_with key vs,
+          )
+      | false ↦ λ apart. inr (
+        (λ h j. differs h j apart),
+        ap versions_in
+            (get_with_versions_for hints home key vs (o, k)
+            ∙ ap (λ b. cond b (row_with key vs) (maps.get hints (o, k))) apart),
+      )
     ] refl
   where
     differs : o ≡ home → k ≡ key → eq_by_cmp home_then_key (o, k) (home, key) ≡ false → ⊥
     differs h j apart =
         let same : (o, k) ≡ (home, key) = λ i. (h i, j i) in
         let both : true ≡ false = sym
-            (ap is_eq (ap (λ q. home_then_key q (home, key)) same ∙ tied_itself home_then_key_total
-            (home, key))) ∙ apart in cc
+        (ap is_eq (ap (λ q. home_then_key q (home, key)) same ∙ tied_itself home_then_key_total
+        (home, key))) ∙ apart in cc
 
 module _ (r : Rooms) (home : ℕ) (key : List ℕ) (vs : List Version) (o : ℕ) (k : List ℕ) where
   abbrev own_rooms : Rooms
@@ -88,13 +101,13 @@ module _ (r : Rooms) (home : ℕ) (key : List ℕ) (vs : List Version) (o : ℕ)
 
   own_case : (b : Bool) → (home == r.node) ≡ true → (o == r.node) ≡ b →
       EitherAt home key vs o k (cond b (versions_of own_rooms.rows k) (versions_for r.hints o k))
-          (cond b (versions_of r.rows k) (versions_for r.hints o k))
+      (cond b (versions_of r.rows k) (versions_for r.hints o k))
   own_case true h j = own_found (own_place r.rows key vs k)
     where
       own_found : ((k ≡ key) × (versions_of (with_versions r.rows key vs) k ≡ vs))
           ⊎ ((k ≡ key → ⊥) × (versions_of (with_versions r.rows key vs) k ≡ versions_of r.rows k)) →
           EitherAt home key vs o k (versions_of (with_versions r.rows key vs) k)
-              (versions_of r.rows k)
+          (versions_of r.rows k)
       own_found (inl here) = inl
           (eqb-true o r.node j ∙ sym (eqb-true home r.node h), here.0, here.1)
       own_found (inr other) = inr ((λ _ same. other.0 same), other.1)
@@ -106,7 +119,7 @@ module _ (r : Rooms) (home : ℕ) (key : List ℕ) (vs : List Version) (o : ℕ)
 
   hint_case : (b : Bool) → (home == r.node) ≡ false → (o == r.node) ≡ b →
       EitherAt home key vs o k (cond b (versions_of r.rows k) (versions_for hint_rooms.hints o k))
-          (cond b (versions_of r.rows k) (versions_for r.hints o k))
+      (cond b (versions_of r.rows k) (versions_for r.hints o k))
   hint_case false h j = hint_place r.hints home key vs o k
   hint_case true h j = inr ((λ same _. differs same), refl)
     where
@@ -144,14 +157,14 @@ row_kept_by : (r : Rooms) (home : ℕ) (key : List ℕ) (vs : List Version) (a :
 row_kept_by r home key vs true h =
     ap (λ b. cond b (maps.get (with_versions r.rows key vs) key) (maps.get r.hints (home, key))) h
     ∙ get_with_versions r.rows key vs key
-        ∙ ap (λ o. cond (is_eq o) (row_with key vs) (maps.get r.rows key))
-        (tied_itself nat_list_cmp_total key)
+    ∙ ap (λ o. cond (is_eq o) (row_with key vs) (maps.get r.rows key))
+    (tied_itself nat_list_cmp_total key)
 row_kept_by r home key vs false h =
     ap (λ b. cond b (maps.get r.rows key)
-        (maps.get (with_versions_for r.hints home key vs) (home, key))) h
+    (maps.get (with_versions_for r.hints home key vs) (home, key))) h
     ∙ get_with_versions_for r.hints home key vs (home, key)
-        ∙ ap (λ o. cond (is_eq o) (row_with key vs) (maps.get r.hints (home, key)))
-        (tied_itself home_then_key_total (home, key))
+    ∙ ap (λ o. cond (is_eq o) (row_with key vs) (maps.get r.hints (home, key)))
+    (tied_itself home_then_key_total (home, key))
 
 pub kept_after : (r : Rooms) (home : ℕ) (key : List ℕ) (vs : List Version) →
     row_kept (with_row r home key vs) home key ≡ row_with key vs
@@ -172,8 +185,8 @@ back_rows : (m : Rows) (key : List ℕ) (vs ws : List Version) → row_with key 
 back_rows m key vs ws was = maps.same_map nat_list_cmp_total exact_bytes _ _ (λ q.
     get_with_versions (with_versions m key vs) key ws q
     ∙ elim (eq_by_cmp (slice_cmp nat_cmp) q key) as
-        (λ b. eq_by_cmp (slice_cmp nat_cmp) q key ≡ b → cond b (row_with key ws)
-        (maps.get (with_versions m key vs) q) ≡ maps.get m q) [
+    (λ b. eq_by_cmp (slice_cmp nat_cmp) q key ≡ b → cond b (row_with key ws)
+    (maps.get (with_versions m key vs) q) ≡ maps.get m q) [
       | true ↦ λ tied. was ∙ ap (maps.get m) (sym (tells_apart exact_bytes q key tied))
       | false ↦ λ apart. get_with_versions m key vs q
           ∙ ap (λ b. cond b (row_with key vs) (maps.get m q)) apart
@@ -185,8 +198,8 @@ back_hints : (m : Hints) (home : ℕ) (key : List ℕ) (vs ws : List Version) �
 back_hints m home key vs ws was = maps.same_map home_then_key_total home_then_key_exact _ _ (λ q.
     get_with_versions_for (with_versions_for m home key vs) home key ws q
     ∙ elim (eq_by_cmp home_then_key q (home, key)) as
-        (λ b. eq_by_cmp home_then_key q (home, key) ≡ b → cond b (row_with key ws)
-        (maps.get (with_versions_for m home key vs) q) ≡ maps.get m q) [
+    (λ b. eq_by_cmp home_then_key q (home, key) ≡ b → cond b (row_with key ws)
+    (maps.get (with_versions_for m home key vs) q) ≡ maps.get m q) [
       | true ↦ λ tied. was ∙ ap (maps.get m)
           (sym (tells_apart home_then_key_exact q (home, key) tied))
       | false ↦ λ apart. get_with_versions_for m home key vs q
@@ -197,16 +210,17 @@ back_by : (r : Rooms) (home : ℕ) (key : List ℕ) (vs ws : List Version) (a : 
     (home == r.node) ≡ a → row_with key ws ≡ cond a (maps.get r.rows key)
     (maps.get r.hints (home, key)) →
     with_row (cond a (own_rooms r home key vs 0 key) (hint_rooms r home key vs 0 key)) home key
-        ws ≡ r
+    ws ≡ r
 back_by r home key vs ws true h was =
     ap (λ b. cond b (record r { rows = with_versions (with_versions r.rows key vs) key ws })
-        (record (own_rooms r home key vs 0 key) { hints = with_versions_for r.hints home key ws }))
-        h
+    (record (own_rooms r home key vs 0 key) { hints = with_versions_for r.hints home key ws }))
+    h
     ∙ ap (λ m. record r { rows = m }) (back_rows r.rows key vs ws was)
 back_by r home key vs ws false h was =
     ap (λ b. cond b (record (hint_rooms r home key vs 0 key) { rows = with_versions r.rows key ws })
-        (record r { hints = with_versions_for (with_versions_for r.hints home key vs) home key ws
-        })) h
+    (record r {
+      hints = with_versions_for (with_versions_for r.hints home key vs) home key ws;
+    })) h
     ∙ ap (λ m. record r { hints = m }) (back_hints r.hints home key vs ws was)
 
 -- what was there is put back
@@ -231,8 +245,8 @@ pub own_hints_stay : (hints : Hints) (node home : ℕ) (key : List ℕ) (vs : Li
 own_hints_stay hints node home key vs apart k none =
     get_with_versions_for hints home key vs (node, k)
     ∙ elim (eq_by_cmp home_then_key (node, k) (home, key)) as
-        (λ b. eq_by_cmp home_then_key (node, k) (home, key) ≡ b → cond b (row_with key vs)
-        (maps.get hints (node, k)) ≡ None) [
+    (λ b. eq_by_cmp home_then_key (node, k) (home, key) ≡ b → cond b (row_with key vs)
+    (maps.get hints (node, k)) ≡ None) [
       | true ↦ λ tied. let same = ap (λ p. p.0)
           (tells_apart home_then_key_exact (node, k) (home, key) tied) in
           absurd (apart (sym same))
@@ -282,7 +296,7 @@ is_some o key (v ∷ vs) is some = subst IsSome (sym is) refl
 pub added_placed : (old new : Rooms) (home : ℕ) (row merged : Siblings) (placed : Placed) →
     merged.key ≡ row.key →
     IsSameRow merged.versions (merge (versions_at old home row.key) row.versions) →
-        IsPlaced old new home merged placed → IsAdded old new home row placed
+    IsPlaced old new home merged placed → IsAdded old new home row placed
 added_placed old new home row merged Nothing same is p =
     record {
       node_is = ap (λ r. r.node) p.0;
@@ -319,10 +333,14 @@ added_placed old new home row merged (Over before) same is p =
             (ap (λ j. with_row old home j merged.versions) (sym same) ∙ sym p.0)
             (with_place old home row.key merged.versions o k);
       });
-      fits = (p.2 ∙ same, p.3, is_some (row_kept new home row.key) row.key merged.versions
-          (ap (λ r. row_kept r home row.key)
-          (p.0 ∙ ap (λ j. with_row old home j merged.versions) same) ∙ kept_after old home row.key
-          merged.versions) p.4);
+      fits = (
+        p.2 ∙ same,
+        p.3,
+        is_some (row_kept new home row.key) row.key merged.versions
+            (ap (λ r. row_kept r home row.key)
+            (p.0 ∙ ap (λ j. with_row old home j merged.versions) same) ∙ kept_after old home row.key
+            merged.versions) p.4,
+      );
       back = ap (λ j. with_row new home j before.versions) (sym same) ∙ p.1;
     }
 
@@ -339,11 +357,16 @@ stays_placed r home key o k = by_home (o == home) refl
   where
     by_key : (b : Bool) → same_key k key ≡ b → o ≡ home → EitherAt home key (versions_at r home key)
         o k (versions_at r o k) (versions_at r o k)
-    by_key true h here = inl (here, same_key_is k key h,
-        (λ i. versions_at r (here i) (same_key_is k key h i)))
-    by_key false h here = inr
-        ((λ _ same. let both : true ≡ false = sym
-        (ap (λ j. same_key j key) same ∙ same_key_self key) ∙ h in cc), refl)
+    by_key true h here = inl (
+      here,
+      same_key_is k key h,
+      (λ i. versions_at r (here i) (same_key_is k key h i)),
+    )
+    by_key false h here = inr (
+      (λ _ same. let both : true ≡ false = sym
+          (ap (λ j. same_key j key) same ∙ same_key_self key) ∙ h in cc),
+      refl,
+    )
 
     by_home : (b : Bool) → (o == home) ≡ b → EitherAt home key (versions_at r home key) o k
         (versions_at r o k) (versions_at r o k)

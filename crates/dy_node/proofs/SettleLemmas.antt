@@ -45,38 +45,38 @@ without_one vs d v = (
   (λ h.
       let f = filter_from (λ u. not (list_any (λ e. same_dot u.dot e) (d ∷ []))) vs v h in
       filter_in (λ u. not (same_dot u.dot d)) vs v f.0
-          (ap not (sym (or_none (same_dot v.dot d))) ∙ f.1)),
+      (ap not (sym (or_none (same_dot v.dot d))) ∙ f.1)),
   (λ h.
       let f = filter_from (λ u. not (same_dot u.dot d)) vs v h in
       filter_in (λ u. not (list_any (λ e. same_dot u.dot e) (d ∷ []))) vs v f.0
-          (ap not (or_none (same_dot v.dot d)) ∙ f.1)),
+      (ap not (or_none (same_dot v.dot d)) ∙ f.1)),
 )
 
 -- one release after another
 releases_match : (layout : Layout) (w : World) → IsSound layout w →
     (s t : Stored) (receipts : List ReceiptParts) → Matches w s →
     IsLegalFrom layout w (release_steps s.rooms.node receipts) → t.counters ≡ s.counters →
-        t.rooms ≡ without_all s.rooms receipts →
+    t.rooms ≡ without_all s.rooms receipts →
     Matches (world_from w (release_steps s.rooms.node receipts)) t
 releases_match layout w sound s t [] is legal counters_stay rooms =
     subst (Matches w) (λ i. record { rooms = sym rooms i; counters = sym counters_stay i }) is
 releases_match layout w sound s t (x ∷ xs) is legal counters_stay rooms =
     let r = with_row s.rooms x.home x.key
-        (without_dots (versions_at s.rooms x.home x.key) (x.dot ∷ [])) in
+    (without_dots (versions_at s.rooms x.home x.key) (x.dot ∷ [])) in
     let s1 : Stored = record { rooms = r; counters = s.counters } in
     let node_is : r.node ≡ s.rooms.node = with_node s.rooms x.home x.key
-        (without_dots (versions_at s.rooms x.home x.key) (x.dot ∷ [])) in
+    (without_dots (versions_at s.rooms x.home x.key) (x.dot ∷ [])) in
     let m = release_matches layout w sound s s1 is node_is refl x.home x.key x.dot
-        (without_dots (versions_at s.rooms x.home x.key) (x.dot ∷ []))
+    (without_dots (versions_at s.rooms x.home x.key) (x.dot ∷ []))
     (without_one (versions_at s.rooms x.home x.key) x.dot)
-        (with_place s.rooms x.home x.key
-        (without_dots (versions_at s.rooms x.home x.key) (x.dot ∷ []))) in
+    (with_place s.rooms x.home x.key
+    (without_dots (versions_at s.rooms x.home x.key) (x.dot ∷ []))) in
     let w1 = after_release w s.rooms.node x.home x.key x.dot in
     subst (λ k. Matches (world_from w1 (release_steps k xs)) t) node_is
     (releases_match layout w1
-        (step_sound layout w sound (Release s.rooms.node x.home x.key x.dot) legal.0) s1 t xs m
+    (step_sound layout w sound (Release s.rooms.node x.home x.key x.dot) legal.0) s1 t xs m
     (subst (λ k. IsLegalFrom layout w1 (release_steps k xs)) (sym node_is) legal.1) counters_stay
-        rooms)
+    rooms)
 
 without_node : (r : Rooms) (xs : List ReceiptParts) → (without_all r xs).node ≡ r.node
 without_node r [] = refl
@@ -88,20 +88,20 @@ without_node r (x ∷ xs) = without_node
 pub settle_shows : (layout : Layout) (b c : BookParts) (p q : NodePart) (s t : Stored)
     (released : List ReceiptParts) → IsAgreed layout b p → IsAgreed layout c q → Shows p s →
     c ≡ with_untold b (release_steps p.node released) →
-        q ≡ with_steps p (release_steps p.node released) → t.counters ≡ s.counters →
-        t.rooms ≡ without_all s.rooms released → Shows q t
+    q ≡ with_steps p (release_steps p.node released) → t.counters ≡ s.counters →
+    t.rooms ≡ without_all s.rooms released → Shows q t
 settle_shows layout b c p q s t released before after is c_is q_is counters_stay rooms =
     shows_share (steps_of c.log) q after.belongs t
     (ap (λ (r : Rooms). r.node) rooms ∙ without_node s.rooms released ∙ is.node_is ∙ sym
-        (ap (λ (x : NodePart). x.node) q_is))
+    (ap (λ (x : NodePart). x.node) q_is))
     (subst (λ w. Matches w t)
-        (sym (ap world_of c_is ∙ world_more b (release_steps p.node released)))
+    (sym (ap world_of c_is ∙ world_more b (release_steps p.node released)))
     (subst (λ k. Matches (world_from (world_of b) (release_steps k released)) t) is.node_is
     (releases_match layout (world_of b) (log_sound layout (steps_of b.log) before.legal) s t
-        released (matches_world (steps_of b.log) p before.belongs s is)
+    released (matches_world (steps_of b.log) p before.belongs s is)
     (subst (λ k. IsLegalFrom layout (world_of b) (release_steps k released)) (sym is.node_is)
     (legal_more layout b (release_steps p.node released)
-        (subst (λ x. IsLegal layout (steps_of x.log)) c_is after.legal)))
+    (subst (λ x. IsLegal layout (steps_of x.log)) c_is after.legal)))
     counters_stay rooms)))
 
 -- ---- what stands may be released
@@ -132,9 +132,9 @@ standing_held : (w : World) (s : Stored) → Matches w s → (home : ℕ) (key :
     IsTrue (stands s.rooms home key d) → w.holdings s.rooms.node home key d ≡ true
 standing_held w s is home key d standing =
     let t = any_gives (λ v. same_dot v.dot d) (versions_at s.rooms home key)
-        (stands_kept s.rooms home key d standing) in
+    (stands_kept s.rooms home key d standing) in
     let st = stands_from w s.rooms.node home key t.item ((is.rows_are home key t.item).0 t.in_list)
-        in
+    in
     (λ i. w.holdings s.rooms.node home key (sym (same_dot_is t.item.dot d t.passes) i)) ∙ st.is_held
 
 pub releasable : (layout : Layout) (b : BookParts) (p : NodePart) (s : Stored)
@@ -162,10 +162,10 @@ all_front P x xs all = all 0 x (omega arith)
 same_is : (a b : ReceiptParts) → same_release a b ≡ false → AreOneDot a b → ⊥
 same_is a b no_ same =
     let yes_ : same_release a b ≡ true = and_from (a.home == b.home)
-        (same_key a.key b.key && same_dot a.dot b.dot) (eq-eqb a.home b.home same.0)
+    (same_key a.key b.key && same_dot a.dot b.dot) (eq-eqb a.home b.home same.0)
     (and_from (same_key a.key b.key) (same_dot a.dot b.dot)
-        (ap (λ k. same_key k b.key) same.1 ∙ same_key_self b.key)
-        (ap (λ d. same_dot d b.dot) same.2 ∙ same_dot_self b.dot)) in
+    (ap (λ k. same_key k b.key) same.1 ∙ same_key_self b.key)
+    (ap (λ d. same_dot d b.dot) same.2 ∙ same_dot_self b.dot)) in
     true≢false (sym yes_ ∙ no_)
 
 none_same : (ys : List ReceiptParts) (x : ReceiptParts) →
@@ -224,12 +224,12 @@ module _ (r : Rooms) where
             every = All-append (Every (ys ++ x ∷ [])) xs (x ∷ [])
                 (All-weaker (Every ys) (Every (ys ++ x ∷ []))
                 (λ z f st. list_any-append (λ y. same_release y z) ys (x ∷ []) ∙ or_left
-                    (list_any (λ y. same_release y z) ys)
-                    (list_any (λ y. same_release y z) (x ∷ [])) (f st)) xs are.every)
+                (list_any (λ y. same_release y z) ys)
+                (list_any (λ y. same_release y z) (x ∷ [])) (f st)) xs are.every)
                 (All-cons (Every (ys ++ x ∷ [])) x []
                 (λ st. list_any-append (λ y. same_release y x) ys (x ∷ []) ∙ or_right
-                    (list_any (λ y. same_release y x) ys)
-                    (list_any (λ y. same_release y x) (x ∷ []))
+                (list_any (λ y. same_release y x) ys)
+                (list_any (λ y. same_release y x) (x ∷ []))
                 (or_left (same_release x x) false (itself x)))
                 (All-nil (Every (ys ++ x ∷ []))));
             apart = apart_more ys x are.apart (none_same ys x none);
@@ -241,12 +241,20 @@ module _ (r : Rooms) where
               (and_from (same_key z.key z.key) (same_dot z.dot z.dot) (same_key_self z.key)
               (same_dot_self z.dot))
       by_stands true yes_ true there =
-          record { each = each_more; every = All-append (Every ys) xs (x ∷ []) are.every
-              (All-cons (Every ys) x [] (λ st. there) (All-nil (Every ys))); apart = are.apart }
+          record {
+            each = each_more;
+            every = All-append (Every ys) xs (x ∷ []) are.every
+                (All-cons (Every ys) x [] (λ st. there) (All-nil (Every ys)));
+            apart = are.apart;
+          }
       by_stands false no_ b any_ =
-          record { each = each_more; every = All-append (Every ys) xs (x ∷ []) are.every
-              (All-cons (Every ys) x [] (λ st. absurd (true≢false (sym st ∙ no_)))
-              (All-nil (Every ys))); apart = are.apart }
+          record {
+            each = each_more;
+            every = All-append (Every ys) xs (x ∷ []) are.every
+                (All-cons (Every ys) x [] (λ st. absurd (true≢false (sym st ∙ no_)))
+                (All-nil (Every ys)));
+            apart = are.apart;
+          }
 
 -- one dot after another
 pub without_more : (r : Rooms) (xs : List ReceiptParts) (x : ReceiptParts) →

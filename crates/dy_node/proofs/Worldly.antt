@@ -58,10 +58,10 @@ module _ (steps : List Step) (p : NodePart) (belongs : BelongsTo steps p) where
       record {
         rows_are = λ home key.
             subst (λ n. IsSameRow (versions_at s.rooms home key)
-                (row_at (world_after steps) n home key)) (sym is.node_is)
+            (row_at (world_after steps) n home key)) (sym is.node_is)
             (same_row_on _ _ _ (subst
-                (λ n. IsSameRow (versions_at s.rooms home key) (row_at (shown_world p) n home key))
-                is.node_is (is.shown.rows_are home key)) (belongs.shows_rows home key));
+            (λ n. IsSameRow (versions_at s.rooms home key) (row_at (shown_world p) n home key))
+            is.node_is (is.shown.rows_are home key)) (belongs.shows_rows home key));
         counters_are = λ key. is.shown.counters_are key
             ∙ (λ i. (shown_world p).counters (is.node_is i) key) ∙ belongs.shows_counters key
             ∙ (λ i. (world_after steps).counters (sym is.node_is i) key);
@@ -74,11 +74,11 @@ module _ (steps : List Step) (p : NodePart) (belongs : BelongsTo steps p) where
         shown = record {
           rows_are = λ home key.
               subst (λ n. IsSameRow (versions_at s.rooms home key)
-                  (row_at (shown_world p) n home key)) (sym node_is)
+              (row_at (shown_world p) n home key)) (sym node_is)
               (same_row_on _ _ _ (subst
-                  (λ n. IsSameRow (versions_at s.rooms home key)
-                  (row_at (world_after steps) n home key)) node_is (is.rows_are home key))
-                  (same_row_back _ _ (belongs.shows_rows home key)));
+              (λ n. IsSameRow (versions_at s.rooms home key)
+              (row_at (world_after steps) n home key)) node_is (is.rows_are home key))
+              (same_row_back _ _ (belongs.shows_rows home key)));
           counters_are = λ key. is.counters_are key
               ∙ (λ i. (world_after steps).counters (node_is i) key) ∙ sym
               (belongs.shows_counters key) ∙ (λ i. (shown_world p).counters (sym node_is i) key);
@@ -110,8 +110,8 @@ not_there : (holder home : ℕ) (key : List ℕ) (o : ℕ) (k : List ℕ) → (o
     same_place holder home key holder o k ≡ false
 not_there holder home key o k apart =
     ⊎_elim (λ yes. let place = place_is holder home key holder o k yes in absurd
-        (apart place.home_is place.key_is)) (λ no. no)
-        (cases_Bool (same_place holder home key holder o k))
+    (apart place.home_is place.key_is)) (λ no. no)
+    (cases_Bool (same_place holder home key holder o k))
 
 -- ---- steps
 
@@ -122,7 +122,7 @@ module _ (layout : Layout) (w : World) (sound : IsSound layout w) (s t : Stored)
       (vs : List Version) →
       IsSameRow vs (merge (versions_at s.rooms home row.key) row.versions) →
       ((o : ℕ) (k : List ℕ) → EitherAt home row.key vs o k (versions_at t.rooms o k)
-          (versions_at s.rooms o k)) →
+      (versions_at s.rooms o k)) →
       Matches (after_hold w s.rooms.node home row) t
   hold_matches home row made vs merged placed =
       record {
@@ -143,24 +143,24 @@ module _ (layout : Layout) (w : World) (sound : IsSound layout w) (s t : Stored)
           (row_at (after_hold w s.rooms.node home row) s.rooms.node o k)
       either o k (inl at) =
           subst (λ xs. IsSameRow xs (row_at (after_hold w s.rooms.node home row) s.rooms.node o k))
-              (sym at.2)
+          (sym at.2)
           (subst (λ j. IsSameRow vs (row_at (after_hold w s.rooms.node home row) s.rooms.node o j))
-              (sym at.1)
+          (sym at.1)
           (subst (λ h. IsSameRow vs
-              (row_at (after_hold w s.rooms.node home row) s.rooms.node h row.key))
-              (sym at.0) here))
+          (row_at (after_hold w s.rooms.node home row) s.rooms.node h row.key))
+          (sym at.0) here))
       either o k (inr other) =
           subst (λ xs. IsSameRow xs (row_at (after_hold w s.rooms.node home row) s.rooms.node o k))
-              (sym other.1)
+          (sym other.1)
           (same_row_on _ _ _ (is.rows_are o k)
-              (hold_elsewhere w s.rooms.node home row s.rooms.node o k
-              (not_there s.rooms.node home row.key o k other.0)))
+          (hold_elsewhere w s.rooms.node home row s.rooms.node o k
+          (not_there s.rooms.node home row.key o k other.0)))
 
   -- a dot that leaves what is kept is given up at the node
   pub release_matches : (home : ℕ) (key : List ℕ) (d : Dot) → (vs : List Version) →
       IsSameRow vs (but (versions_at s.rooms home key) d) →
       ((o : ℕ) (k : List ℕ) → EitherAt home key vs o k (versions_at t.rooms o k)
-          (versions_at s.rooms o k)) →
+      (versions_at s.rooms o k)) →
       Matches (after_release w s.rooms.node home key d) t
   release_matches home key d vs left placed =
       record {
@@ -182,18 +182,18 @@ module _ (layout : Layout) (w : World) (sound : IsSound layout w) (s t : Stored)
           (row_at (after_release w s.rooms.node home key d) s.rooms.node o k)
       either o k (inl at) =
           subst (λ xs. IsSameRow xs
-              (row_at (after_release w s.rooms.node home key d) s.rooms.node o k)) (sym at.2)
+          (row_at (after_release w s.rooms.node home key d) s.rooms.node o k)) (sym at.2)
           (subst (λ j. IsSameRow vs
-              (row_at (after_release w s.rooms.node home key d) s.rooms.node o j)) (sym at.1)
+          (row_at (after_release w s.rooms.node home key d) s.rooms.node o j)) (sym at.1)
           (subst (λ h. IsSameRow vs
-              (row_at (after_release w s.rooms.node home key d) s.rooms.node h key)) (sym at.0)
-              (same_row_on _ _ _ left here)))
+          (row_at (after_release w s.rooms.node home key d) s.rooms.node h key)) (sym at.0)
+          (same_row_on _ _ _ left here)))
       either o k (inr other) =
           subst (λ xs. IsSameRow xs
-              (row_at (after_release w s.rooms.node home key d) s.rooms.node o k)) (sym other.1)
+          (row_at (after_release w s.rooms.node home key d) s.rooms.node o k)) (sym other.1)
           (same_row_on _ _ _ (is.rows_are o k)
-              (same_row_back _ _ (release_elsewhere w s.rooms.node home key d s.rooms.node o k
-              (not_there s.rooms.node home key o k other.0))))
+          (same_row_back _ _ (release_elsewhere w s.rooms.node home key d s.rooms.node o k
+          (not_there s.rooms.node home key o k other.0))))
 
 -- the counters with one used more
 used_is : (m : Counters) (k q : List ℕ) (c : ℕ) →
@@ -201,13 +201,20 @@ used_is : (m : Counters) (k q : List ℕ) (c : ℕ) →
     ⊎ ((q ≡ k → ⊥) × (greatest_used (with_used m k c) q ≡ greatest_used m q))
 used_is m k q c =
     elim (eq_by_cmp (slice_cmp nat_cmp) q k) as
-        (λ b. eq_by_cmp (slice_cmp nat_cmp) q k ≡ b →
-        ((q ≡ k) × (greatest_used (with_used m k c) q ≡ max (greatest_used m k) c))
-        ⊎ ((q ≡ k → ⊥) × (greatest_used (with_used m k c) q ≡ greatest_used m q))) [
-      | true ↦ λ tied. inl (tells_apart exact_bytes q k tied, got
-          ∙ ap (λ b. unwrap_or (cond b (Some (max (greatest_used m k) c)) (maps.get m q)) 0) tied)
-      | false ↦ λ apart. inr ((λ same. differs same apart), got
-          ∙ ap (λ b. unwrap_or (cond b (Some (max (greatest_used m k) c)) (maps.get m q)) 0) apart)
+    (λ b. eq_by_cmp (slice_cmp nat_cmp) q k ≡ b →
+    ((q ≡ k) × (greatest_used (with_used m k c) q ≡ max (greatest_used m k) c))
+    ⊎ ((q ≡ k → ⊥) × (greatest_used (with_used m k c) q ≡ greatest_used m q))) [
+      | true ↦ λ tied. inl (
+        tells_apart exact_bytes q k tied,
+        got
+            ∙ ap (λ b. unwrap_or (cond b (Some (max (greatest_used m k) c)) (maps.get m q)) 0) tied,
+      )
+      | false ↦ λ apart. inr (
+        (λ same. differs same apart),
+        got
+            ∙ ap (λ b. unwrap_or (cond b (Some (max (greatest_used m k) c)) (maps.get m q)) 0)
+            apart,
+      )
     ] refl
   where
     got : greatest_used (with_used m k c) q ≡ unwrap_or
@@ -244,27 +251,27 @@ module _ (layout : Layout) (w : World) (sound : IsSound layout w) (s : Stored) (
           × (greatest_used (with_used s.counters key (w.counters s.rooms.node key + 1)) k ≡ max
           (greatest_used s.counters key) (w.counters s.rooms.node key + 1)))
           ⊎ ((k ≡ key → ⊥) × (greatest_used
-              (with_used s.counters key (w.counters s.rooms.node key + 1)) k ≡ greatest_used
-              s.counters k)) →
+          (with_used s.counters key (w.counters s.rooms.node key + 1)) k ≡ greatest_used
+          s.counters k)) →
           greatest_used (with_used s.counters key (w.counters s.rooms.node key + 1))
-              k ≡ (after_issue w made).counters s.rooms.node k
+          k ≡ (after_issue w made).counters s.rooms.node k
       counted k (inl here) =
           let before = is.counters_are key in
           let top : max (greatest_used s.counters key)
-              (w.counters s.rooms.node key + 1) ≡ w.counters s.rooms.node key + 1 = omega
-              (arith, before) in
+          (w.counters s.rooms.node key + 1) ≡ w.counters s.rooms.node key + 1 = omega
+          (arith, before) in
           here.1 ∙ top
           ∙ sym (cond-true ((s.rooms.node == s.rooms.node) && same_key k key)
-              (w.counters s.rooms.node key + 1) (w.counters s.rooms.node k)
+          (w.counters s.rooms.node key + 1) (w.counters s.rooms.node k)
           (and_from (s.rooms.node == s.rooms.node) (same_key k key)
-              (eq-eqb s.rooms.node s.rooms.node refl)
-              (ap (λ j. same_key j key) here.0 ∙ same_key_self key)))
+          (eq-eqb s.rooms.node s.rooms.node refl)
+          (ap (λ j. same_key j key) here.0 ∙ same_key_self key)))
       counted k (inr other) =
           other.1 ∙ is.counters_are k
           ∙ sym (cond-false ((s.rooms.node == s.rooms.node) && same_key k key)
-              (w.counters s.rooms.node key + 1) (w.counters s.rooms.node k)
+          (w.counters s.rooms.node key + 1) (w.counters s.rooms.node k)
           (and_right (s.rooms.node == s.rooms.node) (same_key k key)
-              (not_same (cases_Bool (same_key k key)))))
+          (not_same (cases_Bool (same_key k key)))))
         where
           not_same : (same_key k key ≡ true) ⊎ (same_key k key ≡ false) → same_key k key ≡ false
           not_same (inl it) = absurd (other.0 (same_key_is k key it))
@@ -305,7 +312,7 @@ pub one_by_dot : (w : World) (layout : Layout) → IsSound layout w →
     (key : List ℕ) (vs : List Version) → AreOf w.versions key vs → AreOneByDot vs
 one_by_dot w layout sound key vs of u v in_u in_v dots =
     same_version w.versions sound.ordered u v (of u in_u).0 (of v in_v).0
-        ((of u in_u).1 ∙ sym (of v in_v).1) dots
+    ((of u in_u).1 ∙ sym (of v in_v).1) dots
 
 no_members : (xs : List Version) → ((v : Version) → Contains xs v → ⊥) → [] ≡ xs
 no_members [] none = refl
@@ -316,7 +323,7 @@ pub added_matches : (layout : Layout) (w : World) → IsSound layout w →
     (s t : Stored) (home : ℕ) (row : Siblings) (placed : Placed) → Matches w s →
     AreMadeOf w row.key row.versions →
     t.counters ≡ s.counters → IsAdded s.rooms t.rooms home row placed →
-        Matches (after_hold w s.rooms.node home row) t
+    Matches (after_hold w s.rooms.node home row) t
 added_matches layout w sound s t home row placed is made counters_stay added = by_change
     (added.changed (one_by_dot w layout sound row.key both of))
   where
@@ -334,19 +341,19 @@ added_matches layout w sound s t home row placed is made counters_stay added = b
         m.versions m.merged m.placed
     by_change (inr u) =
         let none : [] ≡ versions_at s.rooms home row.key = no_members
-            (versions_at s.rooms home row.key)
+        (versions_at s.rooms home row.key)
         (λ v h. merge_of_something w layout sound row.key (versions_at s.rooms home row.key)
-            row.versions of v (Contains-append_left (versions_at s.rooms home row.key) row.versions
-            v h) u.none) in
+        row.versions of v (Contains-append_left (versions_at s.rooms home row.key) row.versions
+        v h) u.none) in
         hold_matches layout w sound s t is added.node_is counters_stay home row made
-            (versions_at s.rooms home row.key)
+        (versions_at s.rooms home row.key)
         (λ v. (
           (λ h. absurd (not_in_nil v (subst (λ xs. Contains xs v) (sym none) h))),
           (λ h. absurd (u.none v h)),
         ))
         (λ o k. subst (λ r. EitherAt home row.key (versions_at s.rooms home row.key) o k
-            (versions_at r o k) (versions_at s.rooms o k)) (sym u.stays)
-            (stays_placed s.rooms home row.key o k))
+        (versions_at r o k) (versions_at s.rooms o k)) (sym u.stays)
+        (stays_placed s.rooms home row.key o k))
 
 -- the world of a book with some steps of a node more
 pub world_more : (b : BookParts) (ss : List Step) → world_of (with_untold b ss) ≡ world_from
@@ -362,15 +369,15 @@ legal_more layout b ss legal = legal_rest layout empty_world (steps_of b.log) ss
 pub hold_shows : (layout : Layout) (b c : BookParts) (p q : NodePart) (s t : Stored) (home : ℕ)
     (row : Siblings) (placed : Placed) → IsAgreed layout b p → IsAgreed layout c q → Shows p s →
     c ≡ with_untold b (Hold p.node home row ∷ []) → q ≡ with_steps p (Hold p.node home row ∷ []) →
-        t.counters ≡ s.counters → IsAdded s.rooms t.rooms home row placed → Shows q t
+    t.counters ≡ s.counters → IsAdded s.rooms t.rooms home row placed → Shows q t
 hold_shows layout b c p q s t home row placed before after is c_is q_is counters_stay added =
     shows_share (steps_of c.log) q after.belongs t
-        (added.node_is ∙ is.node_is ∙ sym (ap (λ (x : NodePart). x.node) q_is))
+    (added.node_is ∙ is.node_is ∙ sym (ap (λ (x : NodePart). x.node) q_is))
     (subst (λ w. Matches w t) (sym (ap world_of c_is ∙ world_more b (Hold p.node home row ∷ [])))
     (subst (λ n. Matches (after_hold (world_of b) n home row) t) is.node_is
     (added_matches layout (world_of b) (log_sound layout (steps_of b.log) before.legal) s t home row
-        placed (matches_world (steps_of b.log) p before.belongs s is) allowed.0.1 counters_stay
-        added)))
+    placed (matches_world (steps_of b.log) p before.belongs s is) allowed.0.1 counters_stay
+    added)))
   where
     allowed : IsLegalFrom layout (world_of b) (Hold p.node home row ∷ [])
     allowed = legal_more layout b (Hold p.node home row ∷ [])
@@ -382,7 +389,7 @@ pub state_holds : (layout : Layout) (b : BookParts) (p : NodePart) (s : Stored) 
     IsSameRow (versions_at s.rooms home key) (row_at (world_of b) p.node home key)
 state_holds layout b p s agreed is home key =
     subst (λ n. IsSameRow (versions_at s.rooms home key) (row_at (world_of b) n home key))
-        is.node_is ((matches_world (steps_of b.log) p agreed.belongs s is).rows_are home key)
+    is.node_is ((matches_world (steps_of b.log) p agreed.belongs s is).rows_are home key)
 
 -- the book and the share as they are lent on
 pub agreed_on : (layout : Layout) (b c : BookParts) (p q : NodePart) → c ≡ b → q ≡ p →
@@ -403,11 +410,13 @@ first_shows p s none is = subst (Shows p) (sym is) (record {
   node_is = refl;
   shown = subst (λ ss. Matches (shown_from empty_world ss)
       (record { rooms = empty_rooms p.node; counters = maps.empty })) (sym none) (record {
-    rows_are = λ home key v. ((λ h. absurd
-        (not_in_nil v (subst (λ vs. Contains vs v) (empty_at home key (home == p.node)) h))),
-        (λ h. absurd (not_in_nil v h)));
-    counters_are = λ key. ap (λ o. unwrap_or o 0) (maps.get-empty (slice_cmp nat_cmp) key);
-  });
+        rows_are = λ home key v. (
+          (λ h. absurd
+              (not_in_nil v (subst (λ vs. Contains vs v) (empty_at home key (home == p.node)) h))),
+          (λ h. absurd (not_in_nil v h)),
+        );
+        counters_are = λ key. ap (λ o. unwrap_or o 0) (maps.get-empty (slice_cmp nat_cmp) key);
+      });
 })
 
 -- ---- a version that is made
@@ -438,16 +447,19 @@ zero_matches w s t key is same used =
 pub zero_shows : (p : NodePart) (s t : Stored) (key : List ℕ) → Shows p s → t.rooms ≡ s.rooms →
     t.counters ≡ with_used s.counters key 0 → Shows p t
 zero_shows p s t key is same used =
-    record { node_is = ap (λ (r : Rooms). r.node) same ∙ is.node_is; shown = zero_matches
-        (shown_world p) s t key is.shown same used }
+    record {
+      node_is = ap (λ (r : Rooms). r.node) same ∙ is.node_is;
+      shown = zero_matches
+          (shown_world p) s t key is.shown same used;
+    }
 
 -- what was used is there
 pub used_there : (m : Counters) (k : List ℕ) (c : ℕ) → maps.get (with_used m k c) k ≡ None → ⊥
 used_there m k c none =
     let there : maps.get (with_used m k c) k ≡ Some (max (greatest_used m k) c) =
     maps.get-insert nat_list_cmp_total m k (max (greatest_used m k) c) k
-        ∙ ap (λ o. cond (is_eq o) (Some (max (greatest_used m k) c)) (maps.get m k))
-        (tied_itself nat_list_cmp_total k) in
+    ∙ ap (λ o. cond (is_eq o) (Some (max (greatest_used m k) c)) (maps.get m k))
+    (tied_itself nat_list_cmp_total k) in
     let clash : Some (max (greatest_used m k) c) ≡ None = sym there ∙ none in cc
 
 module _ (layout : Layout) (b c : BookParts) (p q : NodePart) (s t : Stored) (home : ℕ)
@@ -457,11 +469,11 @@ module _ (layout : Layout) (b c : BookParts) (p q : NodePart) (s t : Stored) (ho
       version_made (world_of b) p.node v.key v.past v.value ≡ v →
       c ≡ with_untold b (issue_steps p.node home v) → q ≡ with_steps p (issue_steps p.node home v) →
       t.counters ≡ with_used (with_used s.counters v.key 0) v.key
-          (greatest_used s.counters v.key + 1) → IsAdded s.rooms t.rooms home (row_alone v) placed →
-          Shows q t
+      (greatest_used s.counters v.key + 1) → IsAdded s.rooms t.rooms home (row_alone v) placed →
+      Shows q t
   issue_shows before after is made_is c_is q_is used added =
       shows_share (steps_of c.log) q after.belongs t
-          (added.node_is ∙ is.node_is ∙ sym (ap (λ (x : NodePart). x.node) q_is))
+      (added.node_is ∙ is.node_is ∙ sym (ap (λ (x : NodePart). x.node) q_is))
       (subst (λ x. Matches x t) (sym (ap world_of c_is ∙ world_more b (issue_steps p.node home v)))
       (subst (λ k. Matches (world_from (world_of b) (issue_steps k home v)) t) is.node_is held))
     where
@@ -480,7 +492,7 @@ module _ (layout : Layout) (b c : BookParts) (p q : NodePart) (s t : Stored) (ho
       allowed : IsLegalFrom layout (world_of b) (issue_steps s.rooms.node home v)
       allowed = subst (λ k. IsLegalFrom layout (world_of b) (issue_steps k home v)) (sym is.node_is)
           (legal_more layout b (issue_steps p.node home v)
-              (subst (λ x. IsLegal layout (steps_of x.log)) c_is after.legal))
+          (subst (λ x. IsLegal layout (steps_of x.log)) c_is after.legal))
 
       it : version_made (world_of b) s.rooms.node v.key v.past v.value ≡ v
       it = subst (λ k. version_made (world_of b) k v.key v.past v.value ≡ v)
@@ -500,16 +512,16 @@ module _ (layout : Layout) (b c : BookParts) (p q : NodePart) (s t : Stored) (ho
       held : Matches (world_from (world_of b) (issue_steps s.rooms.node home v)) t
       held =
           added_matches layout (after_issue (world_of b)
-              (version_made (world_of b) s.rooms.node v.key v.past v.value))
+          (version_made (world_of b) s.rooms.node v.key v.past v.value))
           (step_sound layout (world_of b) sound (Issue s.rooms.node v.key v.past v.value) allowed.0)
           (record { rooms = s.rooms; counters = t.counters }) t home (row_alone v) placed
           (issue_matches layout (world_of b) sound
-              (record { rooms = s.rooms; counters = with_used s.counters v.key 0 })
+          (record { rooms = s.rooms; counters = with_used s.counters v.key 0 })
           (zero_matches (world_of b) s
-              (record { rooms = s.rooms; counters = with_used s.counters v.key 0 }) v.key m refl
-              refl)
+          (record { rooms = s.rooms; counters = with_used s.counters v.key 0 }) v.key m refl
+          refl)
           v.key v.past v.value (record { rooms = s.rooms; counters = t.counters }) refl
-              used_is_next)
+          used_is_next)
           allowed.1.0.1 refl added
 
 -- the counter that a node has used is the world's
@@ -518,7 +530,7 @@ counter_is : (layout : Layout) (b : BookParts) (p : NodePart) (s : Stored) (key 
     key
 counter_is layout b p s key agreed is =
     (matches_world (steps_of b.log) p agreed.belongs s is).counters_are key
-        ∙ (λ i. (world_of b).counters (is.node_is i) key)
+    ∙ (λ i. (world_of b).counters (is.node_is i) key)
 
 pub counter_left : (layout : Layout) (b : BookParts) (p : NodePart) (s : Stored) (key : List ℕ)
     (limit : ℕ) → IsAgreed layout b p → Shows p s → limit ≡ b.options.counter_limit →
@@ -532,5 +544,5 @@ pub counter_lacks : (layout : Layout) (b : BookParts) (p : NodePart) (s : Stored
 counter_lacks layout b p s key limit agreed is limit_is none =
     ⊎_elim (λ left. absurd (none left))
     (λ lacks. let same = counter_is layout b p s key agreed is in omega
-        (arith, same, limit_is, lacks))
+    (arith, same, limit_is, lacks))
     (cases_lt (greatest_used s.counters key) limit)

@@ -38,7 +38,12 @@ node_code =
     (coded× modes.the_row.coded (coded_list message.the_row.coded)))))
     (λ n. (n.part, (n.rooms, (n.is_up, (n.mode, n.waiting)))))
     (λ p. record {
-      part = p.0; rooms = p.1.0; is_up = p.1.1.0; mode = p.1.1.1.0; waiting = p.1.1.1.1 })
+      part = p.0;
+      rooms = p.1.0;
+      is_up = p.1.1.0;
+      mode = p.1.1.1.0;
+      waiting = p.1.1.1.1;
+    })
     (λ _. refl)
 
 -- what is left of a node without its share
@@ -88,7 +93,7 @@ AreDeferred ring n node ms = All (λ m. IsTrue (may_hold (homes_of ring n m.row.
 abbrev pub HoldsAs : World → NodeState → Type 0
 HoldsAs w n =
     (home : ℕ) (key : List ℕ) → IsSameRow (versions_at n.rooms home key)
-        (row_at w n.part.node home key)
+    (row_at w n.part.node home key)
 
 -- the flag, the mode and the messages of both are the same
 pub record OthersStay (old new : NodeState) : Type 0 where

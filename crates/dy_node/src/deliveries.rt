@@ -83,7 +83,7 @@ impl<J: Naming> Node<J> {
         ensures stopped { IfErr result (λ fault. (self.old.is_up ≡ true) →
             (n : ℕ) × (m : MessageParts) × (slice_get self.old.waiting n ≡ Some m)
             × IsDelivered book.old self.old n book.new self.new × HoldRefused book.new m.row
-                (Some fault)) }
+            (Some fault)) }
     {
         if !self.is_up {
             return Err(Fault::Down);

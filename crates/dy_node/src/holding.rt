@@ -83,6 +83,13 @@ impl<J: Naming> Node<J> {
         if !self.is_up {
             return Err(Fault::Down);
         }
-        hold_row(self.alloc, &mut self.stores, &mut self.share, book, home, row)
+        hold_row(
+            self.alloc,
+            &mut self.stores,
+            &mut self.share,
+            book,
+            home,
+            row,
+        )
     }
 }

@@ -36,11 +36,11 @@ impl<J: Naming> Model for Node<J> {
     ghost coded = { node_code };
 
     ghost view = { λ n. record {
-        part = n.share;
-        rooms = n.stores.rooms;
-        is_up = n.is_up;
-        mode = n.mode;
-        waiting = n.waiting.items;
+      part = n.share;
+      rooms = n.stores.rooms;
+      is_up = n.is_up;
+      mode = n.mode;
+      waiting = n.waiting.items;
     } };
 
     ghost invariant = { λ n.

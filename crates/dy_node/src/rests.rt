@@ -31,10 +31,10 @@ impl Model for Rest {
     ghost coded = { rest_code };
 
     ghost view = { λ r. record {
-        stored = r.stores;
-        is_up = r.is_up;
-        mode = r.mode;
-        waiting = r.waiting.items;
+      stored = r.stores;
+      is_up = r.is_up;
+      mode = r.mode;
+      waiting = r.waiting.items;
     } };
 }
 
@@ -73,11 +73,11 @@ impl<J: Naming> Node<J> {
         requires shown { Shows share rest.stored }
         requires deferred { AreDeferred J.ring J.n share.node rest.waiting }
         ensures { result ≡ record {
-            part = share;
-            rooms = rest.stored.rooms;
-            is_up = rest.is_up;
-            mode = rest.mode;
-            waiting = rest.waiting;
+          part = share;
+          rooms = rest.stored.rooms;
+          is_up = rest.is_up;
+          mode = rest.mode;
+          waiting = rest.waiting;
         } }
     {
         let Rest {

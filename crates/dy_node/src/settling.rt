@@ -127,6 +127,12 @@ impl<J: Naming> Node<J> {
         if !self.is_up {
             return Err(Fault::Down);
         }
-        settle_receipts(self.alloc, &mut self.stores, &mut self.share, book, receipts)
+        settle_receipts(
+            self.alloc,
+            &mut self.stores,
+            &mut self.share,
+            book,
+            receipts,
+        )
     }
 }

@@ -39,8 +39,8 @@ impl Model for Stores {
     ghost coded = { stored_code };
 
     ghost view = { λ s. record {
-        rooms = record { node = s.node; rows = s.own.rows; hints = s.hints };
-        counters = s.own.counters;
+      rooms = record { node = s.node; rows = s.own.rows; hints = s.hints };
+      counters = s.own.counters;
     } };
 
     ghost invariant = { λ s. (key : List ℕ) → maps.get s.hints (s.node, key) ≡ None };
@@ -264,8 +264,10 @@ impl Stores {
     /// Drops one dot from the key's row for another home. Takes no memory.
     pub(crate) fn drop_hint(&mut self, home: NodeId, key: &Key, dot: Dot)
         requires { home ≢ self.old.rooms.node }
-        ensures { self.new ≡ record self.old { rooms = with_row self.old.rooms home key.now
-            (without_dots (versions_at self.old.rooms home key.now) (dot ∷ [])) } }
+        ensures { self.new ≡ record self.old {
+          rooms = with_row self.old.rooms home key.now
+              (without_dots (versions_at self.old.rooms home key.now) (dot ∷ []));
+        } }
     {
         self.hints.remove_dots(home, key, &[dot]);
     }
@@ -320,11 +322,7 @@ fn has_version(versions: &[Version], dot: Dot) -> bool
 }
 
 // Adds the row with its home.
-fn add_row<'a>(
-    rows: &mut Vec<(NodeId, &'a Row)>,
-    home: NodeId,
-    row: &'a Row,
-) -> Result<(), Fault>
+fn add_row<'a>(rows: &mut Vec<(NodeId, &'a Row)>, home: NodeId, row: &'a Row) -> Result<(), Fault>
     ensures ok { OnOk result
         (map shown rows.new.items ≡ map shown rows.old.items ++ (home, row.now) ∷ []) }
     ensures memory { IsOkUnless result Fault.OutOfMemory }

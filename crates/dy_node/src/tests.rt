@@ -116,7 +116,10 @@ fn a_message_comes_after_a_newer_put(rt: HostRuntime) -> Result<(), Fault> {
 #[test]
 fn each_mode_answers_as_it_should(rt: HostRuntime) -> Result<(), Fault> {
     for (number, steps) in [(0, 4), (1, 4), (2, 4), (3, 8), (4, 2), (5, 2)] {
-        assert_eq!(rt; play_scene(rt.alloc(), Scene::Mode { number })?, (true, steps));
+        assert_eq!(rt;
+            play_scene(rt.alloc(), Scene::Mode { number })?,
+            (true, steps)
+        );
     }
     Ok(())
 }

@@ -7,14 +7,14 @@ use Rattle.dy_node.proofs.answering.run.Goals as goal
 pub returns-in-Err-clause-done : goal.returns-in-Err-clause-done
 returns-in-Err-clause-done g c =
     subst (λ a. IsDone {J = g.row.J.Denot} a c.args.node.now c.args.book.now c.store.new.self
-        c.store.new.book (Refused c.in-Err.fault)) (sym c.in-Store.is)
+    c.store.new.book (Refused c.in-Err.fault)) (sym c.in-Store.is)
     (c.in-Err.ensures.err, c.in-Err.ensures.book, c.in-Err.ensures.refused)
 
 -- the row is fetched
 pub returns-in-Ok-fetch-clause-done : goal.returns-in-Ok-fetch-clause-done
 returns-in-Ok-fetch-clause-done g c =
     subst (λ a. IsDone {J = g.row.J.Denot} a c.args.node.now c.args.book.now c.fetch.new.self
-        c.fetch.new.book (Rows c.in-Ok-fetch.seen)) (sym c.in-Fetch.is)
+    c.fetch.new.book (Rows c.in-Ok-fetch.seen)) (sym c.in-Fetch.is)
     (record {
       node = c.in-Ok-fetch.ensures.node;
       log = c.in-Ok-fetch.ensures.log;

@@ -1,3 +1,5 @@
+-- The room for the counter changes nothing that is shown; the row is taken back where the book
+-- refuses.
 use Rattle.std.proofs.Common.{◌≡◌, ◌+◌, [], ◌∷◌, refl, sym, ap, ◌∙◌, subst}
 use Rattle.std.specs.FinMap as maps
 use Rattle.dy_siblings.specs.Siblings.{IsSameRow, merge}
@@ -18,39 +20,39 @@ returns-in_err-placed-clause-shown g c =
     let key = c.key.result.now in
     let shown = subst (λ q. Shows q s) (sym c.agree.ensures.share) c.requires.shown in
     subst (Shows c.agree.new.share)
-        (sym (c.in_err-placed.ensures.err ∙ c.in_ok-make_counter.ensures.ok))
+    (sym (c.in_err-placed.ensures.err ∙ c.in_ok-make_counter.ensures.ok))
     (zero_shows c.agree.new.share s
-        (record { rooms = s.rooms; counters = with_used s.counters key 0 }) key shown refl refl)
+    (record { rooms = s.rooms; counters = with_used s.counters key 0 }) key shown refl refl)
 
 -- the book and the share are those that were lent
 pub issue-requires-clause-may : goal.issue-requires-clause-may
 issue-requires-clause-may g c =
     subst (λ (b : BookParts). MayIssue b c.agree.new.share.node c.args.version.now)
-        (sym c.agree.ensures.book)
+    (sym c.agree.ensures.book)
     (subst (λ (p : NodePart). MayIssue c.args.book.now p.node c.args.version.now)
-        (sym c.agree.ensures.share) c.requires.may)
+    (sym c.agree.ensures.share) c.requires.may)
 
 -- there is room
 pub use_made-requires : goal.use_made-requires
 use_made-requires g c = λ none.
     let s = c.args.stores.now in
     let made = c.in_ok-placed.ensures.counters ∙ ap (λ (x : Stored). x.counters)
-        c.in_ok-make_counter.ensures.ok ∙ ap (λ k. with_used s.counters k 0)
-        (c.key.ensures.value ∙ sym c.key-in-Ok.ensures.value) in
+    c.in_ok-make_counter.ensures.ok ∙ ap (λ k. with_used s.counters k 0)
+    (c.key.ensures.value ∙ sym c.key-in-Ok.ensures.value) in
     used_there s.counters c.key-in-Ok.result.now 0
-        (ap (λ m. maps.get m c.key-in-Ok.result.now) (sym made) ∙ none)
+    (ap (λ m. maps.get m c.key-in-Ok.result.now) (sym made) ∙ none)
 
 -- the row that was put can be taken back
 pub take_back-requires : goal.take_back-requires
 take_back-requires g c =
     let added = added_placed c.make_counter.new.self.rooms c.place.new.self.rooms c.args.home
-        (row_alone c.args.version.now) c.args.whole c.in_ok-placed.placed c.requires.key
+    (row_alone c.args.version.now) c.args.whole c.in_ok-placed.placed c.requires.key
     (subst (λ (r : Rooms). IsSameRow c.args.whole.versions
-        (merge (versions_at r c.args.home c.args.version.now.key) (c.args.version.now ∷ [])))
-        (sym (ap (λ (x : Stored). x.rooms) c.in_ok-make_counter.ensures.ok)) c.requires.whole)
+    (merge (versions_at r c.args.home c.args.version.now.key) (c.args.version.now ∷ [])))
+    (sym (ap (λ (x : Stored). x.rooms) c.in_ok-make_counter.ensures.ok)) c.requires.whole)
     c.in_ok-placed.ensures.rooms in
     subst (λ k. FitsBack c.place.new.self.rooms c.args.home k c.in_ok-placed.placed)
-        (sym c.key-in-Err.ensures.value) added.fits
+    (sym c.key-in-Err.ensures.value) added.fits
 
 -- the version was made and held, and is kept
 pub returns-in-Ok-clause-shown : goal.returns-in-Ok-clause-shown
@@ -62,28 +64,28 @@ returns-in-Ok-clause-shown g c =
     let share = c.agree.ensures.share in
     let shown = subst (λ q. Shows q s) (sym share) c.requires.shown in
     let before = agreed_on layout c.args.book.now c.agree.new.self c.args.share.now
-        c.agree.new.share same share
-        (record { belongs = c.agree.ensures.belongs; legal = c.agree.ensures.legal }) in
+    c.agree.new.share same share
+    (record { belongs = c.agree.ensures.belongs; legal = c.agree.ensures.legal }) in
     let room = c.in_ok-placed.ensures.counters ∙ ap (λ (x : Stored). x.counters)
-        c.in_ok-make_counter.ensures.ok ∙ ap (λ k. with_used s.counters k 0) c.key.ensures.value in
+    c.in_ok-make_counter.ensures.ok ∙ ap (λ k. with_used s.counters k 0) c.key.ensures.value in
     let used : c.use_made.new.self.counters ≡ with_used (with_used s.counters v.key 0) v.key
-        (greatest_used s.counters v.key + 1) =
+    (greatest_used s.counters v.key + 1) =
     ap (λ (x : Stored). x.counters) c.use_made.ensures
-        ∙ (λ i. with_used (room i) (c.key-in-Ok.ensures.value i) (c.requires.counter i)) in
+    ∙ (λ i. with_used (room i) (c.key-in-Ok.ensures.value i) (c.requires.counter i)) in
     let added : IsAdded s.rooms c.use_made.new.self.rooms c.args.home
-        (row_alone v) c.in_ok-placed.placed =
+    (row_alone v) c.in_ok-placed.placed =
     added_placed s.rooms c.use_made.new.self.rooms c.args.home (row_alone v) c.args.whole
-        c.in_ok-placed.placed c.requires.key c.requires.whole
+    c.in_ok-placed.placed c.requires.key c.requires.whole
     (subst (λ r. IsPlaced r c.use_made.new.self.rooms c.args.home c.args.whole
-        c.in_ok-placed.placed) (ap (λ (x : Stored). x.rooms) c.in_ok-make_counter.ensures.ok)
+    c.in_ok-placed.placed) (ap (λ (x : Stored). x.rooms) c.in_ok-make_counter.ensures.ok)
     (subst (λ r. IsPlaced c.make_counter.new.self.rooms r c.args.home c.args.whole
-        c.in_ok-placed.placed) (sym (ap (λ (x : Stored). x.rooms) c.use_made.ensures))
-        c.in_ok-placed.ensures.rooms)) in
+    c.in_ok-placed.placed) (sym (ap (λ (x : Stored). x.rooms) c.use_made.ensures))
+    c.in_ok-placed.ensures.rooms)) in
     subst (λ q. Shows q c.use_made.new.self) (sym c.agree-in-Ok.ensures.share)
     (issue_shows layout c.agree.new.self c.issue.new.self c.agree.new.share c.issue.new.share s
-        c.use_made.new.self c.args.home v c.in_ok-placed.placed before
+    c.use_made.new.self c.args.home v c.in_ok-placed.placed before
     (record { belongs = c.agree-in-Ok.ensures.belongs; legal = c.agree-in-Ok.ensures.legal }) shown
-        c.in-Ok.ensures.issued c.in-Ok.ensures.log c.in-Ok.ensures.share used added)
+    c.in-Ok.ensures.issued c.in-Ok.ensures.log c.in-Ok.ensures.share used added)
 
 -- what was put is taken back
 pub returns-in-Err-clause-shown : goal.returns-in-Err-clause-shown
@@ -94,15 +96,15 @@ returns-in-Err-clause-shown g c =
     let shown = subst (λ q. Shows q s) (sym c.agree.ensures.share) c.requires.shown in
     let made = ap (λ (x : Stored). x.rooms) c.in_ok-make_counter.ensures.ok in
     let added = added_placed c.make_counter.new.self.rooms c.place.new.self.rooms c.args.home
-        (row_alone v) c.args.whole c.in_ok-placed.placed c.requires.key
+    (row_alone v) c.args.whole c.in_ok-placed.placed c.requires.key
     (subst (λ (r : Rooms). IsSameRow c.args.whole.versions
-        (merge (versions_at r c.args.home v.key) (v ∷ []))) (sym made) c.requires.whole)
+    (merge (versions_at r c.args.home v.key) (v ∷ []))) (sym made) c.requires.whole)
     c.in_ok-placed.ensures.rooms in
     let rooms = ap (λ (x : Stored). x.rooms) c.take_back.ensures
-        ∙ ap (λ k. taken_back c.place.new.self.rooms c.args.home k c.in_ok-placed.placed)
-        c.key-in-Err.ensures.value ∙ added.back ∙ made in
+    ∙ ap (λ k. taken_back c.place.new.self.rooms c.args.home k c.in_ok-placed.placed)
+    c.key-in-Err.ensures.value ∙ added.back ∙ made in
     let counters = ap (λ (x : Stored). x.counters) c.take_back.ensures
-        ∙ c.in_ok-placed.ensures.counters ∙ ap (λ (x : Stored). x.counters)
-        c.in_ok-make_counter.ensures.ok in
+    ∙ c.in_ok-placed.ensures.counters ∙ ap (λ (x : Stored). x.counters)
+    c.in_ok-make_counter.ensures.ok in
     subst (λ q. Shows q c.take_back.new.self) (sym c.in-Err.ensures.err.1)
     (zero_shows c.agree.new.share s c.take_back.new.self key shown rooms counters)

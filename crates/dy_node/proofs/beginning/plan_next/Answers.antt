@@ -8,27 +8,27 @@ pub returns-in-Err-clause-refused : goal.returns-in-Err-clause-refused
 returns-in-Err-clause-refused g c =
     plan_full c.args.book.now c.args.share.now.node c.args.key.now c.args.context.now
     (counter_lacks (layout_of g.J.Naming.ring g.J.Naming.n) c.args.book.now c.args.share.now
-        c.args.stores.now c.args.key.now c.counter_limit-limit.result c.requires.agreed
-        c.requires.shown c.counter_limit-limit.ensures.value c.in-Err.ensures.ok)
+    c.args.stores.now c.args.key.now c.counter_limit-limit.result c.requires.agreed
+    c.requires.shown c.counter_limit-limit.ensures.value c.in-Err.ensures.ok)
 
 -- a counter is left, and the book plans no version
 pub returns-in-Err-plan-clause-refused : goal.returns-in-Err-plan-clause-refused
 returns-in-Err-plan-clause-refused g c =
     plan_by c.args.book.now c.args.share.now.node c.args.key.now c.args.context.now
-        c.in-Err-plan.fault
+    c.in-Err-plan.fault
     (counter_left (layout_of g.J.Naming.ring g.J.Naming.n) c.args.book.now c.args.share.now
-        c.args.stores.now c.args.key.now c.counter_limit-limit.result c.requires.agreed
-        c.requires.shown c.counter_limit-limit.ensures.value c.in-Ok.ensures.ok.0)
+    c.args.stores.now c.args.key.now c.counter_limit-limit.result c.requires.agreed
+    c.requires.shown c.counter_limit-limit.ensures.value c.in-Ok.ensures.ok.0)
     c.in-Err-plan.ensures.context_unknown c.in-Err-plan.ensures.versions_full
-        c.in-Err-plan.ensures.steps_full c.in-Err-plan.ensures.only
+    c.in-Err-plan.ensures.steps_full c.in-Err-plan.ensures.only
 
 -- a counter is left, and the version is planned
 pub returns-clause-refused : goal.returns-clause-refused
 returns-clause-refused g c =
     plan_done c.args.book.now c.args.share.now.node c.args.key.now c.args.context.now
-        c.in-Ok-plan.version
+    c.in-Ok-plan.version
     (counter_left (layout_of g.J.Naming.ring g.J.Naming.n) c.args.book.now c.args.share.now
-        c.args.stores.now c.args.key.now c.counter_limit-limit.result c.requires.agreed
-        c.requires.shown c.counter_limit-limit.ensures.value c.in-Ok.ensures.ok.0)
+    c.args.stores.now c.args.key.now c.counter_limit-limit.result c.requires.agreed
+    c.requires.shown c.counter_limit-limit.ensures.value c.in-Ok.ensures.ok.0)
     c.in-Ok-plan.ensures.context_unknown c.in-Ok-plan.ensures.versions_full
-        c.in-Ok-plan.ensures.steps_full
+    c.in-Ok-plan.ensures.steps_full

@@ -13,13 +13,13 @@ unreachable-requires g c =
     let home = c.args.home in
     let row_is = c.in_ok-row.ensures.ok ∙ ap row_alone c.in_ok-try_clone.ensures.value in
     let clash = subst (λ o. IfNone o
-        (AreOneByDot (versions_at rooms home c.in_ok-row.row.key ++ c.in_ok-row.row.versions) → ⊥))
-        c.in_default.is c.in_ok-whole.ensures.none in
+    (AreOneByDot (versions_at rooms home c.in_ok-row.row.key ++ c.in_ok-row.row.versions) → ⊥))
+    c.in_default.is c.in_ok-whole.ensures.none in
     clash (subst (λ (r : Siblings). AreOneByDot (versions_at rooms home r.key ++ r.versions))
-        (sym row_is)
+    (sym row_is)
     (next_one (layout_of g.J.Naming.ring g.J.Naming.n) c.args.book.now c.args.share.now
-        c.args.stores.now home c.args.version.now c.requires.agreed c.requires.shown c.requires.may
-        c.requires.few))
+    c.args.stores.now home c.args.version.now c.requires.agreed c.requires.shown c.requires.may
+    c.requires.few))
 
 -- the row that was merged is the version alone
 pub returns-clause-whole : goal.returns-clause-whole
@@ -28,11 +28,11 @@ returns-clause-whole g c =
     let home = c.args.home in
     let row_is = c.in_ok-row.ensures.ok ∙ ap row_alone c.in_ok-try_clone.ensures.value in
     let merged = subst (λ o. IfSome o
-        (λ (m : Siblings). IsSameRow m.versions
-        (merge (versions_at rooms home c.in_ok-row.row.key) c.in_ok-row.row.versions))) c.in-Some.is
-        c.in_ok-whole.ensures.merged in
+    (λ (m : Siblings). IsSameRow m.versions
+    (merge (versions_at rooms home c.in_ok-row.row.key) c.in_ok-row.row.versions))) c.in-Some.is
+    c.in_ok-whole.ensures.merged in
     subst (λ (r : Siblings). IsSameRow c.in-Some.whole.versions
-        (merge (versions_at rooms home r.key) r.versions)) row_is merged
+    (merge (versions_at rooms home r.key) r.versions)) row_is merged
 
 -- and the version is in it
 pub returns-clause-in_row : goal.returns-clause-in_row

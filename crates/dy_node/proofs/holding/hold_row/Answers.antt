@@ -1,3 +1,4 @@
+-- What was added matches the world after the hold; what the book refused is taken back.
 use Rattle.std.proofs.Common.{◌≡◌, sym, ap, ◌∙◌, subst, None, Some}
 use Rattle.dy_core.specs.Worlds.{layout_of}
 use Rattle.dy_node.specs.Stored.{Shows}
@@ -15,26 +16,28 @@ returns-in-Ok-hold-clause-shown g c =
     let share = c.agree.ensures.share in
     subst (λ q. Shows q c.add.new.self) (sym c.agree-in-Ok-hold.ensures.share)
     (hold_shows layout c.agree.new.self c.hold.new.self c.agree.new.share c.hold.new.share
-        c.args.stores.now c.add.new.self c.args.home c.args.row.now c.in-Ok.placed
+    c.args.stores.now c.add.new.self c.args.home c.args.row.now c.in-Ok.placed
     (agreed_on layout c.args.book.now c.agree.new.self c.args.share.now c.agree.new.share same share
-        (record { belongs = c.agree.ensures.belongs; legal = c.agree.ensures.legal }))
-    (record { belongs = c.agree-in-Ok-hold.ensures.belongs; legal = c.agree-in-Ok-hold.ensures.legal
-        })
+    (record { belongs = c.agree.ensures.belongs; legal = c.agree.ensures.legal }))
+    (record {
+      belongs = c.agree-in-Ok-hold.ensures.belongs;
+      legal = c.agree-in-Ok-hold.ensures.legal;
+    })
     (subst (λ q. Shows q c.args.stores.now) (sym share) c.requires.shown)
     c.in-Ok-hold.ensures.log c.in-Ok-hold.ensures.share c.in-Ok.ensures.counters
-        c.in-Ok.ensures.added)
+    c.in-Ok.ensures.added)
 
 -- what was put is taken back
 pub returns-in-Err-hold-clause-shown : goal.returns-in-Err-hold-clause-shown
 returns-in-Err-hold-clause-shown g c =
     let rooms = ap (λ k. taken_back c.add.new.self.rooms c.args.home k c.in-Ok.placed) c.key.ensures
-        ∙ c.in-Ok.ensures.added.back in
+    ∙ c.in-Ok.ensures.added.back in
     let back : c.take_back.new.self ≡ c.args.stores.now =
     c.take_back.ensures ∙ (λ i. record { rooms = rooms i; counters = c.in-Ok.ensures.counters i })
-        in
+    in
     subst (Shows c.hold.new.share) (sym back)
     (subst (λ q. Shows q c.args.stores.now)
-        (sym (c.in-Err-hold.ensures.err.1 ∙ c.agree.ensures.share)) c.requires.shown)
+    (sym (c.in-Err-hold.ensures.err.1 ∙ c.agree.ensures.share)) c.requires.shown)
 
 -- memory was refused before the book was asked
 pub returns-in-Err-clause-refused : goal.returns-in-Err-clause-refused
@@ -45,11 +48,11 @@ pub returns-in-Ok-hold-clause-refused : goal.returns-in-Ok-hold-clause-refused
 returns-in-Ok-hold-clause-refused g c =
     subst (λ b. HoldRefused b c.args.row.now None) c.agree.ensures.book
     (hold_done c.agree.new.self c.args.row.now c.in-Ok-hold.receipts c.in-Ok-hold.ensures.not_issued
-        c.in-Ok-hold.ensures.steps_full)
+    c.in-Ok-hold.ensures.steps_full)
 
 pub returns-in-Err-hold-clause-refused : goal.returns-in-Err-hold-clause-refused
 returns-in-Err-hold-clause-refused g c =
     subst (λ b. HoldRefused b c.args.row.now (Some c.in-Err-hold.fault)) c.agree.ensures.book
     (hold_by c.agree.new.self c.args.row.now c.in-Err-hold.fault c.in-Err-hold.ensures.not_issued
-        c.in-Err-hold.ensures.steps_full
+    c.in-Err-hold.ensures.steps_full
     c.in-Err-hold.ensures.only)

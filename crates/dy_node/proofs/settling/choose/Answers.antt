@@ -17,7 +17,7 @@ loop-receipt-preserved g c =
     let at = c.loop-receipt.receipt-index in
     let x = c.receipt-item.result in
     let grows = take_more xs at x c.loop-receipt-test.true ∙ ap (λ y. take at xs ++ y ∷ [])
-        (sym c.receipt-item.is) in
+    (sym c.receipt-item.is) in
     subst (λ zs. AreReleased rooms zs c.take_in.new.chosen.items) (sym grows)
     (subst (AreReleased rooms (take at xs ++ x ∷ [])) (sym c.in_ok-take_in.ensures.chosen)
     (released_more rooms (take at xs) c.loop-receipt.chosen.items x c.loop-receipt.invariant))

@@ -15,7 +15,7 @@ drop_hint-requires g c = λ same.
     c.requires at c.receipt-item.result c.loop-receipt-test.true
     (ap (λ (r : ReceiptParts). r.home) (sym c.receipt-item.is) ∙ sym c.home.ensures ∙ same
     ∙ ap (λ (r : Rooms). r.node) c.loop-receipt.invariant.rooms
-        ∙ without_stays c.args.stores.now.rooms (take at xs))
+    ∙ without_stays c.args.stores.now.rooms (take at xs))
 
 -- one dot more is gone
 pub loop-receipt-preserved : goal.loop-receipt-preserved
@@ -26,12 +26,12 @@ loop-receipt-preserved g c =
     let x = c.receipt-item.result in
     let before = c.loop-receipt.invariant.rooms in
     let grows = take_more xs at x c.loop-receipt-test.true ∙ ap (λ y. take at xs ++ y ∷ [])
-        (sym c.receipt-item.is) in record {
+    (sym c.receipt-item.is) in record {
       rooms =
           ap (λ (s : Stored). s.rooms) c.drop_hint.ensures
           ∙ (λ i. with_row (before i) (c.home.ensures i) (c.key.ensures i)
-              (without_dots (versions_at (before i) (c.home.ensures i) (c.key.ensures i))
-              (c.dot.ensures i ∷ [])))
+          (without_dots (versions_at (before i) (c.home.ensures i) (c.key.ensures i))
+          (c.dot.ensures i ∷ [])))
           ∙ sym (without_more rooms (take at xs) x)
           ∙ ap (without_all rooms) (sym grows);
       counters = ap (λ (s : Stored). s.counters) c.drop_hint.ensures

@@ -1,3 +1,5 @@
+-- What stands in hints is held in the world, so it may be released, and leaves store and world
+-- alike.
 use Rattle.std.proofs.Common.{◌≢◌, None, Some, sym, ap, ◌∙◌, subst, arith}
 use Rattle.std.specs.List.{All}
 use Rattle.dy_core.specs.Worlds.{layout_of}
@@ -16,15 +18,15 @@ pub release-requires-clause-each : goal.release-requires-clause-each
 release-requires-clause-each g c =
     let layout = layout_of g.J.Naming.ring g.J.Naming.n in
     let at = releasable layout c.args.book.now c.args.share.now c.args.stores.now
-        c.args.receipts.now c.in-Ok.chosen.items
+    c.args.receipts.now c.in-Ok.chosen.items
     (record { belongs = c.agree.ensures.belongs; legal = c.agree.ensures.legal }) c.requires.shown
-        c.requires.own c.in-Ok.ensures.chosen in
+    c.requires.own c.in-Ok.ensures.chosen in
     subst (All (MayRelease (world_of c.agree.new.self) c.agree.new.share.node))
-        (sym c.as_slice.ensures.value)
+    (sym c.as_slice.ensures.value)
     (subst (λ (b : BookParts). All (MayRelease (world_of b) c.agree.new.share.node)
-        c.in-Ok.chosen.items) (sym c.agree.ensures.book)
+    c.in-Ok.chosen.items) (sym c.agree.ensures.book)
     (subst (λ (p : NodePart). All (MayRelease (world_of c.args.book.now) p.node)
-        c.in-Ok.chosen.items) (sym c.agree.ensures.share) at))
+    c.in-Ok.chosen.items) (sym c.agree.ensures.share) at))
 
 pub release-requires-clause-once : goal.release-requires-clause-once
 release-requires-clause-once g c =
@@ -33,9 +35,9 @@ release-requires-clause-once g c =
 pub drop_all-requires : goal.drop_all-requires
 drop_all-requires g c =
     subst (All (λ (x : ReceiptParts). x.home ≢ c.args.stores.now.rooms.node))
-        (sym c.as_slice-in-Ok-release.ensures.value)
+    (sym c.as_slice-in-Ok-release.ensures.value)
     (released_apart c.args.stores.now.rooms c.args.receipts.now c.in-Ok.chosen.items
-        c.in-Ok.ensures.chosen)
+    c.in-Ok.ensures.chosen)
 
 -- what was released is no longer kept
 pub returns-in-Ok-release-clause-shown : goal.returns-in-Ok-release-clause-shown
@@ -45,15 +47,17 @@ returns-in-Ok-release-clause-shown g c =
     let share = c.agree.ensures.share in
     subst (λ q. Shows q c.drop_all.new.stores) (sym c.agree-in-Ok-release.ensures.share)
     (settle_shows layout c.agree.new.self c.release.new.self c.agree.new.share c.release.new.share
-        c.args.stores.now c.drop_all.new.stores c.as_slice.result.now
+    c.args.stores.now c.drop_all.new.stores c.as_slice.result.now
     (agreed_on layout c.args.book.now c.agree.new.self c.args.share.now c.agree.new.share same share
-        (record { belongs = c.agree.ensures.belongs; legal = c.agree.ensures.legal }))
-    (record { belongs = c.agree-in-Ok-release.ensures.belongs;
-        legal = c.agree-in-Ok-release.ensures.legal })
+    (record { belongs = c.agree.ensures.belongs; legal = c.agree.ensures.legal }))
+    (record {
+      belongs = c.agree-in-Ok-release.ensures.belongs;
+      legal = c.agree-in-Ok-release.ensures.legal;
+    })
     (subst (λ q. Shows q c.args.stores.now) (sym share) c.requires.shown)
     c.in-Ok-release.ensures.log c.in-Ok-release.ensures.share c.drop_all.ensures.counters
     (c.drop_all.ensures.rooms ∙ ap (without_all c.args.stores.now.rooms)
-        (c.as_slice-in-Ok-release.ensures.value ∙ sym c.as_slice.ensures.value)))
+    (c.as_slice-in-Ok-release.ensures.value ∙ sym c.as_slice.ensures.value)))
 
 -- the receipts that were chosen
 pub returns-in-Ok-release-clause-ok : goal.returns-in-Ok-release-clause-ok
@@ -81,20 +85,20 @@ returns-in-Err-clause-refused g c = release_memory c.args.book.now c.args.stores
 pub returns-in-Ok-release-clause-refused : goal.returns-in-Ok-release-clause-refused
 returns-in-Ok-release-clause-refused g c =
     subst (λ b. ReleaseRefused b c.args.stores.now.rooms c.args.receipts.now None)
-        c.agree.ensures.book
+    c.agree.ensures.book
     (release_done c.agree.new.self c.args.stores.now.rooms c.args.receipts.now c.as_slice.result.now
-        tt
+    tt
     (subst (AreReleased c.args.stores.now.rooms c.args.receipts.now) (sym c.as_slice.ensures.value)
-        c.in-Ok.ensures.chosen)
+    c.in-Ok.ensures.chosen)
     c.in-Ok-release.ensures.steps_full)
 
 -- the book is the one that was lent, and the receipts are those that were chosen
 pub returns-clause-refused : goal.returns-clause-refused
 returns-clause-refused g c =
     subst (λ b. ReleaseRefused b c.args.stores.now.rooms c.args.receipts.now
-        (Some c.in-Err-release.fault)) c.agree.ensures.book
+    (Some c.in-Err-release.fault)) c.agree.ensures.book
     (release_by c.agree.new.self c.args.stores.now.rooms c.args.receipts.now c.as_slice.result.now
-        c.in-Err-release.fault
+    c.in-Err-release.fault
     (subst (AreReleased c.args.stores.now.rooms c.args.receipts.now) (sym c.as_slice.ensures.value)
-        c.in-Ok.ensures.chosen)
+    c.in-Ok.ensures.chosen)
     c.in-Err-release.ensures.steps_full c.in-Err-release.ensures.only)

@@ -10,6 +10,6 @@ pub returns-clause-holds : goal.returns-clause-holds
 returns-clause-holds g c =
     subst (HoldsAs (world_of c.args.book.now)) c.self.view_is
     (state_holds (layout_of g.J.Naming.ring g.J.Naming.n) c.args.book.now c.self.inside.share
-        c.self.inside.stores
+    c.self.inside.stores
     (record { belongs = c.agree.ensures.belongs; legal = c.agree.ensures.legal })
-        c.self.invariant.0)
+    c.self.invariant.0)

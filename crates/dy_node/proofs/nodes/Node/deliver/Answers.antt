@@ -1,3 +1,4 @@
+-- Each turn stores the first of those that wait: of n turns, the first n.
 use Rattle.std.proofs.Common.{length, slice_get, Some, sym, ap, ◌∙◌, subst, arith, length-drop}
 use Rattle.dy_node.proofs.Delivering.{delivered_next, first_behind}
 use Rattle.dy_node.specs.Nodes.{IsDelivered}
@@ -6,9 +7,14 @@ use Rattle.dy_node.proofs.nodes.Node.deliver.Goals as goal
 
 -- those that wait are not all stored
 pub deliver_first-requires : goal.deliver_first-requires
-deliver_first-requires g c = omega
-    (arith, ap length c.loop-number.invariant.done.waiting, length-drop c.loop-number._number
-    c.args.self.now.waiting, c.loop-number.invariant.all, c.loop-number-test.true)
+deliver_first-requires g c = omega (
+  arith,
+  ap length c.loop-number.invariant.done.waiting,
+  length-drop c.loop-number._number
+      c.args.self.now.waiting,
+  c.loop-number.invariant.all,
+  c.loop-number-test.true,
+)
 
 -- one more is stored
 pub loop-number-preserved : goal.loop-number-preserved

@@ -15,8 +15,9 @@ invariant_of-self g c =
     let same = ap (λ (p : NodePart). p.node) c.in-Ok.ensures.share in (
       c.hold_row.ensures.shown,
       subst (λ k. AreDeferred ring n k c.pop_front-message.new.self.items) (sym same)
-      (subst (AreDeferred ring n node) (sym c.pop_front-message.ensures.rest)
-      (all_but_first (λ (m : Message). IsTrue (may_hold (homes_of ring n m.row.key) node m.home))
+          (subst (AreDeferred ring n node) (sym c.pop_front-message.ensures.rest)
+          (all_but_first (λ (m : Message). IsTrue
+          (may_hold (homes_of ring n m.row.key) node m.home))
           c.self.inside.waiting.items c.self.invariant.1)),
     )
 
@@ -26,7 +27,7 @@ returns-in-Err-clause-refused g c =
     let m = c.in-Some.message.now in (
       m,
       first_there c.args.self.now.waiting m c.requires
-      (subst (λ (x : NodeState). m ≡ slice_index_or x.waiting 0 m) c.self.view_is
+          (subst (λ (x : NodeState). m ≡ slice_index_or x.waiting 0 m) c.self.view_is
           c.in-Some.ensures.lookup),
       c.in-Err.ensures.refused,
     )

@@ -1,3 +1,4 @@
+-- What the world holds at the node is what the node keeps, since share and book agree.
 use Rattle.std.proofs.Common.{sym, ap, ◌∙◌, subst, None, Some}
 use Rattle.dy_siblings.specs.Siblings.{IsSameRow}
 use Rattle.dy_core.specs.Worlds.{layout_of, row_at}
@@ -17,16 +18,16 @@ returns-clause-row g c =
     let home = c.args.home in
     let key = c.args.key.now in
     let kept = state_holds (layout_of g.J.Naming.ring g.J.Naming.n) c.args.book.now
-        c.self.inside.share c.self.inside.stores
+    c.self.inside.share c.self.inside.stores
     (record { belongs = c.agree.ensures.belongs; legal = c.agree.ensures.legal }) c.self.invariant.0
-        home key in
+    home key in
     let at_book = subst (λ (b : BookParts). IsSameRow c.in-Ok.seen.row
-        (row_at (world_of b) c.agree.new.share.node home key)) c.agree.ensures.book
-        c.in-Ok.ensures.row in
+    (row_at (world_of b) c.agree.new.share.node home key)) c.agree.ensures.book
+    c.in-Ok.ensures.row in
     let at_node = subst (λ (p : NodePart). IsSameRow c.in-Ok.seen.row
-        (row_at (world_of c.args.book.now) p.node home key)) c.agree.ensures.share at_book in
+    (row_at (world_of c.args.book.now) p.node home key)) c.agree.ensures.share at_book in
     subst (λ (n : NodeState). IsSameRow c.in-Ok.seen.row (versions_at n.rooms home key))
-        c.self.view_is (same_row_on _ _ _ at_node (same_row_back _ _ kept))
+    c.self.view_is (same_row_on _ _ _ at_node (same_row_back _ _ kept))
 
 -- the node is down
 pub returns-then-not-self-clause-refused : goal.returns-then-not-self-clause-refused
@@ -40,11 +41,11 @@ returns-in-Err-clause-refused g c =
     subst (λ b. FetchRefused b c.args.self.now (Some c.in-Err.fault)) c.agree.ensures.book
     (fetch_by c.agree.new.self c.args.self.now c.in-Err.fault
     (sym (ap (λ (n : NodeState). n.is_up) c.self.view_is) ∙ c.if-not-self.false)
-        c.in-Err.ensures.steps_full c.in-Err.ensures.only)
+    c.in-Err.ensures.steps_full c.in-Err.ensures.only)
 
 pub returns-clause-refused : goal.returns-clause-refused
 returns-clause-refused g c =
     subst (λ b. FetchRefused b c.args.self.now None) c.agree.ensures.book
     (fetch_done c.agree.new.self c.args.self.now c.in-Ok.seen
     (sym (ap (λ (n : NodeState). n.is_up) c.self.view_is) ∙ c.if-not-self.false)
-        c.in-Ok.ensures.steps_full)
+    c.in-Ok.ensures.steps_full)

@@ -13,9 +13,11 @@ invariant_of-result g c =
     let ring = g.J.Naming.ring in
     let n = g.J.Naming.n in (
       first_shows c.args.share c.new-stores.result c.requires
-      (c.new-stores.ensures ∙ ap
-          (λ k. record { rooms = record { node = k; rows = maps.empty; hints = maps.empty };
-          counters = maps.empty }) c.node.ensures.value),
+          (c.new-stores.ensures ∙ ap
+          (λ k. record {
+            rooms = record { node = k; rows = maps.empty; hints = maps.empty };
+            counters = maps.empty;
+          }) c.node.ensures.value),
       subst (AreDeferred ring n c.args.share.node) (sym c.new.ensures.items)
           (All-nil (λ (m : Message). IsTrue
           (may_hold (homes_of ring n m.row.key) c.args.share.node m.home))),

@@ -15,8 +15,8 @@ returns-then-not-self-clause-refused g c =
 pub returns-clause-refused : goal.returns-clause-refused
 returns-clause-refused g c =
     settle_up c.args.book.now c.args.self.now c.args.receipts.now
-        (result_err c.settle_receipts.result)
+    (result_err c.settle_receipts.result)
     (sym (ap (λ (n : NodeState). n.is_up) c.self.view_is) ∙ c.if-not-self.false)
     (subst (λ (n : NodeState). ReleaseRefused c.args.book.now n.rooms c.args.receipts.now
-        (result_err c.settle_receipts.result)) c.self.view_is
+    (result_err c.settle_receipts.result)) c.self.view_is
     c.settle_receipts.ensures.refused)

@@ -15,4 +15,4 @@ pub returns-clause-refused : goal.returns-clause-refused
 returns-clause-refused g c =
     store_up c.args.book.now c.args.self.now c.args.row.now (result_err c.hold_row.result)
     (sym (ap (λ (n : NodeState). n.is_up) c.self.view_is) ∙ c.if-not-self.false)
-        c.hold_row.ensures.refused
+    c.hold_row.ensures.refused

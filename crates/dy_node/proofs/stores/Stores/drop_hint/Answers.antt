@@ -10,6 +10,6 @@ pub invariant_of-self : goal.invariant_of-self
 invariant_of-self c = λ key.
     ap (λ m. maps.get m (c.self.inside.node, key)) c.remove_dots.ensures
     ∙ own_hints_stay c.self.inside.hints c.self.inside.node c.args.home c.args.key.now
-        (without_dots (versions_for c.self.inside.hints c.args.home c.args.key.now)
-        (c.args.dot ∷ []))
+    (without_dots (versions_for c.self.inside.hints c.args.home c.args.key.now)
+    (c.args.dot ∷ []))
     (λ same. c.requires (same ∙ ap (λ s. s.rooms.node) c.self.view_is)) key (c.self.invariant key)

@@ -1,3 +1,4 @@
+-- What the put row put out of its place comes back when it is put there again.
 use Rattle.std.proofs.Common.{sym, ap, ◌∙◌, subst, IfSome, []}
 use Rattle.dy_node_store.specs.Rows.{IsRowOf}
 use Rattle.dy_node.specs.Stored.{Stored, with_row}
@@ -14,9 +15,9 @@ returns-then-is_kept-clause-rooms c =
     let before = c.replace-before.result in
     let rooms = ap (λ (s : Stored). s.rooms) c.replace-before.ensures.rooms in
     let good : IsRowOf key before = subst (λ o. IfSome o (IsRowOf key))
-        c.replace-before.ensures.value
-        (subst (λ k. IfSome (row_kept old home k) (IsRowOf k)) c.key.ensures
-        c.is_kept.ensures.valid) in (
+    c.replace-before.ensures.value
+    (subst (λ k. IfSome (row_kept old home k) (IsRowOf k)) c.key.ensures
+    c.is_kept.ensures.valid) in (
       rooms,
       ap (λ r. with_row r home key before.versions) rooms ∙ put_back old home key
           c.args.row.versions before.versions
@@ -34,7 +35,7 @@ returns-clause-rooms c =
     let key = c.args.row.key in
     let rooms = ap (λ (s : Stored). s.rooms) c.in_ok-put.ensures.ok in
     let none = none_kept (row_kept old home c.key.result.now) c.is_kept.result
-        c.is_kept.ensures.value c.if-is_kept.false in (
+    c.is_kept.ensures.value c.if-is_kept.false in (
       rooms,
       ap (λ r. with_row r home key []) rooms ∙ put_back old home key c.args.row.versions []
           (none ∙ ap (row_kept old home) c.key.ensures),

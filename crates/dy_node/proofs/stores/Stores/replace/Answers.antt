@@ -8,5 +8,5 @@ pub invariant_of-self-else-eq : goal.invariant_of-self-else-eq
 invariant_of-self-else-eq c = λ key.
     ap (λ m. maps.get m (c.self.inside.node, key)) c.replace_row-else-eq.ensures.hints
     ∙ own_hints_stay c.self.inside.hints c.self.inside.node c.args.home c.args.row.key
-        c.args.row.versions (apart_from _ _ (sym c.eq.ensures ∙ c.if-eq.false)) key
-        (c.self.invariant key)
+    c.args.row.versions (apart_from _ _ (sym c.eq.ensures ∙ c.if-eq.false)) key
+    (c.self.invariant key)

@@ -1,0 +1,3 @@
+pub mod Stales
+pub mod Repairs
+pub mod inside

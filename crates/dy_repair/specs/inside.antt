@@ -1,0 +1,3 @@
+-- What contracts of private functions alone speak of.
+pub mod Telling
+pub mod Noting

@@ -1,0 +1,8 @@
+//! The repair of homes that answered a get with another row.
+#![tactic(auto)]
+
+mod repairs;
+mod stales;
+
+pub use repairs::repair;
+pub use stales::stale;
