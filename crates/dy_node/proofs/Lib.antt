@@ -5,4 +5,3 @@ pub mod NextOnes
 pub mod SettleLemmas
 pub mod Causes
 pub mod SameCounts
-pub mod FirstParts

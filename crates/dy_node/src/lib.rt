@@ -16,8 +16,6 @@ mod placed;
 mod rests;
 mod settling;
 mod stores;
-#[cfg(test)]
-mod tests;
 
 pub use answering::answer;
 pub use asks::{Answer, Ask};
