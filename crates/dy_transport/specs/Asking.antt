@@ -48,8 +48,9 @@ module _ {J : Type 0} where
       pub dot_is : version.dot ≡ b.dot
       pub value_is : version.value ≡ value
 
-  -- an answer of a node to what it was asked for a home: a receipt for each version of the row, or a
-  -- fetch of that key after so many steps; that it is down, that nothing came and a refusal fit all
+  -- an answer of a node to what it was asked for a home: a receipt for each version of the row, or
+  -- a fetch of that key after so many steps; that it is down, that nothing came and a refusal fit
+  -- all
   abbrev pub FitsWhat : ℕ → ℕ → What → Answer J → Type 0
   FitsWhat to home (what.Store row) (answer.Stored receipts) =
       receipts.items ≡ receipts_of row.value.versions to home

@@ -11,8 +11,8 @@ use Rattle.dy_transport.specs.declared.asked.Asked.{Asked}
 use Rattle.dy_transport.specs.declared.tries.Try.{Try}
 use Rattle.dy_transport.specs.declared.replies.Reply.{Reply}
 
--- what was tried, asked and answered in one call; whether the last look for an answer since the last
--- ask found none; and for how many asks there is room
+-- what was tried, asked and answered in one call; whether the last look for an answer since the
+-- last ask found none; and for how many asks there is room
 pub record Told (J : Type 0) : Type 0 where
   pub tries : List (Try J)
   pub asks : List Asked
