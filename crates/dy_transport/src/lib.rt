@@ -7,8 +7,6 @@ mod kinds;
 mod lines;
 mod replies;
 mod snapshots;
-#[cfg(test)]
-mod tests;
 mod trails;
 mod transports;
 mod tries;

@@ -1,6 +1,0 @@
-use Rattle.dy_transport.proofs.tests.play_scene.Given as goal
-
--- the book is named by its blank
-abbrev pub ghosts-play : goal.ghosts-play
-ghosts-play g a =
-    record { ring = a.ring; n = 3; r = 1; book = a.blank.book; table = a.blank.table }
