@@ -72,12 +72,12 @@ made_last layout b p v agreed may few =
     let left = may.counter_left in
     let counter : (world_of b).counters p.node v.key < MAX_COUNTER = omega (arith, left, few) in
     let made : Version =
-        version_made (world_of b) p.node v.key may.next.context v.value in
+    version_made (world_of b) p.node v.key may.next.context v.value in
     let sound : IsSound layout (after_issue (world_of b) made) =
-        step_sound layout (world_of b) (log_sound layout (steps_of b.log) agreed.legal)
-          (Issue p.node v.key may.next.context v.value) (may.next.known, counter) in
+    step_sound layout (world_of b) (log_sound layout (steps_of b.log) agreed.legal)
+    (Issue p.node v.key may.next.context v.value) (may.next.known, counter) in
     subst (λ (x : Version). IsOrdered (x ∷ (world_of b).versions)) (sym may.next.is_made)
-      sound.ordered
+    sound.ordered
 
 -- so its dot lies in no past, and the merge keeps it
 pub next_stays : (layout : Layout) (b : BookParts) (p : NodePart) (s : Stored) (home : ℕ)
@@ -108,11 +108,11 @@ next_stays layout b p s home v agreed is may few =
         ⊎_elim
         (λ old.
         let m = made_at (world_of b) s.rooms.node home v.key (versions_at s.rooms home v.key)
-            ((matches_world (steps_of b.log) p agreed.belongs s is).rows_are home v.key) x old in
+        ((matches_world (steps_of b.log) p agreed.belongs s is).rows_are home v.key) x old in
         unknown x m.1 (past_is_known older ordered.1 x m.0 v.dot e))
         (λ same. unknown v refl
-          (ordered.0.past_known v.dot
-            (subst (λ (y : Version). set.contains y.past v.dot ≡ true) (sym same) e)))
+        (ordered.0.past_known v.dot
+        (subst (λ (y : Version). set.contains y.past v.dot ≡ true) (sym same) e)))
         (Contains-push_cases (versions_at s.rooms home v.key) v x h)
 
     alone : is_past all v.dot ≡ false

@@ -41,12 +41,12 @@ returns-clause-in_row g c =
     let home = c.args.home in
     let row_is = c.in_ok-row.ensures.ok ∙ ap row_alone c.in_ok-try_clone.ensures.value in
     let merged = subst (λ o. IfSome o
-        (λ (m : Siblings). IsSameRow m.versions
-        (merge (versions_at rooms home c.in_ok-row.row.key) c.in_ok-row.row.versions))) c.in-Some.is
-        c.in_ok-whole.ensures.merged in
+    (λ (m : Siblings). IsSameRow m.versions
+    (merge (versions_at rooms home c.in_ok-row.row.key) c.in_ok-row.row.versions))) c.in-Some.is
+    c.in_ok-whole.ensures.merged in
     let same = subst (λ (r : Siblings). IsSameRow c.in-Some.whole.versions
-        (merge (versions_at rooms home r.key) r.versions)) row_is merged in
+    (merge (versions_at rooms home r.key) r.versions)) row_is merged in
     (same c.args.version.now).1
     (next_stays (layout_of g.J.Naming.ring g.J.Naming.n) c.args.book.now c.args.share.now
-        c.args.stores.now home c.args.version.now c.requires.agreed c.requires.shown c.requires.may
-        c.requires.few)
+    c.args.stores.now home c.args.version.now c.requires.agreed c.requires.shown c.requires.may
+    c.requires.few)
