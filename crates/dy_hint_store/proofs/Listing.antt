@@ -1,15 +1,17 @@
 -- The entries of the maps for the homes are in order.
-use Rattle.std.proofs.Common.{◌≡◌, ℕ, suc, ◌+◌, ◌<◌, T, Bool, true, false, ◌&&◌, List, [], ◌∷◌, ◌++◌, map, Bor, drop, append_assoc, subst, refl, sym, ap, ◌∙◌, arith}
+use Rattle.std.proofs.Common.{◌≡◌, ℕ, suc, ◌+◌, ◌<◌, T, Bool, true, false, ◌&&◌, List, [], ◌∷◌, ◌++◌, length, length-append, map, Bor, drop, append_assoc, subst, refl, sym, ap, ◌∙◌, arith}
 use Rattle.std.specs.declared.cmp.Ordering.TheVariants.{Less}
 use Rattle.std.specs.Ordering.{nat_cmp, is_lt, ordering_then}
 use Rattle.std.specs.Cmp.{nat_cmp_is, nat_cmp_total, tied_itself}
 use Rattle.std.specs.Cmp.Lexicographic.{slice_cmp}
 use Rattle.std.specs.FinMap as maps
 use Rattle.std.specs.FinMap.Entries.{below_all, is_sorted, same_entries}
-use Rattle.std.proofs.lemmas.List.{map-append}
+use Rattle.std.specs.List.{All}
+use Rattle.std.proofs.lemmas.List.{length-map, map-append}
+use Rattle.std.proofs.lemmas.List.Elements.{All-map, All-weaker}
 use Rattle.dy_siblings.specs.Siblings.{Siblings}
-use Rattle.dy_node_store.specs.Rows.{Rows}
-use Rattle.dy_hint_store.specs.Hints.{home_then_key, home_and_row, shown}
+use Rattle.dy_node_store.specs.Rows.{IsKeptRow, Rows}
+use Rattle.dy_hint_store.specs.Hints.{Hints, IsHint, home_then_key, home_and_row, shown}
 use Rattle.dy_hint_store.specs.inside.Homes.{entries_for, entries_from}
 use Rattle.dy_hint_store.proofs.HomeLemmas.{home_then_key_total, home_then_key_exact}
 
@@ -88,3 +90,25 @@ shown_before homes home map_of rows before first_is same =
     ∙ (λ i. before ++ (shown_for home rows (maps.entries map_of) same i ++ map home_and_row (entries_from (next i) later)))
     ∙ ap (λ hints. before ++ hints) (sym (map-append home_and_row (entries_for home (maps.entries map_of)) (entries_from (suc home) later)))
     ∙ ap (λ maps_left. before ++ map home_and_row (entries_from home maps_left)) (sym first_is)
+
+-- the rows that are kept of their keys in the map for a home are hints for it
+pub hints_of_home : (hints : Hints) (home : ℕ) (map_of : Rows) →
+    ((key : List ℕ) → maps.get hints (home, key) ≡ maps.get map_of key) →
+    (rows : List (Bor Siblings)) → All (λ row. IsKeptRow map_of row.now) rows →
+    All (IsHint hints) (map (λ row. shown (home, row)) rows)
+hints_of_home hints home map_of same rows kept =
+    All-map (IsHint hints) (λ row. shown (home, row)) rows
+    (All-weaker (λ row. IsKeptRow map_of row.now) (λ row. IsHint hints (shown (home, row)))
+    (λ row is. (same row.now.key ∙ is.0, is.1)) rows kept)
+
+-- the entries of the maps from one home on are those of its map and those of the later homes
+pub entries_more : (homes : List Rows) (home : ℕ) (map_of : Rows) →
+    drop home homes ≡ map_of ∷ drop (home + 1) homes →
+    length (entries_from home (drop home homes))
+    ≡ length (maps.entries map_of) + length (entries_from (home + 1) (drop (home + 1) homes))
+entries_more homes home map_of first_is =
+    let next : home + 1 ≡ suc home = omega arith in
+    ap (λ left. length (entries_from home left)) first_is
+    ∙ length-append (entries_for home (maps.entries map_of)) (entries_from (suc home) (drop (home + 1) homes))
+    ∙ (λ i. length-map {B = (ℕ × List ℕ) × Siblings} (maps.entries map_of) (λ e. ((home, e.0), e.1)) i
+    + length (entries_from (sym next i) (drop (home + 1) homes)))

@@ -1,5 +1,5 @@
 -- Hints: rows by home and key.
-use Rattle.std.specs.Prelude.{ℕ, List, [], ◌∷◌}
+use Rattle.std.specs.Prelude.{◌≡◌, ◌<◌, ℕ, List, [], ◌∷◌, length, Some}
 use Rattle.std.specs.declared.cmp.Ordering.{Ordering}
 use Rattle.std.specs.Ordering.{nat_cmp, ordering_then}
 use Rattle.std.specs.Cmp.Lexicographic.{slice_cmp}
@@ -40,3 +40,7 @@ home_and_row hint = (hint.0.0, hint.1)
 -- the home and the row that a listed hint shows
 abbrev pub shown : ℕ × Bor Siblings → ℕ × Siblings
 shown hint = (hint.0, hint.1.now)
+
+-- the hint is the row that is kept of its key for its home, and has a version
+abbrev pub IsHint : Hints → ℕ × Siblings → Type 0
+IsHint hints hint = (maps.get hints (hint.0, hint.1.key) ≡ Some hint.1) × (0 < length hint.1.versions)

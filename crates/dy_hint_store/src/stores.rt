@@ -1,9 +1,11 @@
-ghost use Rattle.std.specs.Prelude.{◌≡◌, ◌<◌, None, Some, length, map, IsSome, IfSome, IfOk, OnOk};
+ghost use Rattle.std.specs.Prelude.{◌≡◌, ◌<◌, ◌-◌, ◌^◌, None, Some, length, map, min, IsSome, IfSome, IfOk, OnOk};
 ghost use Rattle.std.specs.Prelude.{OnErr, IsOkUnless};
 ghost use Rattle.std.specs.Option.{option_copied};
 ghost use Rattle.std.specs.FinMap as maps;
+ghost use Rattle.std.specs.List.{All};
 ghost use Rattle.dy_node_store.specs.Rows.{without_dots, IsRowOf};
 ghost use Rattle.dy_hint_store.specs.Hints.{versions_for, with_versions_for, home_and_row, shown};
+ghost use Rattle.dy_hint_store.specs.Hints.{IsHint};
 
 use crate::homes;
 use dy_dots::{Dot, Fault, NodeId};
@@ -45,6 +47,17 @@ impl HintStore {
             alloc,
             homes: Vec::new(alloc),
         }
+    }
+
+    /// How many hints there are, as far as a count reaches. Takes no memory.
+    pub fn len(&self) -> usize
+        ensures { result ≡ min (length (maps.entries self.now)) (2 ^ 64 - 1) }
+    {
+        let mut count = 0usize;
+        for number in 0..self.homes.len() {
+            count = count.saturating_add(self.homes[number].len());
+        }
+        count
     }
 
     /// The row of the key for the home. Takes no memory.
@@ -117,6 +130,8 @@ impl HintStore {
     pub fn list(&self, alloc: Global) -> Result<Vec<(NodeId, &Row)>, Fault>
         ensures value { IfOk result
             (λ hints. map shown hints.items ≡ map home_and_row (maps.entries self.now)) }
+        ensures kept { IfOk result
+            (λ hints. All (λ hint. IsHint self.now (shown hint)) hints.items) }
         ensures memory { IsOkUnless result Fault.OutOfMemory }
     {
         let mut hints = Vec::new(alloc);

@@ -5,3 +5,4 @@ pub mod NextOnes
 pub mod SettleLemmas
 pub mod Causes
 pub mod SameCounts
+pub mod HintLemmas

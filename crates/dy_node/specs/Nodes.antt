@@ -88,6 +88,11 @@ with_message n m = record n { waiting = n.waiting ++ m ∷ [] }
 abbrev pub AreDeferred : Tokens → ℕ → ℕ → List Message → Type 0
 AreDeferred ring n node ms = All (λ m. IsTrue (may_hold (homes_of ring n m.row.key) node m.home)) ms
 
+-- each hint is for a home of its row's key
+abbrev pub AreForHomes : Tokens → ℕ → List (ℕ × Siblings) → Type 0
+AreForHomes ring n hints =
+    All (λ h. IsTrue (may_hold (homes_of ring n h.1.key) h.0 h.0)) hints
+
 -- what the node keeps is what the world holds at it: each version is the one that was made with its
 -- dot
 abbrev pub HoldsAs : World → NodeState → Type 0

@@ -1,9 +1,11 @@
 // The hints of a node, to be handed over.
-ghost use Rattle.std.specs.Prelude.{◌≡◌, ◌↔◌, ◌⊎◌, false, map, IfOk, IfErr, IsErrOf, IsOkUnless};
+ghost use Rattle.std.specs.Prelude.{◌≡◌, ◌↔◌, ◌⊎◌, ◌-◌, ◌^◌, false, length, map, min, IfOk, IfErr, IsErrOf, IsOkUnless};
 ghost use Rattle.std.specs.FinMap as maps;
 ghost use Rattle.dy_hint_store.specs.Hints.{home_and_row, shown};
+ghost use Rattle.dy_node.specs.Nodes.{AreForHomes};
 
 use crate::nodes::Node;
+use dy_book::Book;
 use dy_dots::{Fault, NodeId};
 use dy_shares::Naming;
 use dy_siblings::Row;
@@ -23,17 +25,30 @@ fn copied(alloc: Global, hints: &[(NodeId, &Row)]) -> Result<Vec<(NodeId, Row)>,
 }
 
 impl<J: Naming> Node<J> {
-    /// Copies of the rows that are kept for other homes, by home and then by key.
-    pub fn offer(&self) -> Result<Vec<(NodeId, Row)>, Fault>
+    /// How many hints the node keeps, as far as a count reaches. A node that is down tells it too.
+    /// Takes no memory.
+    pub fn hint_count(&self) -> usize
+        ensures { result ≡ min (length (maps.entries self.now.rooms.hints)) (2 ^ 64 - 1) }
+    {
+        self.stores.hint_count()
+    }
+
+    /// Copies of the rows that are kept for other homes, by home and then by key. It lends the book
+    /// since that tells who may hold.
+    pub fn offer(&mut self, book: &mut Book<J>) -> Result<Vec<(NodeId, Row)>, Fault>
         ensures hints { IfOk result (λ hints.
-            hints.items ≡ map home_and_row (maps.entries self.now.rooms.hints)) }
-        ensures down { IsErrOf result Fault.Down ↔ (self.now.is_up ≡ false) }
+            hints.items ≡ map home_and_row (maps.entries self.old.rooms.hints)) }
+        ensures for_homes { IfOk result (λ hints. AreForHomes J.ring J.n hints.items) }
+        ensures down { IsErrOf result Fault.Down ↔ (self.old.is_up ≡ false) }
         ensures only { IfErr result (λ fault.
             (fault ≡ Fault.Down) ⊎ (fault ≡ Fault.OutOfMemory)) }
+        ensures node { self.new ≡ self.old }
+        ensures book { book.new ≡ book.old }
     {
         if !self.is_up {
             return Err(Fault::Down);
         }
+        book.agree(&mut self.share);
         let Ok(hints) = self.stores.list(self.alloc) else {
             return Err(Fault::OutOfMemory);
         };

@@ -1,17 +1,19 @@
 // What a node keeps, apart from books and shares.
 ghost use Rattle.std.specs.Prelude.{◌≡◌, ◌≢◌, ◌↔◌, ◌<◌, ◌+◌, ◌++◌, ◌∷◌, [], None, Some, map};
-ghost use Rattle.std.specs.Prelude.{length};
+ghost use Rattle.std.specs.Prelude.{◌-◌, ◌^◌, length, min};
 ghost use Rattle.std.specs.Prelude.{IsSome, IfSome, IfNone, IfOk, IfErr, OnOk, OnErr, IsOk, IsTrue};
 ghost use Rattle.std.specs.Prelude.{IsOkUnless};
 ghost use Rattle.std.specs.Option.{option_copied};
 ghost use Rattle.std.specs.Result.{OkIff};
 ghost use Rattle.std.specs.FinMap as maps;
+ghost use Rattle.std.specs.List.{All};
 ghost use Rattle.dy_siblings.specs.Siblings.{AreOneByDot, IsSameRow, has_dot, merge};
 ghost use Rattle.dy_node_store.specs.Rows.{IsRowOf, without_dots};
 ghost use Rattle.dy_node_store.specs.Counters.{greatest_used, with_used};
 ghost use Rattle.dy_hint_store.specs.Hints.{home_and_row, shown};
 ghost use Rattle.dy_node.specs.Stored.{empty_rooms, kept_rows, stands, versions_at, with_row};
-ghost use Rattle.dy_node.specs.inside.Placing.{FitsBack, IsAdded, IsPlaced, row_kept, taken_back};
+ghost use Rattle.dy_node.specs.inside.Placing.{FitsBack, IsAdded, IsHintOf, IsPlaced, row_kept};
+ghost use Rattle.dy_node.specs.inside.Placing.{taken_back};
 
 use crate::placed::Placed;
 use dy_dots::{Dot, Fault, NodeId};
@@ -304,13 +306,23 @@ impl Stores {
         Ok(rows)
     }
 
+    /// How many rows are kept for other homes, as far as a count reaches. Takes no memory.
+    pub(crate) fn hint_count(&self) -> usize
+        ensures { result ≡ min (length (maps.entries self.now.rooms.hints)) (2 ^ 64 - 1) }
+    {
+        self.hints.len()
+    }
+
     /// The rows that are kept for other homes.
     pub(crate) fn list(&self, alloc: Global) -> Result<Vec<(NodeId, &Row)>, Fault>
         ensures value { IfOk result (λ hints.
             map shown hints.items ≡ map home_and_row (maps.entries self.now.rooms.hints)) }
+        ensures kept { IfOk result
+            (λ hints. All (IsHintOf self.now.rooms) (map shown hints.items)) }
         ensures memory { IsOkUnless result Fault.OutOfMemory }
     {
-        self.hints.list(alloc)
+        let hints = self.hints.list(alloc)?;
+        Ok(hints)
     }
 }
 

@@ -38,3 +38,7 @@ without_dots vs dots = filter (λ v. not (list_any (λ d. same_dot v.dot d) dots
 -- the row is one of this key, and has a version
 abbrev pub IsRowOf : List ℕ → Siblings → Type 0
 IsRowOf key row = (row.key ≡ key) × (0 < length row.versions)
+
+-- the row is the one that is kept of its key, and has a version
+abbrev pub IsKeptRow : Rows → Siblings → Type 0
+IsKeptRow rows row = (map.get rows row.key ≡ Some row) × (0 < length row.versions)

@@ -2,7 +2,9 @@ ghost use Rattle.std.specs.Prelude.{◌≡◌, ◌<◌, None, Some, length, map,
 ghost use Rattle.std.specs.Prelude.{OnErr, IsOkUnless};
 ghost use Rattle.std.specs.Option.{option_copied};
 ghost use Rattle.std.specs.FinMap as maps;
+ghost use Rattle.std.specs.List.{All};
 ghost use Rattle.dy_node_store.specs.Rows.{with_versions, versions_of, without_dots, IsRowOf};
+ghost use Rattle.dy_node_store.specs.Rows.{IsKeptRow};
 
 use dy_dots::{Dot, Fault};
 use dy_siblings::{Key, Row};
@@ -41,6 +43,13 @@ impl RowMap {
             alloc,
             rows: BTreeMap::new(alloc),
         }
+    }
+
+    /// How many rows there are. Takes no memory.
+    pub fn len(&self) -> usize
+        ensures { result ≡ length (maps.entries self.now) }
+    {
+        self.rows.len()
     }
 
     /// The row of the key. Takes no memory.
@@ -116,6 +125,7 @@ impl RowMap {
     pub fn list(&self, alloc: Global) -> Result<Vec<&Row>, Fault>
         ensures value { IfOk result
             (λ rows. map (λ row. row.now) rows.items ≡ maps.values self.now) }
+        ensures kept { IfOk result (λ rows. All (λ row. IsKeptRow self.now row.now) rows.items) }
         ensures memory { IsOkUnless result Fault.OutOfMemory }
     {
         let mut rows = Vec::with_capacity(alloc, self.rows.len())?;

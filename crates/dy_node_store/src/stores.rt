@@ -3,7 +3,8 @@ ghost use Rattle.std.specs.Prelude.{IfSome, IfOk, IfErr, OnOk, OnErr, IsOkUnless
 ghost use Rattle.std.specs.Option.{option_copied};
 ghost use Rattle.std.specs.Result.{OkIff};
 ghost use Rattle.std.specs.FinMap as maps;
-ghost use Rattle.dy_node_store.specs.Rows.{with_versions, IsRowOf};
+ghost use Rattle.std.specs.List.{All};
+ghost use Rattle.dy_node_store.specs.Rows.{with_versions, IsKeptRow, IsRowOf};
 ghost use Rattle.dy_node_store.specs.Counters.{greatest_used, with_used};
 
 use crate::row_maps::RowMap;
@@ -89,6 +90,8 @@ impl NodeStore {
     pub fn list(&self, alloc: Global) -> Result<Vec<&Row>, Fault>
         ensures value { IfOk result
             (λ rows. map (λ row. row.now) rows.items ≡ maps.values self.now.rows) }
+        ensures kept { IfOk result
+            (λ rows. All (λ row. IsKeptRow self.now.rows row.now) rows.items) }
         ensures memory { IsOkUnless result Fault.OutOfMemory }
     {
         self.rows.list(alloc)

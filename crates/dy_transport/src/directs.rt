@@ -2,6 +2,7 @@ ghost use Rattle.std.specs.Prelude.{◌≡◌, ◌<◌, ◌^◌, true, IsTrue, I
 ghost use Rattle.std.specs.List.{All};
 ghost use Rattle.dy_preference.specs.Preferences.{homes_of, may_hold};
 ghost use Rattle.dy_node.specs.Answers.{AnsweredBy, MayAsk};
+ghost use Rattle.dy_node.specs.Nodes.{AreForHomes};
 ghost use Rattle.dy_node.specs.declared.asks.Answer.TheVariants.{NoAnswer};
 ghost use Rattle.dy_transport.specs.Asking.{IsAnswerTo, IsBegun, IsSeenAt};
 ghost use Rattle.dy_transport.specs.Refusals.{IsOfBegin, IsOfNode, IsOfOffer};
@@ -167,18 +168,20 @@ impl<J: Naming> Direct<'_, J> {
         held.fetch(&mut open, home, key, since)
     }
 
-    // Lists hints, under the node's lock.
+    // Lists hints, under the node's lock and the book's.
     fn offer_at<R: Wait>(&self, rt: &R, node: NodeId) -> Result<Vec<(NodeId, Row)>, Fault>
-        ensures { IfErr result IsOfOffer }
+        ensures for_homes { IfOk result (λ hints. AreForHomes J.ring J.n hints.items) }
+        ensures refused { IfErr result IsOfOffer }
     {
         let Some(place) = self.nodes.get(usize::from(node.number())) else {
             return Err(Fault::Down);
         };
-        let held = place.lock(rt);
+        let mut held = place.lock(rt);
         if held.number() != node {
             return Err(Fault::Down);
         }
-        held.offer()
+        let mut open = self.book.lock(rt);
+        held.offer(&mut open)
     }
 
     // Gives up what the receipts name, under the node's lock and the book's.

@@ -7,6 +7,7 @@ ghost use Rattle.dy_core.specs.declared.steps.Step.TheVariants.{Ack};
 ghost use Rattle.dy_shares.specs.Shares.{with_ack};
 ghost use Rattle.dy_book.specs.Books.{AreOf};
 ghost use Rattle.dy_node.specs.Answers.{MayAsk};
+ghost use Rattle.dy_node.specs.Nodes.{AreForHomes};
 ghost use Rattle.dy_transport.specs.Snapshots.{snapshot_of};
 ghost use Rattle.dy_transport.specs.Asking.{IsBegun, IsSeenAt};
 ghost use Rattle.dy_transport.specs.Refusals.{IsOfBegin, IsOfNode, IsOfOffer, IsOfStep};
@@ -66,9 +67,10 @@ pub trait Transport<J: Naming> {
         ensures told { told self.new ≡ with_try (told self.old)
             (Look node home (snapshot_of key.now) since.now (snapshot_of result)) };
 
-    /// Lists the hints of a node, each with the home that it is for. May wait for a lock.
+    /// Lists the hints of a node, each with the home that it is for. May wait for locks.
     fn offer<R: Wait>(&mut self, rt: &R, node: NodeId) -> Result<Vec<(NodeId, Row)>, Fault>
         requires { length (told self.old).tries < (told self.old).room + SPARE_TRIES }
+        ensures for_homes { IfOk result (λ hints. AreForHomes J.ring J.n hints.items) }
         ensures refused { IfErr result IsOfOffer }
         ensures told { told self.new ≡ with_try (told self.old) (Offer node (snapshot_of result)) };
 

@@ -1,10 +1,11 @@
 -- A row put in its place, and taken back.
-use Rattle.std.specs.Prelude.{◌≡◌, ℕ, ◌<◌, ◌⊎◌, ◌++◌, ◌==◌, Option, List, [], length, IsSome}
+use Rattle.std.specs.Prelude.{◌≡◌, ◌≢◌, ℕ, ◌<◌, ◌⊎◌, ◌++◌, ◌==◌, Option, List, [], length, IsSome}
 use Rattle.std.specs.Prelude.{if◌then◌else◌}
 use Rattle.std.specs.List.{Contains}
 use Rattle.std.specs.FinMap as maps
 use Rattle.dy_siblings.specs.Siblings.{Siblings, AreOneByDot, IsSameRow, merge}
 use Rattle.dy_siblings.specs.declared.versions.Version.{Version}
+use Rattle.dy_hint_store.specs.Hints.{IsHint}
 use Rattle.dy_node.specs.Stored.{Rooms, versions_at, with_row}
 use Rattle.dy_node.specs.declared.placed.Placed.{Placed}
 use Rattle.dy_node.specs.declared.placed.Placed.TheVariants.{Nothing, New, Over}
@@ -65,3 +66,7 @@ pub record IsAdded (old new : Rooms) (home : ℕ) (row : Siblings) (placed : Pla
       IsMerged old new home row ⊎ IsUnmerged old new home row
   pub fits : FitsBack new home row.key placed
   pub back : taken_back new home row.key placed ≡ old
+
+-- the hint is for another node: the row that is kept of its key for that one, and has a version
+abbrev pub IsHintOf : Rooms → ℕ × Siblings → Type 0
+IsHintOf r hint = (hint.0 ≢ r.node) × IsHint r.hints hint
