@@ -27,6 +27,7 @@ impl<J: Naming> GetDone<J> {
         ensures order { IsSiblingSet self.now.row.key self.now.row.versions }
         ensures memory { IsOkUnless result Fault.OutOfMemory }
     {
+        // The versions of a row lie in the order of their dots.
         let _versions = self.row.versions();
         self.row.values(alloc)
     }

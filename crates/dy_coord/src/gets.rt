@@ -1,6 +1,5 @@
 ghost use Rattle.std.specs.Prelude.{◌≡◌, ◌≤◌, [], IfOk, IfErr, OnErr, IsOkUnless, vec_capacity};
 ghost use Rattle.dy_dots.specs.declared.nodes.TheConstants.{MAX_NODES};
-ghost use Rattle.dy_preference.specs.Preferences.{preference_of};
 ghost use Rattle.dy_shares.specs.Shares.{since_of, with_get};
 ghost use Rattle.dy_quorum.specs.Gatherings.{first_answers};
 ghost use Rattle.dy_transport.specs.Told.{Told};
@@ -46,8 +45,6 @@ pub fn get<J: Naming, T: Transport<J>, R: Wait>(
     session: &mut SessionShare<J>,
     key: &Key,
 ) -> Result<GetDone<J>, GetFault>
-    requires nodes { list.now.nodes ≡ preference_of J.ring key.now }
-    requires homes { list.now.n ≡ J.n }
     requires fresh_tries { (T.told transport.old).tries ≡ [] }
     requires fresh_asks { (T.told transport.old).asks ≡ [] }
     requires fresh_replies { (T.told transport.old).replies ≡ [] }

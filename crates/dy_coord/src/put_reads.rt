@@ -94,6 +94,7 @@ pub(crate) fn read_put<J: Naming, T: Transport<J>, R: Wait>(
         ≡ answers.old.items ++ map as_read (T.told transport.new).replies }
     ensures out { IsReadOut (T.told transport.new) }
 {
+    // Whose receipt the tally began with: they stand here for the contract alone.
     let _ = (coordinator, held);
     let request = Request::Store(row);
     'reading: for _ in rt.forever() {

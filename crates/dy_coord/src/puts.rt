@@ -65,6 +65,7 @@ fn spread<J: Naming, T: Transport<J>, R: Wait>(
     ensures tries { (T.told transport.new).tries ≡ (T.told transport.old).tries }
     ensures w { tally.new.w ≡ tally.old.w }
 {
+    // Each version of a row is of its key.
     let _versions = row.versions();
     let held = list.home_for(coordinator);
     answers.push_reserved(AnswerRead {
@@ -109,6 +110,7 @@ fn conclude<J: Naming, T: Transport<J>, R: Wait>(
     ensures ends { EndsAfter key.now dot w tally.added answers.items
         session.old session.new result }
 {
+    // The receipts were made with the key, so it stands here for the contract alone.
     let _ = key;
     if !tally.ready() {
         return Err(PutFault {
