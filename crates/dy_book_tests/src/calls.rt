@@ -1,16 +1,47 @@
 // A book's calls, each with what it asks for looked at first. Where it isn't met the call answers
 // that the node is down, which no call of a book answers.
-ghost use Rattle.std.specs.Prelude.{◌≡◌, ◌≢◌, ◌∷◌, [], take, true, IfOk};
-ghost use Rattle.dy_preference.specs.Preferences.{homes_of};
-ghost use Rattle.dy_book.specs.Books.{MayRelease, world_of};
+ghost use Rattle.std.specs.Prelude.{◌≡◌, ◌≢◌, ◌∷◌, [], take, true, IfOk, IsTrue};
+ghost use Rattle.dy_preference.specs.Preferences.{homes_of, may_hold};
+ghost use Rattle.dy_book.specs.Books.{MayIssue, MayRelease, world_of};
 
-use crate::Book;
+use dy_book::Book;
 use dy_core::Place;
 use dy_dots::{Context, Fault, NodeId};
 use dy_preference::Preference;
 use dy_shares::{Naming, NodeShare, Receipt, Seen, SessionShare};
 use dy_siblings::{Key, Row, Value, Version};
 use std::alloc::Global;
+
+// The node plans a version of the key.
+fn planned<J: Naming>(
+    book: &Book<J>,
+    share: &NodeShare<J>,
+    key: &Key,
+    context: &Context,
+    value: Option<Value>,
+) -> Result<Version, Fault>
+    ensures may { IfOk result (λ version. MayIssue book.now share.now.node version) }
+    ensures key { IfOk result (λ version. version.key ≡ key.now) }
+{
+    if book.last(share.node(), key) >= book.counter_limit() as usize {
+        return Err(Fault::CounterFull);
+    }
+    book.plan(share, key, context, value)
+}
+
+// The node makes the version that it planned, for itself.
+fn issued<J: Naming>(
+    book: &mut Book<J>,
+    share: &mut NodeShare<J>,
+    version: &Version,
+) -> Result<Receipt<J>, Fault>
+    requires may { MayIssue book.old share.old.node version.now }
+    requires may_hold { IsTrue
+        (may_hold (homes_of J.ring J.n version.now.key) share.old.node share.old.node) }
+{
+    let node = share.node();
+    book.issue(share, node, version)
+}
 
 // The node plans a version of the key and makes it, for itself.
 pub fn make<J: Naming>(
@@ -24,15 +55,11 @@ pub fn make<J: Naming>(
     requires { take list.now.n list.now.nodes ≡ homes_of J.ring J.n key.now }
     ensures { IfOk result (λ p. p.0.key ≡ key.now) }
 {
-    let node = share.node();
-    if book.last(node, key) >= book.counter_limit() as usize {
-        return Err(Fault::CounterFull);
-    }
-    if !list.may_hold(node, node) {
+    if !list.may_hold(share.node(), share.node()) {
         return Err(Fault::Down);
     }
-    let version = book.plan(share, key, context, value)?;
-    let receipt = book.issue(share, node, &version)?;
+    let version = planned(book, share, key, context, value)?;
+    let receipt = issued(book, share, &version)?;
     Ok((version, receipt))
 }
 
@@ -49,8 +76,7 @@ pub fn keep<J: Naming>(
     if !list.may_hold(share.node(), home) {
         return Err(Fault::Down);
     }
-    let receipts = book.hold(share, home, row)?;
-    Ok(receipts)
+    book.hold(share, home, row)
 }
 
 // The receipt alone.
@@ -62,16 +88,32 @@ fn alone<J: Naming>(alloc: Global, receipt: Receipt<J>) -> Result<Vec<Receipt<J>
     Ok(receipts)
 }
 
+// Whether another node than this gave the receipt, for itself.
+fn is_of_other<J: Naming>(node: NodeId, receipt: &Receipt<J>) -> bool
+    ensures own { result ≡ true → receipt.now.holder ≡ receipt.now.home }
+    ensures other { result ≡ true → receipt.now.home ≢ node }
+{
+    receipt.holder() == receipt.home() && receipt.home() != node
+}
+
+// Whether the node holds the dot of the receipt, for its home.
+fn holds_dot<J: Naming>(book: &Book<J>, holder: NodeId, receipt: &Receipt<J>) -> bool
+    ensures { result ≡ true → IsTrue ((world_of book.now).holdings holder receipt.now.home
+        receipt.now.key receipt.now.dot) }
+{
+    let place = Place {
+        holder,
+        home: receipt.home(),
+    };
+    book.held_dots(place, receipt.key())
+        .contains(&receipt.dot())
+}
+
 // Whether the node may give up the dot of the receipt.
 fn may_release<J: Naming>(book: &Book<J>, node: NodeId, receipt: &Receipt<J>) -> bool
     ensures { result ≡ true → MayRelease (world_of book.now) node receipt.now }
 {
-    let home = receipt.home();
-    if receipt.holder() != home || home == node {
-        return false;
-    }
-    let dots = book.held_dots(Place { holder: node, home }, receipt.key());
-    dots.contains(&receipt.dot())
+    is_of_other(node, receipt) && holds_dot(book, node, receipt)
 }
 
 // The node gives up the dot of the receipt.

@@ -2,12 +2,13 @@
 ghost use Rattle.std.specs.Prelude.{◌≡◌, take};
 ghost use Rattle.dy_preference.specs.Preferences.{homes_of};
 
-use crate::tests::calls::{acknowledge, let_go, make};
-use crate::tests::texts::{text_of, text_of_world};
-use crate::tests::{kept_by, three_nodes, two_homes};
-use crate::{Audit, Book, CloseRefused};
+use crate::calls::{acknowledge, let_go, make};
+use crate::scenes::kept_by;
+use crate::setups::{three_nodes, two_homes};
+use crate::texts::{text_of, text_of_world};
+use dy_book::{Audit, Book, CloseRefused};
 use dy_core::{Place, Step, World};
-use dy_dots::{Context, Fault, NodeId};
+use dy_dots::{Context, Dot, Fault, NodeId};
 use dy_preference::{Preference, preference};
 use dy_ring::Ring;
 use dy_shares::{Blank, Naming, NodeShare, Receipt, SessionShare};
@@ -99,6 +100,39 @@ fn made<J: Naming>(
     also_make(alloc, world, key, context, &version)
 }
 
+// The node of this number holds the row for the home: the last receipt.
+fn last_kept<J: Naming>(
+    book: &mut Book<J>,
+    shares: &mut [NodeShare<J>],
+    list: &Preference,
+    holder: u8,
+    home: u8,
+    row: &Row,
+) -> Result<Receipt<J>, Fault>
+    requires { take list.now.n list.now.nodes ≡ homes_of J.ring J.n row.now.key }
+{
+    let mut receipts = kept_by(book, shares, list, holder as usize, home, row)?;
+    match receipts.pop() {
+        Some(receipt) => Ok(receipt),
+        None => Err(Fault::Down),
+    }
+}
+
+// The world holds the row too, where the receipt says.
+fn also_hold<J: Naming>(
+    alloc: Global,
+    world: &mut World,
+    receipt: &Receipt<J>,
+    row: Row,
+) -> Result<(), Fault> {
+    let step = Step::Hold {
+        holder: receipt.holder(),
+        home: receipt.home(),
+        row,
+    };
+    also(alloc, world, step)
+}
+
 // The holder holds for the home what this node holds for itself; gives the last receipt.
 fn held<J: Naming>(
     alloc: Global,
@@ -116,17 +150,26 @@ fn held<J: Naming>(
     if row.key() != key {
         return Err(Fault::Down);
     }
-    let mut receipts = kept_by(book, shares, list, holder as usize, home, &row)?;
-    let Some(receipt) = receipts.pop() else {
-        return Err(Fault::Down);
-    };
-    let step = Step::Hold {
-        holder: receipt.holder(),
-        home: receipt.home(),
-        row,
-    };
-    also(alloc, world, step)?;
+    let receipt = last_kept(book, shares, list, holder, home, &row)?;
+    also_hold(alloc, world, &receipt, row)?;
     Ok(receipt)
+}
+
+// The world gives the dot up too.
+fn also_release(
+    alloc: Global,
+    world: &mut World,
+    place: Place,
+    key: &Key,
+    dot: Dot,
+) -> Result<(), Fault> {
+    let step = Step::Release {
+        holder: place.holder,
+        home: place.home,
+        key: key.try_clone(alloc)?,
+        dot,
+    };
+    also(alloc, world, step)
 }
 
 // The node of this number gives up the dot of the receipt.
@@ -142,13 +185,18 @@ fn released<J: Naming>(
     let Some(share) = shares.get_mut(number as usize) else {
         return Err(Fault::Down);
     };
-    let step = Step::Release {
-        holder: share.node(),
-        home: receipt.home(),
-        key: key.try_clone(alloc)?,
-        dot: receipt.dot(),
-    };
+    let (holder, home, dot) = (share.node(), receipt.home(), receipt.dot());
     let_go(alloc, book, share, receipt)?;
+    also_release(alloc, world, Place { holder, home }, key, dot)
+}
+
+// The world acknowledges the dot too.
+fn also_ack(alloc: Global, world: &mut World, key: &Key, dot: Dot) -> Result<(), Fault> {
+    let step = Step::Ack {
+        key: key.try_clone(alloc)?,
+        dot,
+        w: 1,
+    };
     also(alloc, world, step)
 }
 
@@ -161,13 +209,9 @@ fn told<J: Naming>(
     world: &mut World,
     receipt: Receipt<J>,
 ) -> Result<(), Fault> {
-    let step = Step::Ack {
-        key: key.try_clone(alloc)?,
-        dot: receipt.dot(),
-        w: 1,
-    };
+    let dot = receipt.dot();
     acknowledge(alloc, book, session, receipt)?;
-    also(alloc, world, step)
+    also_ack(alloc, world, key, dot)
 }
 
 // Does the deed.
@@ -287,18 +331,31 @@ fn played<J: Naming>(
     told_by(alloc, done, book.close(nodes, sessions))
 }
 
-// What the book and the plain world tell after the deeds on the key `a`.
-pub fn both_tell(alloc: Global, deeds: &[Deed]) -> Result<(String, String), Fault> {
-    let of_world = three_nodes(alloc)?;
+// The empty world of three nodes and two homes a key.
+fn empty_world(alloc: Global) -> Result<World, Fault> {
     let ring = three_nodes(alloc)?;
-    if of_world.nodes() != 3 || ring.nodes() != 3 {
+    if ring.nodes() != 3 {
+        return Err(Fault::TooMany);
+    }
+    World::new(alloc, ring, 2)
+}
+
+// What a book tells after the deeds on the key `a`, which the world does too.
+fn book_tells(alloc: Global, world: &mut World, deeds: &[Deed]) -> Result<String, Fault> {
+    let ring = three_nodes(alloc)?;
+    if ring.nodes() != 3 {
         return Err(Fault::TooMany);
     }
     let key = Key::new(alloc, b"a")?;
     let list = preference(alloc, &ring, &key, 2)?;
-    let mut world = World::new(alloc, of_world, 2)?;
     let blank = Blank::new(alloc)?;
-    let text = played::<Brand>(alloc, blank, ring, &list, &key, &mut world, deeds)?;
+    played::<Brand>(alloc, blank, ring, &list, &key, world, deeds)
+}
+
+// What the book and the plain world tell after the deeds on the key `a`.
+pub fn both_tell(alloc: Global, deeds: &[Deed]) -> Result<(String, String), Fault> {
+    let mut world = empty_world(alloc)?;
+    let text = book_tells(alloc, &mut world, deeds)?;
     Ok((text, text_of_world(alloc, &world)?))
 }
 

@@ -1,18 +1,30 @@
 // What an audit tells, and what a plain world does, as texts that may be compared.
-use crate::{AckedAt, Audit};
+use dy_book::{AckedAt, Audit};
 use dy_core::{Acked, Holding, Place, World};
 use dy_dots::Fault;
 use dy_siblings::Key;
 use std::alloc::Global;
 
+// A line on what is held at a place.
+fn write_holding(alloc: Global, out: &mut String, holding: &Holding) -> Result<(), Fault> {
+    let start = format!(in alloc; "held {}/{} ", holding.holder, holding.home)?;
+    out.push_str(start.as_str())?;
+    holding.row.dots(alloc)?.write_text(alloc, out)?;
+    out.push_str("\n")?;
+    Ok(())
+}
+
 // A line on each place of what is held.
 fn write_held(alloc: Global, out: &mut String, held: &[Holding]) -> Result<(), Fault> {
     for holding in held {
-        let start = format!(in alloc; "held {}/{} ", holding.holder, holding.home)?;
-        out.push_str(start.as_str())?;
-        holding.row.dots(alloc)?.write_text(alloc, out)?;
-        out.push_str("\n")?;
+        write_holding(alloc, out, holding)?;
     }
+    Ok(())
+}
+
+// The place, holder first.
+fn write_place(alloc: Global, out: &mut String, place: &Place) -> Result<(), Fault> {
+    out.push_str(format!(in alloc; " {}/{}", place.holder, place.home)?.as_str())?;
     Ok(())
 }
 
@@ -20,7 +32,7 @@ fn write_held(alloc: Global, out: &mut String, held: &[Holding]) -> Result<(), F
 fn write_ack(alloc: Global, out: &mut String, ack: &Acked, places: &[Place]) -> Result<(), Fault> {
     out.push_str(format!(in alloc; "acked {} w {} covered", ack.dot, ack.w)?.as_str())?;
     for place in places {
-        out.push_str(format!(in alloc; " {}/{}", place.holder, place.home)?.as_str())?;
+        write_place(alloc, out, place)?;
     }
     out.push_str("\n")?;
     Ok(())

@@ -3,8 +3,8 @@ use Rattle.std.specs.List.{IsDistinct}
 use Rattle.dy_dots.specs.declared.dots.Dot.{Dot}
 use Rattle.dy_shares.specs.Shares.{ReceiptParts}
 use Rattle.dy_book.specs.Books.{AreOf}
-use Rattle.dy_book.proofs.Alone.{distinct_alone, one_dot_alone}
-use Rattle.dy_book.proofs.tests.calls.acknowledge.Goals as goal
+use Rattle.dy_book_tests.proofs.Alone.{distinct_alone, one_dot_alone}
+use Rattle.dy_book_tests.proofs.calls.acknowledge.Goals as goal
 
 pub ack-requires-clause-one_dot : goal.ack-requires-clause-one_dot
 ack-requires-clause-one_dot g c =

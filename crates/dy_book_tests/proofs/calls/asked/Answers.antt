@@ -2,8 +2,8 @@ use Rattle.std.proofs.Common.{nat_eq, List, map, sym, subst, ◌≡◌, ◌<◌}
 use Rattle.std.specs.List.{All, IsDistinct}
 use Rattle.dy_core.specs.Logs.{Answer}
 use Rattle.dy_shares.specs.Shares.{since_of}
-use Rattle.dy_book.proofs.Alone.{all_two, distinct_two}
-use Rattle.dy_book.proofs.tests.calls.asked.Goals as goal
+use Rattle.dy_book_tests.proofs.Alone.{all_two, distinct_two}
+use Rattle.dy_book_tests.proofs.calls.asked.Goals as goal
 
 -- the homes of the two were compared
 pub note_get-requires-clause-homes : goal.note_get-requires-clause-homes

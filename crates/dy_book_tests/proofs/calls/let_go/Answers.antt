@@ -1,8 +1,8 @@
 use Rattle.std.proofs.Common.{rules, sym, ◌∙◌, subst}
 use Rattle.std.specs.List.{All}
 use Rattle.dy_book.specs.Books.{AreOfDistinctDots, MayRelease, world_of}
-use Rattle.dy_book.proofs.Alone.{all_alone, once_alone}
-use Rattle.dy_book.proofs.tests.calls.let_go.Goals as goal
+use Rattle.dy_book_tests.proofs.Alone.{all_alone, once_alone}
+use Rattle.dy_book_tests.proofs.calls.let_go.Goals as goal
 
 pub release-requires-clause-each : goal.release-requires-clause-each
 release-requires-clause-each g c =

@@ -1,4 +1,4 @@
-use Rattle.dy_book.proofs.tests.a_get_is_counted.Given as goal
+use Rattle.dy_book_tests.proofs.closes.a_get_is_counted.Given as goal
 
 -- the book is named by its blank
 abbrev pub ghosts-told_a_get : goal.ghosts-told_a_get

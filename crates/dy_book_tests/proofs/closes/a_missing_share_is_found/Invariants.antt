@@ -1,4 +1,4 @@
-use Rattle.dy_book.proofs.tests.a_missing_share_is_found.Given as goal
+use Rattle.dy_book_tests.proofs.closes.a_missing_share_is_found.Given as goal
 
 -- the book is named by its blank
 abbrev pub ghosts-missing : goal.ghosts-missing

@@ -1,4 +1,4 @@
-use Rattle.dy_book.proofs.tests.two_books_are_open_at_once.Given as goal
+use Rattle.dy_book_tests.proofs.closes.two_books_are_open_at_once.Given as goal
 
 -- the book is named by its blank
 abbrev pub ghosts-beside : goal.ghosts-beside

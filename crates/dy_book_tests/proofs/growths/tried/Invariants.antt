@@ -1,4 +1,4 @@
-use Rattle.dy_book.proofs.growths.tried.Given as goal
+use Rattle.dy_book_tests.proofs.growths.tried.Given as goal
 
 -- the book is named by its blank
 abbrev pub ghosts-play : goal.ghosts-play

@@ -1,4 +1,4 @@
-use Rattle.dy_book.proofs.tests.play_with.Given as goal
+use Rattle.dy_book_tests.proofs.outcomes.play_with.Given as goal
 
 -- the book is named by its blank
 abbrev pub ghosts-play : goal.ghosts-play

@@ -1,4 +1,4 @@
-use Rattle.dy_book.proofs.tests.logs.both_tell.Given as goal
+use Rattle.dy_book_tests.proofs.logs.book_tells.Given as goal
 
 -- the book is named by its blank
 abbrev pub ghosts-played : goal.ghosts-played
