@@ -1,6 +1,7 @@
 #!/bin/sh
 # Proves, builds and runs the benchmark of dy_book, in a folder of its own: a million fetches, 2,000 blind puts of one
-# key, 100,000 versions of 5,000 keys and of one key, with the close after each, and the most memory of each.
+# key, 100,000 siblings of 5,000 keys, 100,000 versions of 5,000 keys and of one key, with the close after each, and the
+# most memory of each. 'out/bench_book crowd' in FOLDER/crates/bench_book makes the 100,000 siblings of one key: minutes.
 # usage: benches/book/run.sh [FOLDER]
 set -eu
 here=$(cd "$(dirname "$0")" && pwd)
@@ -24,7 +25,7 @@ find "$folder/crates/bench_book" -name '*.txt' | while read -r file; do mv "$fil
 cd "$folder/crates/bench_book"
 # Without a word the program does nothing.
 rt run
-for work in fetches blind whole keys chain; do
+for work in fetches blind whole siblings keys chain; do
     python3 -c 'import resource, subprocess, sys
 subprocess.run(sys.argv[1:], check=True)
 print(resource.getrusage(resource.RUSAGE_CHILDREN).ru_maxrss // 1024, "MB at most")' out/bench_book "$work"

@@ -1,4 +1,3 @@
-pub mod Alone
 pub mod Bookkeeping
 pub mod Dotting
 pub mod Ending

@@ -7,16 +7,12 @@ mod books;
 mod closes;
 mod custodies;
 mod fetches;
-#[cfg(test)]
-mod growths;
 mod holds;
 mod lists;
 mod options;
 mod parts;
 mod plans;
 mod releases;
-#[cfg(test)]
-mod tests;
 
 pub use audits::{AckedAt, Audit};
 pub use books::Book;

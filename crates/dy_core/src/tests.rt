@@ -1,5 +1,5 @@
 use crate::{Place, Step, World, run_steps};
-use dy_dots::{Context, Dot, NodeId};
+use dy_dots::{Context, Dot, Fault, NodeId};
 use dy_preference::preference;
 use dy_ring::Ring;
 use dy_siblings::{Key, Row, Value};
@@ -128,13 +128,22 @@ fn step(alloc: Global, world: &World, key: Key, scene: Scene) -> Result<Step, Fa
     }
 }
 
-// Makes the step, which must be allowed.
-fn make(alloc: Global, world: &mut World, step: Step) -> Result<(), Fail> {
+// Makes the step, where it is allowed.
+fn made(alloc: Global, world: &mut World, step: Step) -> Result<bool, Fault> {
     if !world.allows(alloc, &step)? {
-        return Err(Fail::new("an allowed step"));
+        return Ok(false);
     }
     let _answer = world.apply(alloc, step)?;
-    Ok(())
+    Ok(true)
+}
+
+// Makes the step, which must be allowed.
+fn make(alloc: Global, world: &mut World, step: Step) -> Result<(), Fail> {
+    if made(alloc, world, step)? {
+        Ok(())
+    } else {
+        Err(Fail::new("an allowed step"))
+    }
 }
 
 fn play(alloc: Global, world: &mut World, bytes: &[u8], scenes: &[Scene]) -> Result<(), Fail> {
@@ -211,12 +220,22 @@ fn lines_of(alloc: Global, scenes: &[Scene], other: &[u8], more: &[Scene]) -> Re
     audit(alloc, &world)
 }
 
-// How many places cover the first dot of node 0 of the key `a` after these steps.
+// How many places cover the dot of the key.
+fn covering(alloc: Global, world: &World, key: &Key, dot: Dot) -> Result<usize, Fail> {
+    let places = world.covers(alloc, key, dot)?;
+    Ok(places.len())
+}
+
+// How many places cover the first dot of node 0 of the key `a`.
+fn covering_first(alloc: Global, world: &World) -> Result<usize, Fail> {
+    let key = key(alloc, b"a")?;
+    covering(alloc, world, &key, dot((0, 1))?)
+}
+
+// The same after these steps on the key `a`.
 fn count_covers(alloc: Global, scenes: &[Scene]) -> Result<usize, Fail> {
     let world = world_of(alloc, scenes)?;
-    let key = key(alloc, b"a")?;
-    let places = world.covers(alloc, &key, dot((0, 1))?)?;
-    Ok(places.len())
+    covering_first(alloc, &world)
 }
 
 // Whether the step on the key `a` is allowed after these.
@@ -377,12 +396,17 @@ fn refuses_what_is_not_allowed(rt: HostRuntime) -> Result<(), Fail> {
     Ok(())
 }
 
-// The least dot of the context that is of no version, where node 0 has made one version of `a`.
-fn least_unknown(alloc: Global, text: &str) -> Result<Option<Dot>, Fail> {
-    let world = world_of(alloc, &[Scene::Issue(0)])?;
+// The least dot of the context that is of no version of `a`.
+fn unknown_in(alloc: Global, world: &World, text: &str) -> Result<Option<Dot>, Fail> {
     let context = Context::read_text(alloc, text)?;
     let key = key(alloc, b"a")?;
     Ok(world.unknown(&key, &context))
+}
+
+// The same where node 0 has made one version of `a`.
+fn least_unknown(alloc: Global, text: &str) -> Result<Option<Dot>, Fail> {
+    let world = world_of(alloc, &[Scene::Issue(0)])?;
+    unknown_in(alloc, &world, text)
 }
 
 #[test]

@@ -154,6 +154,11 @@ fn is_plain_merge(alloc: Global, a: &Row, b: &Row) -> bool {
         && has_newest(&whole, b, a)
 }
 
+// Adds the version to the row, where the number is odd.
+fn add_if_odd(alloc: Global, row: &mut Row, number: u32, name: (u8, u32), past: &str) -> bool {
+    number % 2 == 0 || add(alloc, row, deletion(alloc, name, past))
+}
+
 // The row of those of six versions whose bit the number has.
 fn chosen(alloc: Global, number: u32) -> Option<Row> {
     let mut row = Row::new(alloc, key(alloc)?);
@@ -166,7 +171,7 @@ fn chosen(alloc: Global, number: u32) -> Option<Row> {
         ((2, 1), "n0:1-2"),
         ((3, 1), "n0:1-2 n1:1-2"),
     ] {
-        if left % 2 == 1 && !add(alloc, &mut row, deletion(alloc, name, past)) {
+        if !add_if_odd(alloc, &mut row, left, name, past) {
             return None;
         }
         left /= 2;
@@ -180,12 +185,16 @@ fn merges_plainly(alloc: Global, i: u32, j: u32) -> Option<bool> {
     Some(is_plain_merge(alloc, &a, &b))
 }
 
+// Whether so many bytes are a key.
+fn is_key(alloc: Global, len: usize) -> Option<bool> {
+    let bytes = [7; 65];
+    Some(Key::new(alloc, bytes.get(..len)?).is_ok())
+}
+
 #[test]
 fn keys_have_1_to_64_bytes(rt: HostRuntime) {
-    let bytes = [7; 65];
     for (len, wanted) in [(0, false), (1, true), (64, true), (65, false)] {
-        let key = Key::new(rt.alloc(), &bytes[..len]);
-        assert_eq!(rt; key.is_ok(), wanted, "{len} bytes");
+        assert_eq!(rt; is_key(rt.alloc(), len), Some(wanted), "{len} bytes");
     }
 }
 
@@ -206,11 +215,16 @@ fn values_have_up_to_4096_bytes(rt: HostRuntime) {
     }
 }
 
+// Whether the keys are in this order, and the copy is of the first.
+fn are_in_order(low: &Key, high: &Key, copy: &Key) -> bool {
+    low < high && low != high && copy == low && high.as_bytes().len() == 2
+}
+
 fn go_by_their_bytes(alloc: Global) -> Option<bool> {
     let low = Key::new(alloc, b"a".as_slice()).ok()?;
     let high = Key::new(alloc, b"ab".as_slice()).ok()?;
     let copy = low.try_clone(alloc).ok()?;
-    Some(low < high && low != high && copy == low && high.as_bytes().len() == 2)
+    Some(are_in_order(&low, &high, &copy))
 }
 
 #[test]
@@ -297,19 +311,32 @@ fn rows_cover_what_their_versions_follow(rt: HostRuntime) {
         let is_covered = is_covered(rt.alloc(), node, counter);
         assert_eq!(rt; is_covered, Some(wanted), "n{node}:{counter}");
     }
+}
+
+#[test]
+fn rows_tell_their_dots(rt: HostRuntime) {
     assert_eq!(rt; are_spelt(rt.alloc(), "n0:2 n1:3"), Some(true));
+}
+
+// Whether the copy has this dot alone of the row's two.
+fn has_lost_one(copy: &Row, row: &Row, names: &[(u8, u32)]) -> bool {
+    has_dots(copy, names)
+        && row.versions().len() == 2
+        && !copy.is_empty()
+        && copy.key() == row.key()
+}
+
+// A copy of the row, without the dot.
+fn copy_without(alloc: Global, row: &Row, dot: Dot) -> Option<Row> {
+    let mut copy = row.try_clone(alloc).ok()?;
+    copy.remove(dot);
+    Some(copy)
 }
 
 fn removes_from_a_copy(alloc: Global) -> Option<bool> {
     let row = followers(alloc)?;
-    let mut copy = row.try_clone(alloc).ok()?;
-    copy.remove(dot_of(0, 2)?);
-    Some(
-        has_dots(&copy, &[(1, 3)])
-            && row.versions().len() == 2
-            && !copy.is_empty()
-            && copy.key() == row.key(),
-    )
+    let copy = copy_without(alloc, &row, dot_of(0, 2)?)?;
+    Some(has_lost_one(&copy, &row, &[(1, 3)]))
 }
 
 #[test]
