@@ -43,4 +43,5 @@ shown hint = (hint.0, hint.1.now)
 
 -- the hint is the row that is kept of its key for its home, and has a version
 abbrev pub IsHint : Hints → ℕ × Siblings → Type 0
-IsHint hints hint = (maps.get hints (hint.0, hint.1.key) ≡ Some hint.1) × (0 < length hint.1.versions)
+IsHint hints hint =
+    (maps.get hints (hint.0, hint.1.key) ≡ Some hint.1) × (0 < length hint.1.versions)

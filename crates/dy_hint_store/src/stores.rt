@@ -1,4 +1,5 @@
-ghost use Rattle.std.specs.Prelude.{◌≡◌, ◌<◌, ◌-◌, ◌^◌, None, Some, length, map, min, IsSome, IfSome, IfOk, OnOk};
+ghost use Rattle.std.specs.Prelude.{◌≡◌, ◌<◌, ◌-◌, ◌^◌, None, Some, length, map, min};
+ghost use Rattle.std.specs.Prelude.{IsSome, IfSome, IfOk, OnOk};
 ghost use Rattle.std.specs.Prelude.{OnErr, IsOkUnless};
 ghost use Rattle.std.specs.Option.{option_copied};
 ghost use Rattle.std.specs.FinMap as maps;

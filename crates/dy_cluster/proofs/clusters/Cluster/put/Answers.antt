@@ -1,0 +1,67 @@
+use Rattle.std.proofs.Common.{◌≡◌, ◌≤◌, ◌<◌, inl, inr, refl, sym, subst, arith}
+use Rattle.dy_preference.specs.Preferences.{Preferred}
+use Rattle.dy_coord.specs.PutEnds.{PutEnds}
+use Rattle.dy_cluster.proofs.clusters.Cluster.put.Goals as goal
+
+-- a number of homes that there are not is refused before the list is made
+pub returns-then-w-lt1 : goal.returns-then-w-lt1
+returns-then-w-lt1 g c =
+    let none : c.args.w ≡ 0 = omega (arith, c.if-w-lt1.true) in
+    inr (
+      inl none,
+      refl,
+      refl,
+      (
+        c.unlisted.result,
+        refl,
+        c.unlisted.ensures.dot,
+        c.unlisted.ensures.answers,
+        c.unlisted.ensures.fault,
+      ),
+    )
+
+pub returns-then-self-w : goal.returns-then-self-w
+returns-then-self-w g c =
+    let many : g.J.Naming.n < c.args.w = omega (arith, c.args.self.now.n_is, c.if-self-w.true) in
+    inr (
+      inr many,
+      refl,
+      refl,
+      (
+        c.unlisted-then-self-w.result,
+        refl,
+        c.unlisted-then-self-w.ensures.dot,
+        c.unlisted-then-self-w.ensures.answers,
+        c.unlisted-then-self-w.ensures.fault,
+      ),
+    )
+
+-- the list is the key's
+pub returns-in-Ok : goal.returns-in-Ok
+returns-in-Ok g c =
+    subst (λ (list : Preferred). PutEnds list c.args.w c.args.key.now c.args.context.now
+    c.args.value c.args.session.now c.put.new.session (g.T.Transport.told c.args.transport.now)
+    (g.T.Transport.told c.put.new.transport) c.put.result) c.in-Ok.ensures.ok c.put.ensures
+
+-- there is no memory for it, and nobody was tried or asked
+pub returns-in-Err : goal.returns-in-Err
+returns-in-Err g c =
+    let some : 1 ≤ c.args.w = omega (arith, c.if-w-lt1.false) in
+    let few : c.args.w ≤ g.J.Naming.n =
+    omega (arith, c.args.self.now.n_is, c.if-self-w.false) in
+    inl (
+      some,
+      few,
+      inr (
+        refl,
+        c.requires.fresh_asks,
+        c.requires.fresh_replies,
+        (
+          c.unlisted-in-Err.result,
+          refl,
+          c.unlisted-in-Err.ensures.dot,
+          c.unlisted-in-Err.ensures.answers,
+          inl (c.unlisted-in-Err.ensures.fault, c.requires.fresh_tries),
+        ),
+      ),
+    )

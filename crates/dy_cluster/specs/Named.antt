@@ -1,0 +1,12 @@
+-- The name of a book.
+use Rattle.std.specs.Prelude.{◌≡◌, ℕ}
+use Rattle.logbook.specs.Pages.{Book}
+use Rattle.atomic_table.specs.Seated.{TableId}
+use Rattle.dy_ring.specs.Rings.{Tokens}
+use Rattle.dy_cluster.specs.declared.openings.Opened.{Opened}
+
+-- the book has the name of the log that lies in what was opened, its ring and its numbers
+abbrev pub NamesBook : Book → TableId → Tokens → ℕ → ℕ → Opened → Type 0
+NamesBook book table ring n r o =
+    (o.blank ≡ record { book = book; table = table }) × (o.ring ≡ ring)
+    × (o.options.n ≡ n) × (o.options.r ≡ r)

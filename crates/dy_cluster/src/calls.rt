@@ -1,0 +1,154 @@
+// The calls of a cluster that go over a transport, each for its key's own list.
+ghost use Rattle.std.specs.Prelude.{◌≡◌, ◌≤◌, [], None, IfOk, IfErr, OnErr, IsOkUnless};
+ghost use Rattle.dy_dots.specs.declared.nodes.TheConstants.{MAX_NODES};
+ghost use Rattle.dy_shares.specs.Shares.{since_of, with_get};
+ghost use Rattle.dy_reads.specs.Lists.{homes_in};
+ghost use Rattle.dy_quorum.specs.Gatherings.{first_answers};
+ghost use Rattle.dy_coord.specs.Gets.{IsGetRefused, IsGot};
+ghost use Rattle.dy_coord.specs.PutEnds.{PutEnds};
+ghost use Rattle.dy_repair.specs.Repairs.{IsRepaired};
+ghost use Rattle.dy_cluster.specs.Lists.{list_of};
+
+use crate::clusters::Cluster;
+use dy_coord::{GetDone, GetFault, PutDone, PutFault};
+use dy_dots::{Context, Fault};
+use dy_preference::{Preference, preference};
+use dy_shares::{Naming, Seen, SessionShare};
+use dy_siblings::{Key, Row, Value};
+use dy_transport::Transport;
+use std::sync::Wait;
+
+impl<J: Naming> Cluster<J> {
+    // The key's list.
+    fn list(&self, key: &Key) -> Result<Preference, Fault>
+        ensures ok { IfOk result (λ list. list ≡ list_of J.ring J.n key.now) }
+        ensures memory { IsOkUnless result Fault.OutOfMemory }
+    {
+        preference(self.alloc, &self.ring, key, self.options.n)
+    }
+
+    // A put that asks nobody.
+    fn unlisted(&self, fault: Fault) -> PutFault
+        ensures fault { result.fault ≡ fault }
+        ensures dot { result.dot ≡ None }
+        ensures answers { result.answers.items ≡ [] }
+    {
+        PutFault {
+            fault,
+            dot: None,
+            answers: Vec::new(self.alloc),
+        }
+    }
+
+    /// A put of the key that names w homes, over a transport of this cluster. May wait for answers
+    /// and locks.
+    pub fn put<T: Transport<J>, R: Wait>(
+        &self,
+        rt: &R,
+        transport: &mut T,
+        w: u8,
+        session: &mut SessionShare<J>,
+        key: &Key,
+        context: &Context,
+        value: Option<Value>,
+    ) -> Result<PutDone, PutFault>
+        requires fresh_tries { (T.told transport.old).tries ≡ [] }
+        requires fresh_asks { (T.told transport.old).asks ≡ [] }
+        requires fresh_replies { (T.told transport.old).replies ≡ [] }
+        requires room { MAX_NODES ≤ (T.told transport.old).room }
+        ensures { PutEnds {J = J} (list_of J.ring J.n key.now) w key.now context.now value
+            session.old session.new (T.told transport.old) (T.told transport.new) result }
+    {
+        if w < 1 {
+            return Err(self.unlisted(Fault::BadQuorum));
+        }
+        if self.options.n < w {
+            return Err(self.unlisted(Fault::BadQuorum));
+        }
+        match self.list(key) {
+            Ok(list) => dy_coord::put(
+                rt, self.alloc, transport, &list, w, session, key, context, value,
+            ),
+            Err(_fault) => Err(self.unlisted(Fault::OutOfMemory)),
+        }
+    }
+
+    /// A put that marks the key as deleted: one of an absent value. May wait for answers and locks.
+    pub fn delete<T: Transport<J>, R: Wait>(
+        &self,
+        rt: &R,
+        transport: &mut T,
+        w: u8,
+        session: &mut SessionShare<J>,
+        key: &Key,
+        context: &Context,
+    ) -> Result<PutDone, PutFault>
+        requires fresh_tries { (T.told transport.old).tries ≡ [] }
+        requires fresh_asks { (T.told transport.old).asks ≡ [] }
+        requires fresh_replies { (T.told transport.old).replies ≡ [] }
+        requires room { MAX_NODES ≤ (T.told transport.old).room }
+        ensures { PutEnds {J = J} (list_of J.ring J.n key.now) w key.now context.now None
+            session.old session.new (T.told transport.old) (T.told transport.new) result }
+    {
+        self.put(rt, transport, w, session, key, context, None)
+    }
+
+    /// A get of the key, over a transport of this cluster. May wait for answers and locks.
+    pub fn get<T: Transport<J>, R: Wait>(
+        &self,
+        rt: &R,
+        transport: &mut T,
+        session: &mut SessionShare<J>,
+        key: &Key,
+    ) -> Result<GetDone<J>, GetFault>
+        requires fresh_tries { (T.told transport.old).tries ≡ [] }
+        requires fresh_asks { (T.told transport.old).asks ≡ [] }
+        requires fresh_replies { (T.told transport.old).replies ≡ [] }
+        requires room { MAX_NODES ≤ (T.told transport.old).room }
+        ensures ok { IfOk result (λ done. IsGot (list_of J.ring J.n key.now) key.now J.r
+            (since_of session.old) (T.told transport.new) done) }
+        ensures told { IfOk result (λ done. session.new ≡
+            with_get session.old (since_of session.old) (first_answers done.seen.items)) }
+        ensures err { OnErr result (session.new ≡ session.old) }
+        ensures refused { IfErr result (λ e. IsGetRefused (list_of J.ring J.n key.now) key.now J.r
+            (since_of session.old) (T.told transport.new) e) }
+    {
+        match self.list(key) {
+            Ok(list) => dy_coord::get(
+                rt,
+                self.alloc,
+                transport,
+                &list,
+                self.options.r,
+                session,
+                key,
+            ),
+            Err(fault) => Err(GetFault {
+                fault,
+                answers: Vec::new(self.alloc),
+            }),
+        }
+    }
+
+    /// Asks each home that answered by itself with another row to store this one, over a transport
+    /// of this cluster. May wait for answers and locks.
+    pub fn repair<T: Transport<J>, R: Wait>(
+        &self,
+        rt: &R,
+        transport: &mut T,
+        seens: &[Seen<J>],
+        row: &Row,
+    ) -> Result<(), Fault>
+        requires fresh_asks { (T.told transport.old).asks ≡ [] }
+        requires fresh_replies { (T.told transport.old).replies ≡ [] }
+        requires room { MAX_NODES ≤ (T.told transport.old).room }
+        ensures ok { IfOk result (λ _. IsRepaired (homes_in (list_of J.ring J.n row.now.key))
+            row.now seens.now (T.told transport.new)) }
+        ensures err { IfErr result (λ _. T.told transport.new ≡ T.told transport.old) }
+        ensures memory { IsOkUnless result Fault.OutOfMemory }
+        ensures tries { (T.told transport.new).tries ≡ (T.told transport.old).tries }
+    {
+        let list = self.list(row.key())?;
+        dy_repair::repair(rt, self.alloc, transport, seens, row, &list)
+    }
+}

@@ -1,0 +1,201 @@
+ghost use Rattle.std.specs.Prelude.{◌≡◌, ◌≤◌, ◌⊎◌, ◌++◌, ◌∷◌, [], length, vec_len, vec_capacity};
+ghost use Rattle.std.specs.Prelude.{IfOk, IfErr, OnErr, IsOkUnless};
+ghost use Rattle.dy_dots.specs.declared.nodes.TheConstants.{MAX_NODES};
+ghost use Rattle.dy_shares.specs.Shares.{SessionPart};
+ghost use Rattle.dy_book.specs.Limits.{IsQuorum};
+ghost use Rattle.dy_transport.specs.Told.{nothing_told};
+ghost use Rattle.dy_cluster.specs.Ends.{IsClosed};
+ghost use Rattle.dy_cluster.specs.Named.{NamesBook};
+
+use crate::locks::{lock_all, rejoin_all, retire_all};
+use crate::openings::Opened;
+use crate::restings::{Closed, ClusterRefused, Resting};
+use dy_book::{Book, Options};
+use dy_dots::{Fault, MAX_NODES, NodeId};
+use dy_node::{Mode, Node, Rest};
+use dy_ring::Ring;
+use dy_shares::{Naming, NodeShare, SessionShare};
+use dy_transport::Direct;
+use std::alloc::Global;
+use std::sync::{Mutex, Wait};
+
+/// Nodes and a book, each under a lock of its own. It must be closed or abandoned.
+pub struct Cluster<J: Naming> {
+    pub(crate) alloc: Global,
+    pub(crate) ring: Ring,
+    pub(crate) options: Options,
+    pub(crate) nodes: Vec<Mutex<Node<J>>>,
+    pub(crate) book: Mutex<Book<J>>,
+    // In a lock, since shares are for one thread at a time. Nobody takes it before the end.
+    spare: Mutex<Spare<J>>,
+    ghost ring_is: { ring ≡ J.ring },
+    ghost n_is: { options.n ≡ J.n },
+    ghost r_is: { options.r ≡ J.r },
+    ghost quorum: { IsQuorum options ring.nodes },
+    ghost count: { vec_len nodes ≡ J.ring.nodes },
+}
+
+// Room for each node's share and rest, so that no end of the cluster takes memory.
+struct Spare<J: Naming> {
+    shares: Vec<NodeShare<J>>,
+    rests: Vec<Rest>,
+    ghost no_shares: { shares.items ≡ [] },
+    ghost no_rests: { rests.items ≡ [] },
+    ghost shares_room: { J.ring.nodes ≤ vec_capacity shares },
+    ghost rests_room: { J.ring.nodes ≤ vec_capacity rests },
+}
+
+impl<J: Naming> Cluster<J> {
+    /// Opens a cluster whose book has the name of what was opened: every node is up and keeps
+    /// nothing, and the log is empty.
+    pub fn open(alloc: Global, opened: Opened) -> Result<Cluster<J>, Fault>
+        requires named { NamesBook J.book J.table J.ring J.n J.r opened }
+        ensures memory { IsOkUnless result Fault.OutOfMemory }
+    {
+        let Opened {
+            blank,
+            ring,
+            options,
+        } = opened;
+        let count = usize::from(ring.nodes());
+        let rests = Vec::with_capacity(alloc, count)?;
+        let again = ring.try_clone(alloc)?;
+        let mut nodes = Vec::with_capacity(alloc, count)?;
+        let (book, mut shares) = match Book::<J>::open(alloc, blank, again, options) {
+            Ok(opened) => opened,
+            Err(fault) => {
+                nodes.destroy_empty();
+                return Err(fault);
+            }
+        };
+        lock_all(alloc, &mut shares, &mut nodes);
+        Ok(Cluster {
+            alloc,
+            ring,
+            options,
+            nodes,
+            book: Mutex::new(book),
+            spare: Mutex::new(Spare { shares, rests }),
+        })
+    }
+
+    /// A session that was told nothing. May wait for a lock.
+    pub fn session(&self, rt: &impl Wait) -> Result<SessionShare<J>, Fault>
+        ensures acks { IfOk result (λ session. session.acks ≡ []) }
+        ensures gets { IfOk result (λ session. session.gets ≡ []) }
+        ensures only { IfErr result (λ fault. (fault ≡ Fault.OutOfMemory)
+            ⊎ (fault ≡ Fault.TooMany)) }
+    {
+        self.book.lock(rt).session()
+    }
+
+    /// Opens a session, and puts it behind those that are there. Gives its place. May wait for a
+    /// lock.
+    pub fn seat(&self, rt: &impl Wait, sessions: &mut Vec<SessionShare<J>>) -> Result<usize, Fault>
+        ensures place { IfOk result (λ place. place ≡ length sessions.old.items) }
+        ensures seated { IfOk result (λ _. (session : SessionPart)
+            × (sessions.new.items ≡ sessions.old.items ++ session ∷ [])
+            × (session.acks ≡ []) × (session.gets ≡ [])) }
+        ensures err { OnErr result (sessions.new.items ≡ sessions.old.items) }
+    {
+        sessions.reserve(1)?;
+        let session = self.session(rt)?;
+        sessions.push_reserved(session);
+        Ok(sessions.len() - 1)
+    }
+
+    /// A transport on the caller's own thread, for one put, get or repair.
+    pub fn direct(&self) -> Result<Direct<'_, J>, Fault>
+        ensures ok { IfOk result (λ direct. direct ≡ nothing_told MAX_NODES) }
+        ensures memory { IsOkUnless result Fault.OutOfMemory }
+    {
+        Direct::new(
+            self.alloc,
+            self.nodes.as_slice(),
+            &self.book,
+            MAX_NODES as usize,
+        )
+    }
+
+    /// The node goes down, or comes up. A number that the ring has not changes nothing. May wait
+    /// for a lock.
+    pub fn set_up(&self, rt: &impl Wait, node: NodeId, is_up: bool) {
+        if let Some(lock) = self.nodes.get(usize::from(node.number())) {
+            lock.lock(rt).set_up(is_up);
+        }
+    }
+
+    /// What the node does with asks from now on. May wait for a lock.
+    pub fn fault(&self, rt: &impl Wait, node: NodeId, mode: Mode) {
+        if let Some(lock) = self.nodes.get(usize::from(node.number())) {
+            lock.lock(rt).set_fault(mode);
+        }
+    }
+
+    /// Takes the locks apart. Waits for nobody, and takes no memory.
+    pub fn rest(self) -> Resting<J> {
+        let Cluster {
+            alloc,
+            ring,
+            options,
+            nodes: mut locks,
+            book,
+            spare,
+        } = self;
+        let Spare {
+            mut shares,
+            mut rests,
+        } = spare.into_inner();
+        retire_all(&mut locks, &mut shares, &mut rests);
+        Resting {
+            alloc,
+            ring,
+            options,
+            book: book.into_inner(),
+            shares,
+            rests,
+            locks,
+        }
+    }
+
+    /// Puts a cluster that rested into its locks again. Takes no memory.
+    pub fn wake(resting: Resting<J>) -> Cluster<J> {
+        let Resting {
+            alloc,
+            ring,
+            options,
+            book,
+            mut shares,
+            mut rests,
+            mut locks,
+        } = resting;
+        rejoin_all(&mut locks, &mut shares, &mut rests);
+        Cluster {
+            alloc,
+            ring,
+            options,
+            nodes: locks,
+            book: Mutex::new(book),
+            spare: Mutex::new(Spare { shares, rests }),
+        }
+    }
+
+    /// Ends the cluster, where each of its sessions is handed in; otherwise all comes back. Whoever
+    /// may have kept a session back goes by `rest`.
+    pub fn close(self, sessions: Vec<SessionShare<J>>) -> Result<Closed, ClusterRefused<J>>
+        ensures closed { IfOk result (λ closed. IsClosed J.ring J.n J.r sessions.items closed) }
+        ensures only { IfErr result (λ refused. (refused.fault ≡ Fault.SharesMissing)
+            ⊎ (refused.fault ≡ Fault.OutOfMemory)) }
+        ensures sessions_back { IfErr result (λ refused. refused.sessions.items ≡ sessions.items) }
+    {
+        match self.rest().close(sessions) {
+            Ok(closed) => Ok(closed),
+            Err(refused) => Err(refused),
+        }
+    }
+
+    /// Ends the cluster with whatever sessions are there, and tells nothing. Takes no memory.
+    pub fn abandon(self, sessions: Vec<SessionShare<J>>) {
+        self.rest().abandon(sessions);
+    }
+}

@@ -1,0 +1,20 @@
+//! The store as a user holds it: nodes and a book, each under a lock of its own.
+#![tactic(auto)]
+
+mod calls;
+mod clusters;
+mod embedding;
+mod handing;
+mod locks;
+mod openings;
+mod restings;
+
+pub use clusters::Cluster;
+use dy_shares::SessionShare;
+pub use embedding::{Client, Work, with_clients, with_cluster};
+pub use openings::Opened;
+pub use restings::{Closed, ClusterRefused, Resting};
+
+/// A client's session: it is told every acknowledgement and every get of its own, and must be
+/// handed in when the cluster closes.
+pub type Session<J> = SessionShare<J>;

@@ -1,0 +1,73 @@
+// The nodes into their locks, and out of them.
+ghost use Rattle.std.specs.Prelude.{◌≡◌, ◌≤◌, ◌+◌, [], length, vec_len, vec_capacity};
+ghost use Rattle.std.specs.List.{All};
+ghost use Rattle.dy_cluster.specs.Ends.{GoTogether};
+
+use dy_node::{Node, Rest};
+use dy_shares::{Naming, NodeShare};
+use std::alloc::Global;
+use std::sync::Mutex;
+
+// Puts a new node for each share into a lock.
+pub(crate) fn lock_all<J: Naming>(
+    alloc: Global,
+    shares: &mut Vec<NodeShare<J>>,
+    locks: &mut Vec<Mutex<Node<J>>>,
+)
+    requires fresh { All (λ p. p.steps ≡ []) shares.old.items }
+    requires room { vec_len locks.old + length shares.old.items ≤ vec_capacity locks.old }
+    ensures count { vec_len locks.new ≡ vec_len locks.old + length shares.old.items }
+    ensures emptied { shares.new.items ≡ [] }
+    ensures memory { vec_capacity shares.new ≡ vec_capacity shares.old }
+{
+    shares.reverse();
+    while let Some(share) = shares.pop() {
+        locks.push_reserved(Mutex::new(Node::new(alloc, share)));
+    }
+}
+
+// Takes the nodes out of their locks, the last first. The list keeps its memory.
+pub(crate) fn retire_all<J: Naming>(
+    locks: &mut Vec<Mutex<Node<J>>>,
+    shares: &mut Vec<NodeShare<J>>,
+    rests: &mut Vec<Rest>,
+)
+    requires shares { shares.old.items ≡ [] }
+    requires rests { rests.old.items ≡ [] }
+    requires shares_room { vec_len locks.old ≤ vec_capacity shares.old }
+    requires rests_room { vec_len locks.old ≤ vec_capacity rests.old }
+    ensures emptied { vec_len locks.new ≡ 0 }
+    ensures memory { vec_capacity locks.new ≡ vec_capacity locks.old }
+    ensures count { length shares.new.items ≡ vec_len locks.old }
+    ensures together { GoTogether J.ring J.n shares.new.items rests.new.items }
+    ensures shares_memory { vec_capacity shares.new ≡ vec_capacity shares.old }
+    ensures rests_memory { vec_capacity rests.new ≡ vec_capacity rests.old }
+{
+    while let Some(lock) = locks.pop() {
+        let (share, rest) = lock.into_inner().retire();
+        shares.push_reserved(share);
+        rests.push_reserved(rest);
+    }
+}
+
+// Puts the nodes back, each into a lock.
+pub(crate) fn rejoin_all<J: Naming>(
+    locks: &mut Vec<Mutex<Node<J>>>,
+    shares: &mut Vec<NodeShare<J>>,
+    rests: &mut Vec<Rest>,
+)
+    requires room { vec_len locks.old + length shares.old.items ≤ vec_capacity locks.old }
+    requires together { GoTogether J.ring J.n shares.old.items rests.old.items }
+    ensures count { vec_len locks.new ≡ vec_len locks.old + length shares.old.items }
+    ensures no_shares { shares.new.items ≡ [] }
+    ensures no_rests { rests.new.items ≡ [] }
+    ensures shares_room { vec_capacity shares.new ≡ vec_capacity shares.old }
+    ensures rests_room { vec_capacity rests.new ≡ vec_capacity rests.old }
+{
+    while let Some(share) = shares.pop() {
+        let Some(rest) = rests.pop() else {
+            unreachable!()
+        };
+        locks.push_reserved(Mutex::new(Node::rejoin(share, rest)));
+    }
+}

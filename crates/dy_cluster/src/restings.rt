@@ -1,0 +1,166 @@
+ghost use Rattle.std.specs.Prelude.{◌≡◌, ◌≤◌, ◌<◌, ◌⊎◌, ◌↔◌, length, [], vec_len, vec_capacity};
+ghost use Rattle.std.specs.Prelude.{IfOk, IfErr, IsErr};
+ghost use Rattle.dy_core.specs.Worlds.{layout_of};
+ghost use Rattle.dy_core.specs.Logs.{IsLegal};
+ghost use Rattle.dy_shares.specs.Shares.{IsMissing, steps_of};
+ghost use Rattle.dy_book.specs.Limits.{IsQuorum};
+ghost use Rattle.dy_cluster.specs.Ends.{IsEndOf};
+
+use dy_book::{Audit, Book, CloseRefused, Options};
+use dy_dots::Fault;
+use dy_node::{Node, Rest};
+use dy_ring::Ring;
+use dy_shares::{Naming, NodeShare, SessionShare};
+use std::alloc::Global;
+use std::marker::Model;
+use std::sync::Mutex;
+
+/// A cluster at rest: out of its locks, so that each of its parts is known.
+pub struct Resting<J: Naming> {
+    pub(crate) alloc: Global,
+    pub(crate) ring: Ring,
+    pub(crate) options: Options,
+    pub(crate) book: Book<J>,
+    pub(crate) shares: Vec<NodeShare<J>>,
+    pub(crate) rests: Vec<Rest>,
+    // Where the nodes' locks go again: empty, with room for each.
+    pub(crate) locks: Vec<Mutex<Node<J>>>,
+    pub(crate) ghost ring_is: { ring ≡ J.ring },
+    pub(crate) ghost n_is: { options.n ≡ J.n },
+    pub(crate) ghost r_is: { options.r ≡ J.r },
+    pub(crate) ghost quorum: { IsQuorum options ring.nodes },
+    pub(crate) ghost count: { length shares.items ≡ J.ring.nodes },
+    pub(crate) ghost emptied: { vec_len locks ≡ 0 },
+    pub(crate) ghost locks_room: { J.ring.nodes ≤ vec_capacity locks },
+    pub(crate) ghost shares_room: { J.ring.nodes ≤ vec_capacity shares },
+    pub(crate) ghost rests_room: { J.ring.nodes ≤ vec_capacity rests },
+}
+
+impl<J: Naming> Model for Resting<J> {
+    ghost use Rattle.dy_cluster.specs.Ends.{AtRest, GoTogether, at_rest_code};
+
+    ghost Value = { AtRest };
+
+    ghost coded = { at_rest_code };
+
+    ghost view = { λ c. record {
+      book = c.book;
+      parts = c.shares.items;
+      rests = c.rests.items;
+    } };
+
+    ghost invariant = { λ c. GoTogether J.ring J.n c.shares.items c.rests.items };
+}
+
+/// What a cluster that has ended tells, and what its nodes kept.
+#[derive(Drop)]
+pub struct Closed {
+    pub audit: Audit,
+    pub rests: Vec<Rest>,
+}
+
+/// Why a cluster wasn't closed. The cluster, at rest, and the sessions come back.
+pub struct ClusterRefused<J: Naming> {
+    pub fault: Fault,
+    pub cluster: Resting<J>,
+    pub sessions: Vec<SessionShare<J>>,
+}
+
+impl<J: Naming> ClusterRefused<J> {
+    /// Ends the cluster without an audit. Takes no memory.
+    pub fn abandon(self) -> Fault
+        ensures { result ≡ self.fault }
+    {
+        let ClusterRefused {
+            fault,
+            cluster,
+            sessions,
+        } = self;
+        cluster.abandon(sessions);
+        fault
+    }
+}
+
+impl<J: Naming> Resting<J> {
+    /// Ends the cluster, where each of its sessions is handed in; otherwise all comes back.
+    pub fn close(self, sessions: Vec<SessionShare<J>>) -> Result<Closed, ClusterRefused<J>>
+        ensures exact { IfOk result
+            (λ closed. IsEndOf J.ring J.n J.r self sessions.items closed) }
+        ensures shares_missing { IfErr result (λ refused. (refused.fault ≡ Fault.SharesMissing)
+            ↔ IsMissing J.ring.nodes self.book.sessions self.parts sessions.items) }
+        ensures missing { IsMissing J.ring.nodes self.book.sessions self.parts sessions.items →
+            IsErr result }
+        ensures only { IfErr result (λ refused. (refused.fault ≡ Fault.SharesMissing)
+            ⊎ (refused.fault ≡ Fault.OutOfMemory)) }
+        ensures cluster_back { IfErr result (λ refused. refused.cluster ≡ self) }
+        ensures sessions_back { IfErr result (λ refused. refused.sessions.items ≡ sessions.items) }
+    {
+        let Resting {
+            alloc,
+            ring,
+            options,
+            mut book,
+            mut shares,
+            rests,
+            locks,
+        } = self;
+        find_legal(&mut book, &mut shares);
+        match book.close(shares, sessions) {
+            Ok(audit) => {
+                locks.destroy_empty();
+                Ok(Closed { audit, rests })
+            }
+            Err(refused) => {
+                let CloseRefused {
+                    fault,
+                    book,
+                    nodes,
+                    sessions,
+                } = refused;
+                Err(ClusterRefused {
+                    fault,
+                    cluster: Resting {
+                        alloc,
+                        ring,
+                        options,
+                        book,
+                        shares: nodes,
+                        rests,
+                        locks,
+                    },
+                    sessions,
+                })
+            }
+        }
+    }
+
+    /// Ends the cluster with whatever sessions are there, and tells nothing. Takes no memory.
+    pub fn abandon(self, sessions: Vec<SessionShare<J>>) {
+        let Resting {
+            alloc: _,
+            ring: _,
+            options: _,
+            book,
+            shares,
+            rests: _,
+            locks,
+        } = self;
+        locks.destroy_empty();
+        book.abandon(shares, sessions);
+    }
+}
+
+// A share that is lent to its book shows that the log is legal.
+fn find_legal<J: Naming>(book: &mut Book<J>, shares: &mut Vec<NodeShare<J>>)
+    requires some { 0 < length shares.old.items }
+    ensures legal { IsLegal (layout_of J.ring J.n) (steps_of book.old.log) }
+    ensures book { book.new ≡ book.old }
+    ensures shares { shares.new.items ≡ shares.old.items }
+    ensures memory { vec_capacity shares.new ≡ vec_capacity shares.old }
+{
+    let Some(mut share) = shares.pop() else {
+        unreachable!()
+    };
+    book.agree(&mut share);
+    shares.push_reserved(share);
+}
