@@ -21,8 +21,8 @@ impl<J: Naming> Cluster<J> {
         }
     }
 
-    /// A pass over the hints that the node keeps now, on the caller's own thread: each home is asked
-    /// to hold its row, and what it holds then is settled. May wait for locks.
+    /// A pass over the hints that the node keeps now, on the caller's own thread: each home is
+    /// asked to hold its row, and what it holds then is settled. May wait for locks.
     pub fn handoff<R: Wait>(&self, rt: &R, node: NodeId) -> Result<Pass, Fault>
         ensures fewer { IfOk result (λ done. done.stored ≤ done.offers) }
         ensures only { IfErr result (λ fault. (fault ≡ Fault.Down) ⊎ (fault ≡ Fault.OutOfMemory)) }
