@@ -1,9 +1,9 @@
 #!/bin/sh
-# Runs the scene of dy_shares with each allocation failing in turn, and counts the runs that passed. The
+# Runs the scene of dy_shares_tests with each allocation failing in turn, and counts the runs that passed. The
 # scene has 43 allocations.
 set -eu
-cd "$(dirname "$0")/../crates/dy_shares"
-scene=tests::scenes::shares_survive_a_refused_growth
+cd "$(dirname "$0")/../crates/dy_shares_tests"
+scene=scenes::shares_survive_a_refused_growth
 last=${1:-43}
 passed=0
 for turn in $(seq 1 "$last"); do

@@ -11,8 +11,6 @@ mod lists;
 mod places;
 mod readers;
 mod steps;
-#[cfg(test)]
-mod tests;
 mod unknowns;
 mod worlds;
 

@@ -5,8 +5,6 @@ mod gatherings;
 mod laws;
 mod merges;
 mod tallies;
-#[cfg(test)]
-mod tests;
 
 pub use gatherings::{GATHERING_ROOM, Gathering};
 pub use laws::{distinct_homes_are_enough, first_answers_are_one_a_home};

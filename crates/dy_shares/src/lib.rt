@@ -15,8 +15,6 @@ mod receipts;
 mod seens;
 mod session_shares;
 mod sinces;
-#[cfg(test)]
-mod tests;
 
 pub use chronicles::Front;
 pub use endings::EndRefused;

@@ -1,0 +1,54 @@
+ghost use Rattle.std.specs.Prelude.{◌≡◌, [], IfOk};
+
+use dy_core::World;
+use dy_dots::Fault;
+use dy_ring::Ring;
+use std::alloc::Global;
+
+// A ring of three nodes, on which a key has so many homes. The key `a` lies at 0cc1.. (RFC 1321,
+// A.5), so its nodes are 0, 1 and 2, in this order.
+pub fn three_nodes(alloc: Global, n: u8) -> Result<World, Fault>
+    ensures nodes { IfOk result (λ world. world.ring.nodes ≡ 3) }
+    ensures steps { IfOk result (λ world. world.steps ≡ []) }
+{
+    let mut lists = Vec::new(alloc);
+    for position in [
+        0x20000000000000000000000000000000,
+        0x60000000000000000000000000000000,
+        0xa0000000000000000000000000000000,
+    ] {
+        let mut list = Vec::new(alloc);
+        list.push(position)?;
+        lists.push(list)?;
+    }
+    let ring = Ring::from_tokens(alloc, lists.as_slice())?;
+    if n < 1 || n > 3 || ring.nodes() != 3 {
+        return Err(Fault::TooMany);
+    }
+    World::new(alloc, ring, n)
+}
+
+// A ring of five nodes. The key `a` lies at 0cc1.. (RFC 1321, A.5), so its nodes are 0 to 4, in
+// this order, and the first n are its homes.
+pub fn five_nodes(alloc: Global, n: u8) -> Result<World, Fault>
+    ensures nodes { IfOk result (λ world. world.ring.nodes ≡ 5) }
+    ensures steps { IfOk result (λ world. world.steps ≡ []) }
+{
+    let mut lists = Vec::new(alloc);
+    for position in [
+        0x20000000000000000000000000000000,
+        0x60000000000000000000000000000000,
+        0xa0000000000000000000000000000000,
+        0xd0000000000000000000000000000000,
+        0xf0000000000000000000000000000000,
+    ] {
+        let mut list = Vec::new(alloc);
+        list.push(position)?;
+        lists.push(list)?;
+    }
+    let ring = Ring::from_tokens(alloc, lists.as_slice())?;
+    if n < 1 || n > 5 || ring.nodes() != 5 {
+        return Err(Fault::TooMany);
+    }
+    World::new(alloc, ring, n)
+}

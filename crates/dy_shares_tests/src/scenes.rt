@@ -1,0 +1,387 @@
+ghost use Rattle.std.specs.Prelude.{◌≡◌, [], IfOk, IfSome};
+
+use crate::rings::three_nodes;
+use crate::watched::{Watched, place_of};
+use dy_core::{Place, Step, World};
+use dy_dots::{Context, Dot, Fault, NodeId};
+use dy_shares::{Blank, Ledger, Merging, Naming, NodeShare, Receipt, Seen, SessionShare};
+use dy_siblings::{Key, Row};
+use std::alloc::Global;
+use std::marker::Brand;
+use std::sync::{Mutex, Wait};
+use std::thread::{Threads, for_each_mut};
+
+// The node of the share makes its first version of the key, and holds it for itself.
+fn issue_and_hold<J: Naming>(
+    alloc: Global,
+    watched: &mut Watched<J>,
+    share: &mut NodeShare<J>,
+    key: &Key,
+    context: &Context,
+) -> Result<Option<Dot>, Fault> {
+    let Some(dot) = watched.issue(alloc, share, key, context)? else {
+        return Ok(None);
+    };
+    let node = share.node();
+    watched.hold(alloc, share, node, key, dot)?;
+    Ok(Some(dot))
+}
+
+// A node makes a version, holds it for itself, and gives a receipt.
+fn make_version<J: Naming>(
+    alloc: Global,
+    watched: &mut Watched<J>,
+    share: &mut NodeShare<J>,
+    key: Key,
+) -> Result<Option<Receipt<J>>, Fault> {
+    let made = issue_and_hold(alloc, watched, share, &key, &Context::new(alloc))?;
+    match made {
+        Some(dot) => Ok(watched.receipt(key, dot, Place::own(share.node()))),
+        None => Ok(None),
+    }
+}
+
+// A fetch tells in the log that the receipt was spent.
+fn spend<J: Naming>(alloc: Global, watched: &mut Watched<J>, receipt: &Receipt<J>) {
+    if watched.spend(receipt) == Some(true) {
+        let place = place_of(receipt);
+        let _seen = watched.fetch(alloc, place, receipt.key()).is_ok();
+    }
+}
+
+// What the node of the share answers for itself, taken out of the lock.
+fn ask<J: Naming>(
+    rt: &impl Wait,
+    alloc: Global,
+    lock: &Mutex<Watched<J>>,
+    node: NodeId,
+    key: &Key,
+) -> Option<Seen<J>> {
+    let mut guard = lock.lock(rt);
+    match guard.fetch(alloc, Place::own(node), key) {
+        Ok(seen) => seen,
+        Err(_) => None,
+    }
+}
+
+// One thread: it takes an answer and a receipt out of the lock, and spends them under it later,
+// whatever the others did in between.
+fn put<J: Naming>(
+    rt: &impl Wait,
+    alloc: Global,
+    lock: &Mutex<Watched<J>>,
+    share: &mut NodeShare<J>,
+) {
+    let Ok(key) = Key::new(alloc, b"a") else {
+        return;
+    };
+    let seen = ask(rt, alloc, lock, share.node(), &key);
+    let made = {
+        let mut guard = lock.lock(rt);
+        make_version(alloc, &mut *guard, share, key)
+    };
+    if let Some(seen) = seen {
+        let mut guard = lock.lock(rt);
+        guard.find(&seen);
+    }
+    if let Ok(Some(receipt)) = made {
+        let mut guard = lock.lock(rt);
+        spend(alloc, &mut *guard, &receipt);
+    }
+}
+
+// Each node's thread.
+fn beside<J: Naming + Send + Sync, R: Threads + Wait + Sync>(
+    rt: &R,
+    alloc: Global,
+    lock: &Mutex<Watched<J>>,
+    shares: &mut [NodeShare<J>],
+) {
+    for_each_mut(rt, shares, 3, &|_, share| put(rt, alloc, lock, share));
+}
+
+// Ends the ledger, where each share is handed in.
+fn end<J: Naming>(
+    ledger: Ledger<J>,
+    nodes: Vec<NodeShare<J>>,
+    sessions: Vec<SessionShare<J>>,
+) -> Result<Vec<Step>, Fault> {
+    match ledger.end(nodes, sessions) {
+        Ok(steps) => Ok(steps),
+        Err(refused) => {
+            refused.abandon();
+            Err(Fault::SharesMissing)
+        }
+    }
+}
+
+// Three threads with a share each, and one ledger under a lock.
+fn three<J: Naming + Send + Sync, R: Threads + Wait + Sync>(
+    rt: &R,
+    alloc: Global,
+    blank: Blank,
+    world: World,
+) -> Result<Vec<Step>, Fault>
+    requires named { blank ≡ record { book = J.book; table = J.table } }
+    requires world { world ≡ record { ring = J.ring; n = J.n; steps = [] } }
+    requires nodes { J.ring.nodes ≡ 3 }
+{
+    let (ledger, mut nodes) = Ledger::<J>::open(alloc, blank, 3)?;
+    let lock = Mutex::new(Watched::new(ledger, world));
+    beside(rt, alloc, &lock, nodes.as_mut_slice());
+    end(lock.into_inner().into_ledger(), nodes, Vec::new(alloc))
+}
+
+// Node 2 holds the version for home 1, and gives a receipt.
+fn hint<J: Naming>(
+    alloc: Global,
+    watched: &mut Watched<J>,
+    nodes: &mut [NodeShare<J>],
+    key: Key,
+    dot: Dot,
+) -> Result<Option<Receipt<J>>, Fault> {
+    let (Some(home), Some(two)) = (NodeId::new(1), nodes.get_mut(2)) else {
+        return Ok(None);
+    };
+    let holder = two.node();
+    watched.hold(alloc, two, home, &key, dot)?;
+    Ok(watched.receipt(key, dot, Place { holder, home }))
+}
+
+// The home of the receipt holds its version, and then the holder gives it up.
+fn hand_over<J: Naming>(
+    alloc: Global,
+    watched: &mut Watched<J>,
+    nodes: &mut [NodeShare<J>],
+    receipt: &Receipt<J>,
+) -> Result<(), Fault> {
+    let (key, dot, home) = (receipt.key(), receipt.dot(), receipt.home());
+    if let Some(one) = nodes.get_mut(1) {
+        watched.hold(alloc, one, home, key, dot)?;
+    }
+    if let Some(two) = nodes.get_mut(2) {
+        watched.release(alloc, two, home, key, dot)?;
+    }
+    Ok(())
+}
+
+// The nodes 0 and 2 hold a version of node 0, node 2 for home 1. It gives the receipt of node 2.
+fn first_put<J: Naming>(
+    alloc: Global,
+    watched: &mut Watched<J>,
+    nodes: &mut [NodeShare<J>],
+) -> Result<Option<Receipt<J>>, Fault> {
+    let key = Key::new(alloc, b"a")?;
+    let made = match nodes.first_mut() {
+        Some(zero) => issue_and_hold(alloc, watched, zero, &key, &Context::new(alloc))?,
+        None => None,
+    };
+    match made {
+        Some(dot) => hint(alloc, watched, nodes, key, dot),
+        None => Ok(None),
+    }
+}
+
+// A put is acknowledged by a node and a stand-in, whose hint goes to its home. It says what the
+// stand-in's receipt is worth then.
+fn stand_in<J: Naming>(
+    alloc: Global,
+    watched: &mut Watched<J>,
+    nodes: &mut [NodeShare<J>],
+    session: &mut SessionShare<J>,
+) -> Result<Option<bool>, Fault>
+    requires { J.r ≡ 1 }
+{
+    let Some(receipt) = first_put(alloc, watched, nodes)? else {
+        return Ok(None);
+    };
+    watched.ack(alloc, session, receipt.key(), receipt.dot(), 2)?;
+    hand_over(alloc, watched, nodes, &receipt)?;
+    tell(alloc, watched, session, &receipt)?;
+    Ok(watched.spend(&receipt))
+}
+
+// The session is told what the receipt's home answers for itself.
+fn tell<J: Naming>(
+    alloc: Global,
+    watched: &mut Watched<J>,
+    session: &mut SessionShare<J>,
+    receipt: &Receipt<J>,
+) -> Result<(), Fault>
+    requires { J.r ≡ 1 }
+{
+    let mut seens = Vec::with_capacity(alloc, 1)?;
+    let home = receipt.home();
+    if let Some(seen) = watched.fetch(alloc, Place::own(home), receipt.key())? {
+        if session.since().at() < seen.at() {
+            seens.push_reserved(seen);
+            session.note_get(seens)?;
+        }
+    }
+    watched.agree_session(session);
+    Ok(())
+}
+
+// What the stand-in's receipt is worth, and how many steps the log has, how many gets the session
+// was told, and its since.
+fn handed_over<J: Naming>(
+    alloc: Global,
+    blank: Blank,
+    world: World,
+) -> Result<(Option<bool>, usize, usize, usize), Fault>
+    requires named { blank ≡ record { book = J.book; table = J.table } }
+    requires world { world ≡ record { ring = J.ring; n = J.n; steps = [] } }
+    requires nodes { J.ring.nodes ≡ 3 }
+    requires r { J.r ≡ 1 }
+{
+    let mut sessions = Vec::with_capacity(alloc, 1)?;
+    let (ledger, mut nodes) = match Ledger::<J>::open(alloc, blank, 3) {
+        Ok(opened) => opened,
+        Err(fault) => {
+            sessions.destroy_empty();
+            return Err(fault);
+        }
+    };
+    let mut watched = Watched::new(ledger, world);
+    let Ok(mut session) = watched.session() else {
+        watched.into_ledger().abandon(nodes, sessions);
+        return Ok((None, 0, 0, 0));
+    };
+    let spent = stand_in(alloc, &mut watched, nodes.as_mut_slice(), &mut session);
+    let (gets, since) = (session.gets(), session.since().at());
+    sessions.push_reserved(session);
+    let steps = end(watched.into_ledger(), nodes, sessions)?;
+    Ok((spent?, steps.len(), gets, since))
+}
+
+// How many steps of the log are issues, holds and fetches.
+fn counts(steps: &[Step]) -> (usize, usize, usize) {
+    let (mut issues, mut holds, mut fetches) = (0usize, 0usize, 0usize);
+    for step in steps {
+        match step {
+            Step::Issue { .. } => issues = issues.saturating_add(1),
+            Step::Hold { .. } => holds = holds.saturating_add(1),
+            Step::Fetch { .. } => fetches = fetches.saturating_add(1),
+            Step::Release { .. } | Step::Ack { .. } => {}
+        }
+    }
+    (issues, holds, fetches)
+}
+
+#[test]
+fn witnesses_are_spent_by_other_threads(rt: HostRuntime) -> Result<(), Fault> {
+    let blank = Blank::new(rt.alloc())?;
+    let world = three_nodes(rt.alloc(), 3)?;
+    let steps = three::<Brand, _>(&rt, rt.alloc(), blank, world)?;
+    assert!(&rt; counts(steps.as_slice()) == (3, 3, 6) && steps.len() == 12);
+    Ok(())
+}
+
+// The same from nothing, with two homes a key.
+fn stand_in_scene(alloc: Global) -> Result<(Option<bool>, usize, usize, usize), Fault> {
+    let blank = Blank::new(alloc)?;
+    let world = three_nodes(alloc, 2)?;
+    handed_over::<Brand>(alloc, blank, world)
+}
+
+#[test]
+fn a_stand_ins_receipt_outlives_its_hint(rt: HostRuntime) -> Result<(), Fault> {
+    let (spent, steps, gets, since) = stand_in_scene(rt.alloc())?;
+    assert!(&rt; spent == Some(false));
+    assert!(&rt; steps == 7 && gets == 1 && since == 7);
+    Ok(())
+}
+
+// Where a growth is refused, the call says so, and all shares are handed in all the same.
+#[test]
+fn shares_survive_a_refused_growth(rt: HostRuntime) -> Result<(), Fault> {
+    match stand_in_scene(rt.alloc()) {
+        Ok(_) | Err(Fault::OutOfMemory) => Ok(()),
+        Err(fault) => Err(fault),
+    }
+}
+
+// The node of the share makes a version that follows those which the context names, and answers.
+fn put_and_get<J: Naming>(
+    alloc: Global,
+    watched: &mut Watched<J>,
+    share: &mut NodeShare<J>,
+    key: &Key,
+    context: &Context,
+) -> Result<Option<Seen<J>>, Fault>
+    ensures { IfOk result (λ found. IfSome found (λ seen. seen.key ≡ key.now)) }
+{
+    issue_and_hold(alloc, watched, share, key, context)?;
+    let place = Place::own(share.node());
+    watched.fetch(alloc, place, key)
+}
+
+// The merge of two answers.
+fn merged<J: Naming>(alloc: Global, one: &Seen<J>, other: &Seen<J>) -> Result<Row, Fault>
+    requires { one.now.key ≡ other.now.key }
+{
+    let mut merging = Merging::of(alloc, one)?;
+    merging.add(alloc, other)?;
+    Ok(merging.into_row())
+}
+
+// Node 0 puts, and node 1 puts what follows it. It gives the merge of what both answer.
+fn two_answers<J: Naming>(
+    alloc: Global,
+    watched: &mut Watched<J>,
+    nodes: &mut [NodeShare<J>],
+    key: &Key,
+) -> Result<Option<Row>, Fault> {
+    let Some(zero) = nodes.first_mut() else {
+        return Ok(None);
+    };
+    let Some(first) = put_and_get(alloc, watched, zero, key, &Context::new(alloc))? else {
+        return Ok(None);
+    };
+    let context = first.row().context(alloc)?;
+    let Some(one) = nodes.get_mut(1) else {
+        return Ok(None);
+    };
+    match put_and_get(alloc, watched, one, key, &context)? {
+        Some(second) => Ok(Some(merged(alloc, &first, &second)?)),
+        None => Ok(None),
+    }
+}
+
+fn merge_of_two<J: Naming>(
+    alloc: Global,
+    blank: Blank,
+    world: World,
+    key: &Key,
+) -> Result<Option<Row>, Fault>
+    requires named { blank ≡ record { book = J.book; table = J.table } }
+    requires world { world ≡ record { ring = J.ring; n = J.n; steps = [] } }
+    requires nodes { J.ring.nodes ≡ 3 }
+{
+    let (ledger, mut nodes) = Ledger::<J>::open(alloc, blank, 3)?;
+    let mut watched = Watched::new(ledger, world);
+    let row = two_answers(alloc, &mut watched, nodes.as_mut_slice(), key);
+    watched.into_ledger().abandon(nodes, Vec::new(alloc));
+    row
+}
+
+// The dots of that merge, from nothing.
+fn merged_dots(alloc: Global) -> Result<Option<Context>, Fault> {
+    let blank = Blank::new(alloc)?;
+    let world = three_nodes(alloc, 2)?;
+    let key = Key::new(alloc, b"a")?;
+    match merge_of_two::<Brand>(alloc, blank, world, &key)? {
+        Some(row) => Ok(Some(row.dots(alloc)?)),
+        None => Ok(None),
+    }
+}
+
+#[test]
+fn a_version_that_follows_another_is_left_alone(rt: HostRuntime) -> Result<(), Fault> {
+    let mut text = String::new(rt.alloc());
+    if let Some(dots) = merged_dots(rt.alloc())? {
+        dots.write_text(rt.alloc(), &mut text)?;
+    }
+    assert!(&rt; text.as_str() == "n1:1");
+    Ok(())
+}
