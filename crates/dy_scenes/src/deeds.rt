@@ -1,0 +1,234 @@
+// What is done on a stage, and what is told of it.
+
+use crate::at_nodes::{
+    deliver, node_of, pass_and_write, pass_some_and_write, set_mode, set_up, write_hints,
+    write_rows,
+};
+use crate::calls::{
+    Write, get_directly, get_stated, put_directly, put_listed, put_stated, put_with_handover,
+    repair_after,
+};
+use crate::handovers::Handover;
+use crate::many_keys::put_many_and_write;
+use crate::stages::{Stage, keyed_on};
+use crate::stated::Stating;
+use crate::texts::{write_get, write_put};
+use dy_dots::Fault;
+use dy_node::Mode;
+use dy_shares::{Naming, SessionShare};
+use std::sync::Wait;
+
+// What is done.
+#[derive(Clone, Copy)]
+pub enum Deed {
+    Put(Write),
+    // The same, while this node hands over to that home, which comes back, before the put is told.
+    PutWithHandover(Write, usize, usize),
+    // The same over a transport that lists what came.
+    PutListed(Write),
+    // The same over a line on which one node's answers are stated.
+    PutStated(Write, Stating),
+    // Puts of so many other keys.
+    PutMany(usize),
+    Get,
+    // The same over such a line.
+    GetStated(Stating),
+    // A get of another key.
+    GetAside,
+    // A get, and then the repair of the homes that were stale.
+    GetAndRepair,
+    // What concerns one node.
+    At(usize, NodeDeed),
+}
+
+// What is done at a node.
+#[derive(Clone, Copy)]
+pub enum NodeDeed {
+    Down,
+    Up,
+    Set(Mode),
+    // It stores the messages that it kept.
+    Deliver,
+    // It hands over its hints.
+    HandOver,
+    // It hands over so many of them.
+    HandOverSome(usize),
+    // How many hints it keeps.
+    Hints,
+    Show,
+}
+
+// A get, which is told.
+fn get_and_write<J: Naming, R: Wait>(
+    rt: &R,
+    stage: &Stage<'_, J>,
+    session: &mut SessionShare<J>,
+    out: &mut String,
+) -> Result<(), Fault> {
+    let ended = get_directly(rt, stage, session)?;
+    write_get(stage.alloc, out, &ended)
+}
+
+// The same of the other key.
+fn get_aside_and_write<J: Naming, R: Wait>(
+    rt: &R,
+    stage: &Stage<'_, J>,
+    session: &mut SessionShare<J>,
+    out: &mut String,
+) -> Result<(), Fault> {
+    let keyed = keyed_on(stage, b"abc")?;
+    let aside = Stage {
+        alloc: stage.alloc,
+        nodes: stage.nodes,
+        book: stage.book,
+        ring: stage.ring,
+        n: stage.n,
+        key: &keyed.key,
+        list: &keyed.list,
+    };
+    get_and_write(rt, &aside, session, out)
+}
+
+// A get, which is told, and then the repair of the homes that were stale.
+fn get_and_repair<J: Naming, R: Wait>(
+    rt: &R,
+    stage: &Stage<'_, J>,
+    session: &mut SessionShare<J>,
+    out: &mut String,
+) -> Result<(), Fault> {
+    let ended = get_directly(rt, stage, session)?;
+    write_get(stage.alloc, out, &ended)?;
+    match &ended {
+        Ok(done) => repair_after(rt, stage, done),
+        Err(_refused) => Ok(()),
+    }
+}
+
+// A put, which is told.
+fn put_and_write<J: Naming, R: Wait>(
+    rt: &R,
+    stage: &Stage<'_, J>,
+    session: &mut SessionShare<J>,
+    write: Write,
+    out: &mut String,
+) -> Result<(), Fault> {
+    let ended = put_directly(rt, stage, session, write)?;
+    write_put(stage.alloc, out, &ended)
+}
+
+// A put with a handover in it, which is told.
+fn put_with_handover_and_write<J: Naming, R: Wait>(
+    rt: &R,
+    stage: &Stage<'_, J>,
+    session: &mut SessionShare<J>,
+    write: Write,
+    between: (usize, usize),
+    out: &mut String,
+) -> Result<(), Fault> {
+    let handover = Handover {
+        from: node_of(between.0)?,
+        back: node_of(between.1)?,
+    };
+    let ended = put_with_handover(rt, stage, session, write, handover)?;
+    write_put(stage.alloc, out, &ended)
+}
+
+// A put over a transport that lists what came, which is told with the list.
+fn put_listed_and_write<J: Naming, R: Wait>(
+    rt: &R,
+    stage: &Stage<'_, J>,
+    session: &mut SessionShare<J>,
+    write: Write,
+    out: &mut String,
+) -> Result<(), Fault> {
+    let mut list = String::new(stage.alloc);
+    let ended = put_listed(rt, stage, session, write, &mut list)?;
+    write_put(stage.alloc, out, &ended)?;
+    out.push_str(format!(in stage.alloc; "listed{}\n", list.as_str())?.as_str())?;
+    Ok(())
+}
+
+// A put over a line on which one node's answers are stated, which is told.
+fn put_stated_and_write<J: Naming, R: Wait>(
+    rt: &R,
+    stage: &Stage<'_, J>,
+    session: &mut SessionShare<J>,
+    write: Write,
+    stating: Stating,
+    out: &mut String,
+) -> Result<(), Fault> {
+    let ended = put_stated(rt, stage, session, write, stating)?;
+    write_put(stage.alloc, out, &ended)
+}
+
+// A get over such a line, which is told.
+fn get_stated_and_write<J: Naming, R: Wait>(
+    rt: &R,
+    stage: &Stage<'_, J>,
+    session: &mut SessionShare<J>,
+    stating: Stating,
+    out: &mut String,
+) -> Result<(), Fault> {
+    let ended = get_stated(rt, stage, session, stating)?;
+    write_get(stage.alloc, out, &ended)
+}
+
+// Does what concerns one node.
+fn done_at<J: Naming, R: Wait>(
+    rt: &R,
+    stage: &Stage<'_, J>,
+    deed: NodeDeed,
+    node: usize,
+    out: &mut String,
+) -> Result<(), Fault> {
+    match deed {
+        NodeDeed::Down => set_up(rt, stage, node, false),
+        NodeDeed::Up => set_up(rt, stage, node, true),
+        NodeDeed::Set(mode) => set_mode(rt, stage, node, mode),
+        NodeDeed::Deliver => deliver(rt, stage, node, out),
+        NodeDeed::HandOver => pass_and_write(rt, stage, node, out),
+        NodeDeed::HandOverSome(room) => pass_some_and_write(rt, stage, node, room, out),
+        NodeDeed::Hints => write_hints(rt, stage, node, out),
+        NodeDeed::Show => write_rows(rt, stage, node, out),
+    }
+}
+
+// Does the deed.
+fn done<J: Naming, R: Wait>(
+    rt: &R,
+    stage: &Stage<'_, J>,
+    session: &mut SessionShare<J>,
+    deed: Deed,
+    out: &mut String,
+) -> Result<(), Fault> {
+    match deed {
+        Deed::Put(write) => put_and_write(rt, stage, session, write, out),
+        Deed::PutWithHandover(write, from, back) => {
+            put_with_handover_and_write(rt, stage, session, write, (from, back), out)
+        }
+        Deed::PutListed(write) => put_listed_and_write(rt, stage, session, write, out),
+        Deed::PutStated(write, stating) => {
+            put_stated_and_write(rt, stage, session, write, stating, out)
+        }
+        Deed::PutMany(count) => put_many_and_write(rt, stage, session, count, out),
+        Deed::Get => get_and_write(rt, stage, session, out),
+        Deed::GetStated(stating) => get_stated_and_write(rt, stage, session, stating, out),
+        Deed::GetAside => get_aside_and_write(rt, stage, session, out),
+        Deed::GetAndRepair => get_and_repair(rt, stage, session, out),
+        Deed::At(node, deed) => done_at(rt, stage, deed, node, out),
+    }
+}
+
+// Does the deeds.
+pub fn all_done<J: Naming, R: Wait>(
+    rt: &R,
+    stage: &Stage<'_, J>,
+    session: &mut SessionShare<J>,
+    deeds: &[Deed],
+    out: &mut String,
+) -> Result<(), Fault> {
+    for deed in deeds {
+        done(rt, stage, session, *deed, out)?;
+    }
+    Ok(())
+}

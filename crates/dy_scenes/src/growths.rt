@@ -1,0 +1,80 @@
+//! A put, a get and a pass whose growths may be refused. Run with each allocation refused in turn,
+//! one a run.
+
+use crate::calls::{After, Write};
+use crate::deeds::{Deed, NodeDeed};
+use crate::growth_texts::{OF_A_GET, OF_A_PASS};
+use crate::plays::{three_homes, told};
+use dy_dots::Fault;
+use std::alloc::Global;
+use std::sync::Wait;
+use std::test::Fail;
+
+// A put of two homes.
+const PUT: Deed = Deed::Put(Write {
+    w: 2,
+    value: b'x',
+    after: After::Nothing,
+});
+
+// What is done at first: a put, and a get.
+const DEEDS: [Deed; 2] = [PUT, Deed::Get];
+
+// What is done then: a put while home 1 is down, and a pass of its stand-in once it is back.
+const WITH_A_PASS: [Deed; 4] = [
+    Deed::At(1, NodeDeed::Down),
+    PUT,
+    Deed::At(1, NodeDeed::Up),
+    Deed::At(3, NodeDeed::HandOver),
+];
+
+// Which growth was refused where this text was told.
+fn refused_by(texts: &[(&'static str, &'static str)], text: &str) -> Option<&'static str> {
+    for told in texts {
+        if told.1 == text {
+            return Some(told.0);
+        }
+    }
+    None
+}
+
+// What the deeds tell, asked again where the stage, the audit or the text wanted memory, and
+// whether that was so.
+fn told_or_again<R: Wait>(rt: &R, alloc: Global, deeds: &[Deed]) -> Result<(String, bool), Fault> {
+    match told(rt, alloc, three_homes(2, 99), deeds) {
+        Ok(text) => Ok((text, false)),
+        Err(Fault::OutOfMemory) => {
+            let text = told(rt, alloc, three_homes(2, 99), deeds)?;
+            Ok((text, true))
+        }
+        Err(fault) => Err(fault),
+    }
+}
+
+// Prints which growth was refused, where one was.
+fn tell(
+    rt: &HostRuntime,
+    ended: (String, bool),
+    texts: &[(&'static str, &'static str)],
+) -> Result<(), Fail> {
+    let (text, again) = ended;
+    if again {
+        println!(rt; "refused the stage, the audit or the text")?;
+    }
+    let Some(by) = refused_by(texts, text.as_str()) else {
+        println!(rt; "{}", text.as_str())?;
+        return Err(Fail::new("none of the texts that a refused growth gives"));
+    };
+    if by != "nothing" {
+        println!(rt; "refused {by}")?;
+    }
+    Ok(())
+}
+
+#[test]
+fn survive_a_refused_growth(rt: HostRuntime) -> Result<(), Fail> {
+    let ended = told_or_again(&rt, rt.alloc(), &DEEDS)?;
+    tell(&rt, ended, &OF_A_GET)?;
+    let ended = told_or_again(&rt, rt.alloc(), &WITH_A_PASS)?;
+    tell(&rt, ended, &OF_A_PASS)
+}

@@ -1,0 +1,115 @@
+//! A transport on the caller's own thread that lists by itself what came of its tries, and each
+//! answer that was read.
+
+use dy_dots::{Context, Fault, NodeId};
+use dy_node::{Answer, Ask, Begun};
+use dy_shares::{Naming, Receipt, Seen, SessionShare, Since};
+use dy_siblings::{Key, Row, Value};
+use dy_transport::{AnswerKind, Direct, Transport};
+use std::alloc::Global;
+use std::sync::Wait;
+
+// Nodes that are reached on the caller's own thread, and the list so far.
+#[derive(Drop)]
+pub struct Listing<'a, J: Naming> {
+    pub alloc: Global,
+    pub direct: Direct<'a, J>,
+    pub list: String,
+}
+
+// Lists what came of a begin.
+fn list_begun<J: Naming>(
+    alloc: Global,
+    list: &mut String,
+    gave: &Result<Begun<J>, Fault>,
+) -> Result<(), Fault> {
+    let text = match gave {
+        Ok(begun) => format!(in alloc; " began {}", begun.dot)?,
+        Err(fault) => format!(in alloc; " refused {fault}")?,
+    };
+    list.push_str(text.as_str())?;
+    Ok(())
+}
+
+// Lists an answer, or that none was left.
+fn list_read<J: Naming>(
+    alloc: Global,
+    list: &mut String,
+    read: &Option<(NodeId, NodeId, Answer<J>)>,
+) -> Result<(), Fault> {
+    let text = match read {
+        Some((node, home, answer)) => {
+            let kind = AnswerKind::of(answer);
+            format!(in alloc; " read {node}/{home}={kind}")?
+        }
+        None => format!(in alloc; " read none")?,
+    };
+    list.push_str(text.as_str())?;
+    Ok(())
+}
+
+impl<J: Naming> Transport<J> for Listing<'_, J> {
+    ghost told = { λ l. l.direct };
+
+    fn room(&self) -> usize {
+        self.direct.room()
+    }
+
+    fn begin<R: Wait>(
+        &mut self,
+        rt: &R,
+        node: NodeId,
+        home: NodeId,
+        key: &Key,
+        context: &Context,
+        value: &Option<Value>,
+    ) -> Result<Begun<J>, Fault> {
+        let gave = self.direct.begin(rt, node, home, key, context, value);
+        let _listed = list_begun(self.alloc, &mut self.list, &gave);
+        gave
+    }
+
+    fn look<R: Wait>(
+        &mut self,
+        rt: &R,
+        node: NodeId,
+        home: NodeId,
+        key: &Key,
+        since: &Since<J>,
+    ) -> Result<Seen<J>, Fault> {
+        self.direct.look(rt, node, home, key, since)
+    }
+
+    fn offer<R: Wait>(&mut self, rt: &R, node: NodeId) -> Result<Vec<(NodeId, Row)>, Fault> {
+        self.direct.offer(rt, node)
+    }
+
+    fn settle<R: Wait>(
+        &mut self,
+        rt: &R,
+        node: NodeId,
+        receipts: &Vec<Receipt<J>>,
+    ) -> Result<usize, Fault> {
+        self.direct.settle(rt, node, receipts)
+    }
+
+    fn ask<R: Wait>(&mut self, rt: &R, to: NodeId, ask: &Ask<'_, J>) {
+        self.direct.ask(rt, to, ask);
+    }
+
+    fn next_reply<R: Wait>(&mut self, rt: &R) -> Option<(NodeId, NodeId, Answer<J>)> {
+        let read = self.direct.next_reply(rt);
+        let _listed = list_read(self.alloc, &mut self.list, &read);
+        read
+    }
+
+    fn record<R: Wait>(
+        &mut self,
+        rt: &R,
+        session: &mut SessionShare<J>,
+        w: u8,
+        receipts: &[Receipt<J>],
+    ) -> Result<(), Fault> {
+        self.direct.record(rt, session, w, receipts)
+    }
+}
