@@ -6,7 +6,7 @@ ghost use Rattle.dy_preference.specs.Preferences.{homes_of};
 use crate::calls::{keep, put_by, spend};
 use crate::members::Members;
 use crate::plays::{Scene, play_scene};
-use crate::scenes::blind;
+use crate::scenes::{blind, stores};
 use dy_book::Book;
 use dy_dots::{Fault, NodeId};
 use dy_node::Node;
@@ -107,8 +107,8 @@ fn makes<J: Naming>(
     Ok(true)
 }
 
-// The node stores the row for home 0.
-fn stores<J: Naming>(
+// The node stores the row for home 0, and its receipts are kept.
+fn stores_own<J: Naming>(
     node: &mut Node<J>,
     book: &mut Book<J>,
     list: &Preference,
@@ -123,7 +123,7 @@ fn stores<J: Naming>(
     Ok(true)
 }
 
-// The node stores the row for home 0, and its receipts are let go.
+// The same, and its receipts are let go.
 fn stores_hint<J: Naming>(
     node: &mut Node<J>,
     book: &mut Book<J>,
@@ -134,7 +134,7 @@ fn stores_hint<J: Naming>(
     requires { take list.now.n list.now.nodes ≡ homes_of J.ring J.n key.now }
 {
     let row = row_of(&found.row, key)?;
-    let _receipts = keep(node, book, list, NodeId::nth(0), row)?;
+    stores(node, book, list, row)?;
     Ok(true)
 }
 
@@ -196,7 +196,7 @@ fn called<J: Naming>(
     match call {
         Call::Begin => makes(alloc, &mut nodes.one, book, list, key, found),
         Call::StoreHint => stores_hint(&mut nodes.three, book, list, key, found),
-        Call::Store => stores(&mut nodes.zero, book, list, key, found),
+        Call::Store => stores_own(&mut nodes.zero, book, list, key, found),
         Call::Offer => offers_one(&mut nodes.three, book),
         Call::Settle => settles_one(&mut nodes.three, book, found),
         Call::Fetch => shows_one(&mut nodes.zero, book, key),

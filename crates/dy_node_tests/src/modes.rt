@@ -9,7 +9,7 @@ use dy_book::Book;
 use dy_dots::{Fault, NodeId};
 use dy_node::{Answer, Mode, Node};
 use dy_preference::Preference;
-use dy_shares::Naming;
+use dy_shares::{Naming, Seen};
 use dy_siblings::{Key, Row};
 use std::alloc::Global;
 
@@ -26,11 +26,16 @@ enum Word {
 // What is answered at first, and once more.
 type Words = (Word, Option<Word>);
 
+// How many versions the row of an answer has.
+fn count<J: Naming>(seen: &Seen<J>) -> usize {
+    seen.row().versions().len()
+}
+
 // The word of an answer.
 fn told<J: Naming>(answer: &Answer<J>) -> Word {
     match answer {
         Answer::Stored(receipts) => Word::Stored(receipts.len()),
-        Answer::Rows(seen) => Word::Rows(seen.row().versions().len()),
+        Answer::Rows(seen) => Word::Rows(count(seen)),
         Answer::Down => Word::Down,
         Answer::NoAnswer => Word::NoAnswer,
         Answer::Refused(_fault) => Word::Other,

@@ -25,9 +25,16 @@ pub enum Scene {
     Asked { mode: Mode, is_up: bool },
 }
 
+// The tokens of a node of one token.
+fn one_token(alloc: Global, position: u128) -> Result<Vec<u128>, Fault> {
+    let mut list = Vec::new(alloc);
+    list.push(position)?;
+    Ok(list)
+}
+
 // A ring of four nodes. The key `a` lies at 0cc1.. (RFC 1321, A.5), so its nodes are 0, 1, 2 and 3,
 // in this order.
-pub fn four_nodes(alloc: Global) -> Result<Ring, Fault> {
+fn four_nodes(alloc: Global) -> Result<Ring, Fault> {
     let mut lists = Vec::new(alloc);
     for position in [
         0x20000000000000000000000000000000,
@@ -35,15 +42,13 @@ pub fn four_nodes(alloc: Global) -> Result<Ring, Fault> {
         0xa0000000000000000000000000000000,
         0xe0000000000000000000000000000000,
     ] {
-        let mut list = Vec::new(alloc);
-        list.push(position)?;
-        lists.push(list)?;
+        lists.push(one_token(alloc, position)?)?;
     }
     Ring::from_tokens(alloc, lists.as_slice())
 }
 
 // The options of three homes: node 3 is the stand-in of the key `a`.
-pub fn three_homes() -> Options
+fn three_homes() -> Options
     ensures n { result.n ≡ 3 }
     ensures r { result.r ≡ 1 }
 {

@@ -6,7 +6,7 @@ use crate::calls::{keep, put, put_by, spend};
 use crate::members::Members;
 use dy_book::Book;
 use dy_dots::{Context, Fault, NodeId};
-use dy_node::{Mode, Node};
+use dy_node::{Begun, Mode, Node};
 use dy_preference::Preference;
 use dy_shares::Naming;
 use dy_siblings::{Key, Row};
@@ -36,6 +36,13 @@ fn keeps_alone<J: Naming>(node: &Node<J>, key: &Key, counters: &[u32]) -> Result
     Ok(rows.len() == 1 && *kept_for == NodeId::nth(0) && has_counters(row, counters))
 }
 
+// The row of a begin.
+fn row_of<J: Naming>(begun: Begun<J>) -> Row
+    ensures { result ≡ begun.row }
+{
+    begun.row
+}
+
 // The node makes a version of the key for itself, by no context.
 pub fn blind<J: Naming>(
     alloc: Global,
@@ -48,8 +55,22 @@ pub fn blind<J: Naming>(
     ensures { IfOk result (λ row. row.key ≡ key.now) }
 {
     let home = node.number();
-    let begun = put(node, book, list, home, key, &Context::new(alloc))?;
-    Ok(begun.row)
+    let none = Context::new(alloc);
+    let begun = put(node, book, list, home, key, &none)?;
+    Ok(row_of(begun))
+}
+
+// The node stores the row for home 0.
+pub fn stores<J: Naming>(
+    node: &mut Node<J>,
+    book: &mut Book<J>,
+    list: &Preference,
+    row: &Row,
+) -> Result<(), Fault>
+    requires { take list.now.n list.now.nodes ≡ homes_of J.ring J.n row.now.key }
+{
+    let _receipts = keep(node, book, list, NodeId::nth(0), row)?;
+    Ok(())
 }
 
 // Node 1 makes a version by no context, and node 3 holds what node 1 keeps then for home 0.
@@ -62,9 +83,9 @@ fn to_the_hint<J: Naming>(
 ) -> Result<Row, Fault>
     requires { take list.now.n list.now.nodes ≡ homes_of J.ring J.n key.now }
 {
-    let row = blind(alloc, &mut nodes.one, book, list, key)?;
-    let _receipts = keep(&mut nodes.three, book, list, NodeId::nth(0), &row)?;
-    Ok(row)
+    let made = blind(alloc, &mut nodes.one, book, list, key)?;
+    stores(&mut nodes.three, book, list, &made)?;
+    Ok(made)
 }
 
 // The one row that the node offers, where it is this one and is for home 0.
@@ -144,6 +165,24 @@ pub fn a_handoff<J: Naming>(
     ends_with_one_each(book, nodes, key)
 }
 
+// The node makes a version of the key for itself, which follows those of the row.
+fn newer<J: Naming>(
+    alloc: Global,
+    node: &mut Node<J>,
+    book: &mut Book<J>,
+    list: &Preference,
+    key: &Key,
+    row: &Row,
+) -> Result<Row, Fault>
+    requires { take list.now.n list.now.nodes ≡ homes_of J.ring J.n key.now }
+    ensures { IfOk result (λ row. row.key ≡ key.now) }
+{
+    let home = node.number();
+    let context = row.context(alloc)?;
+    let begun = put(node, book, list, home, key, &context)?;
+    Ok(row_of(begun))
+}
+
 // Node 1 makes n1:1, which home 0 keeps for later, and n1:2, which follows it: the row of n1:2.
 fn followed<J: Naming>(
     alloc: Global,
@@ -157,9 +196,7 @@ fn followed<J: Naming>(
 {
     let first = blind(alloc, &mut nodes.one, book, list, key)?;
     put_by(&mut nodes.zero, list, NodeId::nth(0), &first)?;
-    let context = first.context(alloc)?;
-    let newer = put(&mut nodes.one, book, list, NodeId::nth(1), key, &context)?;
-    Ok(newer.row)
+    newer(alloc, &mut nodes.one, book, list, key, &first)
 }
 
 // Whether the node keeps n1:2 alone before and after it stores the one message that waits.
@@ -180,7 +217,7 @@ pub fn an_old_message<J: Naming>(
 ) -> Result<bool, Fault>
     requires { take list.now.n list.now.nodes ≡ homes_of J.ring J.n key.now }
 {
-    let newer = followed(alloc, book, nodes, list, key)?;
-    let _receipts = keep(&mut nodes.zero, book, list, NodeId::nth(0), &newer)?;
+    let row = followed(alloc, book, nodes, list, key)?;
+    stores(&mut nodes.zero, book, list, &row)?;
     comes_late(&mut nodes.zero, book, key)
 }
