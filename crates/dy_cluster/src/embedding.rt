@@ -1,4 +1,4 @@
-ghost use Rattle.std.specs.Prelude.{◌≡◌, IfOk, List};
+ghost use Rattle.std.specs.Prelude.{◌≡◌, [], IfOk, List, length};
 ghost use Rattle.dy_shares.specs.Shares.{SessionPart};
 ghost use Rattle.dy_cluster.specs.Ends.{IsClosed};
 ghost use Rattle.dy_cluster.specs.Named.{NamesBook};
@@ -17,6 +17,9 @@ use std::thread::{Threads, for_each_mut};
 
 /// What is done with a cluster while it is open, whatever the name of its book.
 pub trait Work {
+    // What a work that is done says of what its sessions were told; nothing, where it is left out.
+    ghost told: { Self → List SessionPart → Type 0 } = { λ work tellings. Unit {0} };
+
     /// The sessions that it leaves in the list are handed in when the cluster closes.
     fn run<J: Naming, R: Wait>(
         &mut self,
@@ -24,7 +27,9 @@ pub trait Work {
         alloc: Global,
         cluster: &Cluster<J>,
         sessions: &mut Vec<SessionShare<J>>,
-    ) -> Result<(), Fault>;
+    ) -> Result<(), Fault>
+        requires none { sessions.old.items ≡ [] }
+        ensures told { IfOk result (λ _. told self.new sessions.new.items) };
 }
 
 /// What each of many clients does, in a thread of its own, with a session of its own.
@@ -50,7 +55,7 @@ pub fn with_cluster<W: Work, R: Wait>(
     work: &mut W,
 ) -> Result<Closed, Fault>
     ensures { IfOk result (λ closed. (tellings : List SessionPart)
-        × IsClosed ring options.n options.r tellings closed) }
+        × IsClosed ring options.n options.r tellings closed × W.told work.new tellings) }
 {
     let opened = Opened::new(alloc, ring, options)?;
     run_named::<Brand, W, R>(rt, alloc, opened, work)
@@ -65,7 +70,8 @@ fn run_named<J: Naming, W: Work, R: Wait>(
 ) -> Result<Closed, Fault>
     requires named { NamesBook J.book J.table J.ring J.n J.r opened }
     ensures { IfOk result (λ closed. (tellings : List SessionPart)
-        × IsClosed opened.ring opened.options.n opened.options.r tellings closed) }
+        × IsClosed opened.ring opened.options.n opened.options.r tellings closed
+        × W.told work.new tellings) }
 {
     let cluster = Cluster::<J>::open(alloc, opened)?;
     let mut sessions = Vec::new(alloc);
@@ -90,7 +96,7 @@ pub fn with_clients<C: Client + Sync, R: Threads + Wait + Sync>(
     client: &C,
 ) -> Result<Closed, Fault>
     ensures { IfOk result (λ closed. (tellings : List SessionPart)
-        × IsClosed ring options.n options.r tellings closed) }
+        × IsClosed ring options.n options.r tellings closed × length tellings ≡ clients) }
 {
     let opened = Opened::new(alloc, ring, options)?;
     run_clients::<Brand, C, R>(rt, alloc, opened, clients, client)
@@ -106,7 +112,8 @@ fn run_clients<J: Naming + Send + Sync, C: Client + Sync, R: Threads + Wait + Sy
 ) -> Result<Closed, Fault>
     requires named { NamesBook J.book J.table J.ring J.n J.r opened }
     ensures { IfOk result (λ closed. (tellings : List SessionPart)
-        × IsClosed opened.ring opened.options.n opened.options.r tellings closed) }
+        × IsClosed opened.ring opened.options.n opened.options.r tellings closed
+        × (length tellings ≡ clients)) }
 {
     let cluster = Cluster::<J>::open(alloc, opened)?;
     let mut sessions = Vec::new(alloc);
@@ -129,7 +136,10 @@ fn seat_clients<J: Naming, R: Wait>(
     cluster: &Cluster<J>,
     sessions: &mut Vec<SessionShare<J>>,
     clients: u8,
-) -> Result<(), Fault> {
+) -> Result<(), Fault>
+    requires none { sessions.old.items ≡ [] }
+    ensures { IfOk result (λ _. length sessions.new.items ≡ clients) }
+{
     for _ in 0..clients {
         let _place = cluster.seat(rt, sessions)?;
     }
@@ -143,7 +153,9 @@ fn run_beside<J: Naming + Send + Sync, C: Client + Sync, R: Threads + Wait + Syn
     cluster: &Cluster<J>,
     client: &C,
     sessions: &mut [SessionShare<J>],
-) {
+)
+    ensures { length sessions.new ≡ length sessions.old }
+{
     for_each_mut(
         rt,
         sessions,
