@@ -1,0 +1,34 @@
+use dy_book::{MAX_STEPS, MAX_VERSIONS, Options};
+use dy_dots::{Fault, MAX_COUNTER};
+use dy_ring::Ring;
+use std::alloc::Global;
+
+// A ring of five nodes. The key `a` lies at 0cc1.. (RFC 1321, A.5), so its nodes are 0 to 4, in
+// this order.
+pub fn five_nodes(alloc: Global) -> Result<Ring, Fault> {
+    let mut lists = Vec::new(alloc);
+    for position in [
+        0x20000000000000000000000000000000,
+        0x60000000000000000000000000000000,
+        0xa0000000000000000000000000000000,
+        0xd0000000000000000000000000000000,
+        0xf0000000000000000000000000000000,
+    ] {
+        let mut list = Vec::new(alloc);
+        list.push(position)?;
+        lists.push(list)?;
+    }
+    Ring::from_tokens(alloc, lists.as_slice())
+}
+
+// Three homes a key, of which a put and a get need two.
+pub fn options() -> Options {
+    Options {
+        n: 3,
+        r: 2,
+        w: 2,
+        counter_limit: MAX_COUNTER,
+        versions_limit: MAX_VERSIONS,
+        steps_limit: MAX_STEPS,
+    }
+}
