@@ -1,6 +1,6 @@
 // What is done at one node of a stage.
 
-use crate::handovers::hand_over;
+use crate::handovers::{Between, hand_over, hand_over_while};
 use crate::stages::Stage;
 use crate::texts::{write_pass, write_row};
 use dy_dots::{Fault, NodeId};
@@ -126,4 +126,16 @@ pub fn pass_and_write<J: Naming, R: Wait>(
 ) -> Result<(), Fault> {
     let room = hints_of(rt, stage, node)?;
     pass_some_and_write(rt, stage, node, room, out)
+}
+
+// A pass of the node over one hint, while something else is done, which is told.
+pub fn pass_while_and_write<J: Naming, R: Wait>(
+    rt: &R,
+    stage: &Stage<'_, J>,
+    node: usize,
+    between: Between,
+    out: &mut String,
+) -> Result<(), Fault> {
+    let passed = hand_over_while(rt, stage, node_of(node)?, between);
+    write_pass(stage.alloc, out, &passed)
 }

@@ -2,10 +2,10 @@
 ghost use Rattle.std.specs.Prelude.{◌≡◌};
 ghost use Rattle.dy_transport.specs.Told.{nothing_told};
 
-use crate::handovers::{Handing, Handover};
-use crate::listings::Listing;
+use crate::handovers::Between;
 use crate::stages::Stage;
 use crate::stated::{Stated, Stating};
+use crate::wrapped::Wrapped;
 use dy_coord::{GetDone, GetFault, PutDone, PutFault, get, put};
 use dy_dots::{Context, Fault};
 use dy_repair::repair;
@@ -112,39 +112,24 @@ pub fn get_directly<J: Naming, R: Wait>(
     Ok(get_over(rt, &mut direct, stage, session))
 }
 
-// A put with a handover between its last answer and its ack.
-pub fn put_with_handover<J: Naming, R: Wait>(
+// A put over a transport that lists what came, while something else is done; and the list.
+pub fn put_while<J: Naming, R: Wait>(
     rt: &R,
     stage: &Stage<'_, J>,
     session: &mut SessionShare<J>,
     write: Write,
-    handover: Handover,
-) -> Result<Result<PutDone, PutFault>, Fault> {
-    let direct = Direct::new(stage.alloc, stage.nodes, stage.book, 32)?;
-    let mut handing = Handing {
-        stage,
-        direct,
-        handover,
-    };
-    put_over(rt, &mut handing, stage, session, write)
-}
-
-// A put over a transport that lists what came, and the list.
-pub fn put_listed<J: Naming, R: Wait>(
-    rt: &R,
-    stage: &Stage<'_, J>,
-    session: &mut SessionShare<J>,
-    write: Write,
+    between: Between,
     list: &mut String,
 ) -> Result<Result<PutDone, PutFault>, Fault> {
     let direct = Direct::new(stage.alloc, stage.nodes, stage.book, 32)?;
-    let mut listing = Listing {
-        alloc: stage.alloc,
+    let mut wrapped = Wrapped {
+        stage,
         direct,
+        between,
         list: String::new(stage.alloc),
     };
-    let ended = put_over(rt, &mut listing, stage, session, write)?;
-    list.push_str(listing.list.as_str())?;
+    let ended = put_over(rt, &mut wrapped, stage, session, write)?;
+    list.push_str(wrapped.list.as_str())?;
     Ok(ended)
 }
 

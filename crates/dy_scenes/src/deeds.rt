@@ -1,14 +1,13 @@
 // What is done on a stage, and what is told of it.
 
 use crate::at_nodes::{
-    deliver, node_of, pass_and_write, pass_some_and_write, set_mode, set_up, write_hints,
-    write_rows,
+    deliver, pass_and_write, pass_some_and_write, pass_while_and_write, set_mode, set_up,
+    write_hints, write_rows,
 };
 use crate::calls::{
-    Write, get_directly, get_stated, put_directly, put_listed, put_stated, put_with_handover,
-    repair_after,
+    Write, get_directly, get_stated, put_directly, put_stated, put_while, repair_after,
 };
-use crate::handovers::Handover;
+use crate::handovers::Between;
 use crate::many_keys::put_many_and_write;
 use crate::stages::{Stage, keyed_on};
 use crate::stated::Stating;
@@ -22,10 +21,8 @@ use std::sync::Wait;
 #[derive(Clone, Copy)]
 pub enum Deed {
     Put(Write),
-    // The same, while this node hands over to that home, which comes back, before the put is told.
-    PutWithHandover(Write, usize, usize),
-    // The same over a transport that lists what came.
-    PutListed(Write),
+    // The same over a transport that lists what came, while something else is done.
+    PutWhile(Write, Between),
     // The same over a line on which one node's answers are stated.
     PutStated(Write, Stating),
     // Puts of so many other keys.
@@ -53,6 +50,8 @@ pub enum NodeDeed {
     HandOver,
     // It hands over so many of them.
     HandOverSome(usize),
+    // It hands over one, while something else is done.
+    HandOverWhile(Between),
     // How many hints it keeps.
     Hints,
     Show,
@@ -116,33 +115,17 @@ fn put_and_write<J: Naming, R: Wait>(
     write_put(stage.alloc, out, &ended)
 }
 
-// A put with a handover in it, which is told.
-fn put_with_handover_and_write<J: Naming, R: Wait>(
+// A put over a transport that lists what came, while something else is done: told with the list.
+fn put_while_and_write<J: Naming, R: Wait>(
     rt: &R,
     stage: &Stage<'_, J>,
     session: &mut SessionShare<J>,
     write: Write,
-    between: (usize, usize),
-    out: &mut String,
-) -> Result<(), Fault> {
-    let handover = Handover {
-        from: node_of(between.0)?,
-        back: node_of(between.1)?,
-    };
-    let ended = put_with_handover(rt, stage, session, write, handover)?;
-    write_put(stage.alloc, out, &ended)
-}
-
-// A put over a transport that lists what came, which is told with the list.
-fn put_listed_and_write<J: Naming, R: Wait>(
-    rt: &R,
-    stage: &Stage<'_, J>,
-    session: &mut SessionShare<J>,
-    write: Write,
+    between: Between,
     out: &mut String,
 ) -> Result<(), Fault> {
     let mut list = String::new(stage.alloc);
-    let ended = put_listed(rt, stage, session, write, &mut list)?;
+    let ended = put_while(rt, stage, session, write, between, &mut list)?;
     write_put(stage.alloc, out, &ended)?;
     out.push_str(format!(in stage.alloc; "listed{}\n", list.as_str())?.as_str())?;
     Ok(())
@@ -188,6 +171,7 @@ fn done_at<J: Naming, R: Wait>(
         NodeDeed::Deliver => deliver(rt, stage, node, out),
         NodeDeed::HandOver => pass_and_write(rt, stage, node, out),
         NodeDeed::HandOverSome(room) => pass_some_and_write(rt, stage, node, room, out),
+        NodeDeed::HandOverWhile(between) => { pass_while_and_write(rt, stage, node, between, out) }
         NodeDeed::Hints => write_hints(rt, stage, node, out),
         NodeDeed::Show => write_rows(rt, stage, node, out),
     }
@@ -203,10 +187,9 @@ fn done<J: Naming, R: Wait>(
 ) -> Result<(), Fault> {
     match deed {
         Deed::Put(write) => put_and_write(rt, stage, session, write, out),
-        Deed::PutWithHandover(write, from, back) => {
-            put_with_handover_and_write(rt, stage, session, write, (from, back), out)
+        Deed::PutWhile(write, between) => {
+            put_while_and_write(rt, stage, session, write, between, out)
         }
-        Deed::PutListed(write) => put_listed_and_write(rt, stage, session, write, out),
         Deed::PutStated(write, stating) => {
             put_stated_and_write(rt, stage, session, write, stating, out)
         }

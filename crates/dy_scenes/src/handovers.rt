@@ -1,14 +1,28 @@
-// Hints that are handed over, and a transport that does so before it tells a put.
-ghost use Rattle.std.specs.Prelude.{◌<◌, ◌^◌};
+// Hints that are handed over, and what is done while a call is under way.
+ghost use Rattle.std.specs.Prelude.{◌≡◌, ◌<◌, ◌^◌, IfOk};
+ghost use Rattle.dy_preference.specs.Preferences.{homes_of, may_hold};
 
+use crate::at_nodes::{node_of, set_up};
 use crate::stages::Stage;
+use crate::wrapped::Wrapped;
 use dy_dots::{Context, Fault, NodeId};
 use dy_handoff::{Pass, pass};
-use dy_node::{Answer, Ask, Begun};
-use dy_shares::{Naming, Receipt, Seen, SessionShare, Since};
-use dy_siblings::{Key, Row, Value};
+use dy_node::{Ask, Begun};
+use dy_shares::Naming;
+use dy_siblings::{Row, Value};
 use dy_transport::{Direct, Transport};
 use std::sync::Wait;
+
+// What is done while a call is under way.
+#[derive(Clone, Copy)]
+pub enum Between {
+    Nothing,
+    // Before a put is told, the second node comes up, and the first hands over to it.
+    Handover(usize, usize),
+    // After hints were listed, node 1 begins one put more, node 3 keeps it for node 0, and node 0
+    // comes up.
+    Put,
+}
 
 // The node hands over its hints, the first so many of them.
 pub fn hand_over<J: Naming, R: Wait>(
@@ -23,92 +37,93 @@ pub fn hand_over<J: Naming, R: Wait>(
     pass(rt, &mut direct, node)
 }
 
-// A handover that a node makes to a home that comes back.
-#[derive(Clone, Copy)]
-pub struct Handover {
-    pub from: NodeId,
-    pub back: NodeId,
+// The node hands over a hint, while something else is done.
+pub fn hand_over_while<J: Naming, R: Wait>(
+    rt: &R,
+    stage: &Stage<'_, J>,
+    node: NodeId,
+    between: Between,
+) -> Result<Pass, Fault> {
+    let direct = Direct::new(stage.alloc, stage.nodes, stage.book, 1)?;
+    let mut wrapped = Wrapped {
+        stage,
+        direct,
+        between,
+        list: String::new(stage.alloc),
+    };
+    pass(rt, &mut wrapped, node)
 }
 
-// A transport on the caller's own thread, with a handover between the last answer and the ack.
-#[derive(Drop)]
-pub struct Handing<'a, J: Naming> {
-    pub stage: &'a Stage<'a, J>,
-    pub direct: Direct<'a, J>,
-    pub handover: Handover,
+// Whether the holder may hold the stage's key for the home.
+fn allowed<J: Naming>(stage: &Stage<'_, J>, holder: NodeId, home: NodeId) -> bool
+    ensures { result ≡ may_hold (homes_of J.ring J.n stage.now.key.now) holder home }
+{
+    stage.list.may_hold(holder, home)
 }
 
-impl<J: Naming> Handing<'_, J> {
-    // The home comes up, and the node hands over to it.
-    fn meddle<R: Wait>(&self, rt: &R) -> Result<Pass, Fault> {
-        let back = usize::from(self.handover.back.number());
-        let Some(place) = self.stage.nodes.get(back) else {
-            return Err(Fault::Down);
-        };
-        place.lock(rt).set_up(true);
-        hand_over(rt, self.stage, self.handover.from, 1)
+// What node 1 keeps for itself after one put more, which follows nothing.
+fn put_more<J: Naming, R: Wait>(rt: &R, stage: &Stage<'_, J>) -> Result<Row, Fault>
+    ensures { IfOk result (λ row. row.key ≡ stage.now.key.now) }
+{
+    let one = NodeId::nth(1);
+    if !allowed(stage, one, one) {
+        return Err(Fault::Down);
+    }
+    let mut direct = Direct::new(stage.alloc, stage.nodes, stage.book, 1)?;
+    let value = Some(Value::new(stage.alloc, b"y")?);
+    let context = Context::new(stage.alloc);
+    let begun = direct.begin(rt, one, one, stage.key, &context, &value)?;
+    let Begun {
+        dot: _,
+        row,
+        receipt: _receipt,
+    } = begun;
+    Ok(row)
+}
+
+// Node 3 keeps the row for node 0.
+fn keep_more<J: Naming, R: Wait>(rt: &R, stage: &Stage<'_, J>, row: &Row) -> Result<(), Fault>
+    requires { row.now.key ≡ stage.now.key.now }
+{
+    let home = NodeId::nth(0);
+    let holder = NodeId::nth(3);
+    if !allowed(stage, holder, home) {
+        return Err(Fault::Down);
+    }
+    let mut direct = Direct::new(stage.alloc, stage.nodes, stage.book, 1)?;
+    direct.ask(rt, holder, &Ask::Store { home, row });
+    let _answer = direct.next_reply(rt);
+    Ok(())
+}
+
+// What is done after hints were listed.
+pub fn after_an_offer<J: Naming, R: Wait>(
+    rt: &R,
+    stage: &Stage<'_, J>,
+    between: Between,
+) -> Result<(), Fault> {
+    match between {
+        Between::Put => {
+            let row = put_more(rt, stage)?;
+            keep_more(rt, stage, &row)?;
+            set_up(rt, stage, 0, true)
+        }
+        Between::Nothing | Between::Handover(_, _) => Ok(()),
     }
 }
 
-impl<J: Naming> Transport<J> for Handing<'_, J> {
-    ghost told = { λ h. h.direct };
-
-    fn room(&self) -> usize {
-        self.direct.room()
-    }
-
-    fn begin<R: Wait>(
-        &mut self,
-        rt: &R,
-        node: NodeId,
-        home: NodeId,
-        key: &Key,
-        context: &Context,
-        value: &Option<Value>,
-    ) -> Result<Begun<J>, Fault> {
-        self.direct.begin(rt, node, home, key, context, value)
-    }
-
-    fn look<R: Wait>(
-        &mut self,
-        rt: &R,
-        node: NodeId,
-        home: NodeId,
-        key: &Key,
-        since: &Since<J>,
-    ) -> Result<Seen<J>, Fault> {
-        self.direct.look(rt, node, home, key, since)
-    }
-
-    fn offer<R: Wait>(&mut self, rt: &R, node: NodeId) -> Result<Vec<(NodeId, Row)>, Fault> {
-        self.direct.offer(rt, node)
-    }
-
-    fn settle<R: Wait>(
-        &mut self,
-        rt: &R,
-        node: NodeId,
-        receipts: &Vec<Receipt<J>>,
-    ) -> Result<usize, Fault> {
-        self.direct.settle(rt, node, receipts)
-    }
-
-    fn ask<R: Wait>(&mut self, rt: &R, to: NodeId, ask: &Ask<'_, J>) {
-        self.direct.ask(rt, to, ask);
-    }
-
-    fn next_reply<R: Wait>(&mut self, rt: &R) -> Option<(NodeId, NodeId, Answer<J>)> {
-        self.direct.next_reply(rt)
-    }
-
-    fn record<R: Wait>(
-        &mut self,
-        rt: &R,
-        session: &mut SessionShare<J>,
-        w: u8,
-        receipts: &[Receipt<J>],
-    ) -> Result<(), Fault> {
-        let _pass = self.meddle(rt);
-        self.direct.record(rt, session, w, receipts)
+// What is done before a put is told.
+pub fn before_a_record<J: Naming, R: Wait>(
+    rt: &R,
+    stage: &Stage<'_, J>,
+    between: Between,
+) -> Result<(), Fault> {
+    match between {
+        Between::Handover(from, back) => {
+            set_up(rt, stage, back, true)?;
+            let _pass = hand_over(rt, stage, node_of(from)?, 1)?;
+            Ok(())
+        }
+        Between::Nothing | Between::Put => Ok(()),
     }
 }

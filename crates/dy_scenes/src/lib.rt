@@ -14,8 +14,6 @@ mod growths;
 #[cfg(test)]
 mod handovers;
 #[cfg(test)]
-mod listings;
-#[cfg(test)]
 mod many_hints;
 #[cfg(test)]
 mod many_keys;
@@ -35,3 +33,5 @@ mod stand_ins;
 mod stated;
 #[cfg(test)]
 mod texts;
+#[cfg(test)]
+mod wrapped;

@@ -1,7 +1,7 @@
 //! Passes at a node that keeps a hundred hints.
 
 use crate::deeds::{Deed, NodeDeed};
-use crate::plays::told_of_one_home;
+use crate::plays::compare_of_one_home;
 use dy_dots::Fault;
 
 // What it tells that the one home of a hundred keys is down, and comes back.
@@ -27,9 +27,7 @@ fn a_pass_offers_each_of_a_hundred_hints(rt: HostRuntime) -> Result<(), Fault> {
         Deed::At(1, NodeDeed::HandOver),
         Deed::At(1, NodeDeed::Hints),
     ];
-    let text = told_of_one_home(&rt, rt.alloc(), 100, 500, &deeds)?;
-    assert_eq!(rt; text.as_str(), HUNDRED);
-    Ok(())
+    compare_of_one_home(&rt, rt.alloc(), 100, 500, &deeds, HUNDRED)
 }
 
 // What it tells of a pass with room for fewer hints, and of one for the rest.
@@ -53,9 +51,7 @@ fn a_pass_offers_as_many_hints_as_it_has_room_for(rt: HostRuntime) -> Result<(),
         Deed::At(1, NodeDeed::HandOver),
         Deed::At(1, NodeDeed::Hints),
     ];
-    let text = told_of_one_home(&rt, rt.alloc(), 100, 500, &deeds)?;
-    assert_eq!(rt; text.as_str(), IN_TWO_PASSES);
-    Ok(())
+    compare_of_one_home(&rt, rt.alloc(), 100, 500, &deeds, IN_TWO_PASSES)
 }
 
 // What it tells where the steps run out between the homes' holds and what is given up: three hints
@@ -76,7 +72,5 @@ fn a_pass_goes_on_where_a_settle_is_refused(rt: HostRuntime) -> Result<(), Fault
         Deed::At(1, NodeDeed::HandOver),
         Deed::At(1, NodeDeed::Hints),
     ];
-    let text = told_of_one_home(&rt, rt.alloc(), 3, 13, &deeds)?;
-    assert_eq!(rt; text.as_str(), STEPS_RAN_OUT);
-    Ok(())
+    compare_of_one_home(&rt, rt.alloc(), 3, 13, &deeds, STEPS_RAN_OUT)
 }

@@ -2,7 +2,7 @@
 
 use crate::calls::{After, Write};
 use crate::deeds::{Deed, NodeDeed};
-use crate::plays::{three_homes, told};
+use crate::plays::{compare, three_homes};
 use crate::stated::{Fate, Stating};
 use dy_dots::{Fault, NodeId};
 
@@ -47,9 +47,7 @@ fn answers_come_in_another_order(rt: HostRuntime) -> Result<(), Fault> {
         Deed::PutStated(write_of(3), of_node_1(Fate::Late)),
         Deed::GetStated(of_node_1(Fate::Late)),
     ];
-    let text = told(&rt, rt.alloc(), three_homes(3, 99), &deeds)?;
-    assert_eq!(rt; text.as_str(), ANOTHER_ORDER);
-    Ok(())
+    compare(&rt, rt.alloc(), three_homes(3, 99), &deeds, ANOTHER_ORDER)
 }
 
 // What a put tells where home 1 is told to have answered nothing, and so once more: two nodes are
@@ -81,14 +79,16 @@ fn an_answer_too_many_makes_no_home_more(rt: HostRuntime) -> Result<(), Fault> {
         Deed::At(4, NodeDeed::Down),
         put_lost(),
     ];
-    let text = told(&rt, rt.alloc(), three_homes(2, 99), &deeds)?;
-    assert_eq!(rt; text.as_str(), TOO_MANY);
-    Ok(())
+    compare(&rt, rt.alloc(), three_homes(2, 99), &deeds, TOO_MANY)
 }
 
 #[test]
 fn an_answer_too_many_takes_no_home_away(rt: HostRuntime) -> Result<(), Fault> {
-    let text = told(&rt, rt.alloc(), three_homes(2, 99), &[put_lost()])?;
-    assert_eq!(rt; text.as_str(), TOO_MANY_FOR_ONE);
-    Ok(())
+    compare(
+        &rt,
+        rt.alloc(),
+        three_homes(2, 99),
+        &[put_lost()],
+        TOO_MANY_FOR_ONE,
+    )
 }

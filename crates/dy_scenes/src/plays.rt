@@ -12,6 +12,7 @@ use dy_ring::Ring;
 use dy_shares::{Blank, Naming};
 use std::alloc::Global;
 use std::marker::Brand;
+use std::process::Abort;
 use std::sync::{Mutex, Wait};
 
 // The key `a` lies at 0cc1.. (RFC 1321, A.5), so its nodes are 0, 1, 2, 3 and 4, in this order; the
@@ -162,9 +163,24 @@ pub fn told<R: Wait>(
     played(rt, alloc, SPREAD, options, deeds, true)
 }
 
+// Plays the deeds, and compares what is told with what is wanted.
+pub fn compare<R: Abort + Wait>(
+    rt: &R,
+    alloc: Global,
+    options: Options,
+    deeds: &[Deed],
+    wanted: &str,
+) -> Result<(), Fault>
+    requires { options.n ≡ 3 }
+{
+    let text = told(rt, alloc, options, deeds)?;
+    assert_eq!(rt; text.as_str(), wanted);
+    Ok(())
+}
+
 // What the deeds tell where node 0 is the one home of each key, with as many versions and steps as
 // there may be, and then what the audit counts.
-pub fn told_of_one_home<R: Wait>(
+fn told_of_one_home<R: Wait>(
     rt: &R,
     alloc: Global,
     versions_limit: usize,
@@ -180,4 +196,18 @@ pub fn told_of_one_home<R: Wait>(
         steps_limit,
     };
     played(rt, alloc, ALL_TO_NODE_0, options, deeds, false)
+}
+
+// Plays the deeds where node 0 is the one home of each key, and compares what is told.
+pub fn compare_of_one_home<R: Abort + Wait>(
+    rt: &R,
+    alloc: Global,
+    versions_limit: usize,
+    steps_limit: usize,
+    deeds: &[Deed],
+    wanted: &str,
+) -> Result<(), Fault> {
+    let text = told_of_one_home(rt, alloc, versions_limit, steps_limit, deeds)?;
+    assert_eq!(rt; text.as_str(), wanted);
+    Ok(())
 }

@@ -2,7 +2,8 @@
 
 use crate::calls::{After, Write};
 use crate::deeds::{Deed, NodeDeed};
-use crate::plays::{three_homes, told};
+use crate::handovers::Between;
+use crate::plays::{compare, three_homes};
 use dy_dots::Fault;
 use dy_node::Mode;
 
@@ -14,11 +15,14 @@ const PUT_X: Deed = Deed::Put(Write {
 });
 
 // The same, over a transport that lists what came.
-const LISTED_X: Deed = Deed::PutListed(Write {
-    w: 2,
-    value: b'x',
-    after: After::Nothing,
-});
+const LISTED_X: Deed = Deed::PutWhile(
+    Write {
+        w: 2,
+        value: b'x',
+        after: After::Nothing,
+    },
+    Between::Nothing,
+);
 
 // The same of another value.
 const PUT_Y: Deed = Deed::Put(Write {
@@ -49,9 +53,7 @@ gets 2 steps 11 settled 1
 #[test]
 fn one_put_and_two_gets(rt: HostRuntime) -> Result<(), Fault> {
     let deeds = [PUT_X, Deed::Get, Deed::GetAside];
-    let text = told(&rt, rt.alloc(), three_homes(2, 99), &deeds)?;
-    assert_eq!(rt; text.as_str(), ONE_PUT);
-    Ok(())
+    compare(&rt, rt.alloc(), three_homes(2, 99), &deeds, ONE_PUT)
 }
 
 // What two puts without a context and one with both versions tell.
@@ -73,9 +75,7 @@ gets 2 steps 21 settled 1
 #[test]
 fn siblings_are_reconciled(rt: HostRuntime) -> Result<(), Fault> {
     let deeds = [PUT_X, PUT_Y, Deed::Get, PUT_Z, Deed::Get];
-    let text = told(&rt, rt.alloc(), three_homes(2, 99), &deeds)?;
-    assert_eq!(rt; text.as_str(), RECONCILED);
-    Ok(())
+    compare(&rt, rt.alloc(), three_homes(2, 99), &deeds, RECONCILED)
 }
 
 // A put of so many homes that follows this.
@@ -109,9 +109,7 @@ fn one_node_is_up(rt: HostRuntime) -> Result<(), Fault> {
         Deed::At(0, NodeDeed::Down),
         of_homes(1, After::Nothing),
     ];
-    let text = told(&rt, rt.alloc(), three_homes(1, 99), &deeds)?;
-    assert_eq!(rt; text.as_str(), ONE_NODE);
-    Ok(())
+    compare(&rt, rt.alloc(), three_homes(1, 99), &deeds, ONE_NODE)
 }
 
 // What a put tells whose steps run out at the record: it began, and every home answered.
@@ -126,19 +124,18 @@ gets 0 steps 4 settled 1
 
 #[test]
 fn steps_run_out_at_the_record(rt: HostRuntime) -> Result<(), Fault> {
-    let text = told(&rt, rt.alloc(), three_homes(2, 4), &[LISTED_X])?;
-    assert_eq!(rt; text.as_str(), NO_RECORD);
-    Ok(())
+    compare(&rt, rt.alloc(), three_homes(2, 4), &[LISTED_X], NO_RECORD)
 }
 
 #[test]
 fn steps_run_out_at_the_begin(rt: HostRuntime) -> Result<(), Fault> {
-    let text = told(&rt, rt.alloc(), three_homes(2, 1), &[LISTED_X])?;
-    assert_eq!(rt;
-        text.as_str(),
-        "put E12 StepsFull\nlisted refused E12 StepsFull\ngets 0 steps 0 settled 0\n"
-    );
-    Ok(())
+    compare(
+        &rt,
+        rt.alloc(),
+        three_homes(2, 1),
+        &[LISTED_X],
+        "put E12 StepsFull\nlisted refused E12 StepsFull\ngets 0 steps 0 settled 0\n",
+    )
 }
 
 // What puts tell that nobody may begin: of no home, of more homes than there are, and after a
@@ -157,9 +154,7 @@ fn refused_puts_begin_nowhere(rt: HostRuntime) -> Result<(), Fault> {
         of_homes(4, After::Nothing),
         of_homes(2, After::Forged),
     ];
-    let text = told(&rt, rt.alloc(), three_homes(2, 99), &deeds)?;
-    assert_eq!(rt; text.as_str(), NOT_BEGUN);
-    Ok(())
+    compare(&rt, rt.alloc(), three_homes(2, 99), &deeds, NOT_BEGUN)
 }
 
 // What it tells that node 1 does a put three times, and stores the next one after a newer one.
@@ -191,7 +186,5 @@ fn a_message_comes_after_a_newer_put(rt: HostRuntime) -> Result<(), Fault> {
         Deed::At(1, NodeDeed::Deliver),
         Deed::At(1, NodeDeed::Show),
     ];
-    let text = told(&rt, rt.alloc(), three_homes(2, 99), &deeds)?;
-    assert_eq!(rt; text.as_str(), AFTER_A_NEWER);
-    Ok(())
+    compare(&rt, rt.alloc(), three_homes(2, 99), &deeds, AFTER_A_NEWER)
 }

@@ -2,7 +2,8 @@
 
 use crate::calls::{After, Write};
 use crate::deeds::{Deed, NodeDeed};
-use crate::plays::{three_homes, told};
+use crate::handovers::Between;
+use crate::plays::{compare, three_homes};
 use dy_dots::Fault;
 use dy_node::Mode;
 
@@ -37,9 +38,7 @@ fn a_late_home_and_its_stand_in_count_once(rt: HostRuntime) -> Result<(), Fault>
         Deed::At(4, NodeDeed::Down),
         put_of(3, b'x'),
     ];
-    let text = told(&rt, rt.alloc(), three_homes(2, 99), &deeds)?;
-    assert_eq!(rt; text.as_str(), LATE);
-    Ok(())
+    compare(&rt, rt.alloc(), three_homes(2, 99), &deeds, LATE)
 }
 
 // What it tells that a stand-in keeps for a home and hands over once it is back.
@@ -69,9 +68,7 @@ fn a_stand_in_hands_over(rt: HostRuntime) -> Result<(), Fault> {
         Deed::At(0, NodeDeed::Show),
         Deed::At(3, NodeDeed::Show),
     ];
-    let text = told(&rt, rt.alloc(), three_homes(2, 99), &deeds)?;
-    assert_eq!(rt; text.as_str(), HANDED_OVER);
-    Ok(())
+    compare(&rt, rt.alloc(), three_homes(2, 99), &deeds, HANDED_OVER)
 }
 
 // What it tells of a put and a get while all homes are down.
@@ -92,12 +89,10 @@ fn all_homes_are_down(rt: HostRuntime) -> Result<(), Fault> {
         Deed::At(0, NodeDeed::Down),
         Deed::At(1, NodeDeed::Down),
         Deed::At(2, NodeDeed::Down),
-        Deed::PutListed(write_of(2, b'x')),
+        Deed::PutWhile(write_of(2, b'x'), Between::Nothing),
         Deed::Get,
     ];
-    let text = told(&rt, rt.alloc(), three_homes(2, 99), &deeds)?;
-    assert_eq!(rt; text.as_str(), ALL_DOWN);
-    Ok(())
+    compare(&rt, rt.alloc(), three_homes(2, 99), &deeds, ALL_DOWN)
 }
 
 // What it tells of two puts while all homes are away, and a handover between: the counters go on.
@@ -134,9 +129,7 @@ fn all_homes_are_away_and_counters_never_come_again(rt: HostRuntime) -> Result<(
         put_of(2, b'y'),
         Deed::Get,
     ];
-    let text = told(&rt, rt.alloc(), three_homes(2, 99), &deeds)?;
-    assert_eq!(rt; text.as_str(), ALL_AWAY);
-    Ok(())
+    compare(&rt, rt.alloc(), three_homes(2, 99), &deeds, ALL_AWAY)
 }
 
 // What it tells that the home which a get mended is handed the hint too: only then no hint stands.
@@ -160,9 +153,7 @@ fn a_key_is_settled_by_the_last_handover(rt: HostRuntime) -> Result<(), Fault> {
         Deed::GetAndRepair,
         Deed::At(3, NodeDeed::HandOver),
     ];
-    let text = told(&rt, rt.alloc(), three_homes(2, 99), &deeds)?;
-    assert_eq!(rt; text.as_str(), SETTLED_AT_LAST);
-    Ok(())
+    compare(&rt, rt.alloc(), three_homes(2, 99), &deeds, SETTLED_AT_LAST)
 }
 
 // What it tells that a stand-in offers while the home is still down.
@@ -185,15 +176,14 @@ fn a_hint_stays_while_the_home_is_down(rt: HostRuntime) -> Result<(), Fault> {
         Deed::At(3, NodeDeed::HandOver),
         Deed::At(3, NodeDeed::Show),
     ];
-    let text = told(&rt, rt.alloc(), three_homes(2, 99), &deeds)?;
-    assert_eq!(rt; text.as_str(), KEPT);
-    Ok(())
+    compare(&rt, rt.alloc(), three_homes(2, 99), &deeds, KEPT)
 }
 
 // What a put tells while a stand-in hands over before the put is told: three homes were receipted,
 // one of them by the stand-in, and the audit has the home in its place.
 const HANDED_OVER_BEFORE_THE_ACK: &str = "\
 put ok n0:1 0/0=stored 1/1=down 2/2=stored 3/1=stored
+listed began n0:1 read 1/1=down read 2/2=stored read 3/1=stored read none
 held 0/0 n0:1
 held 1/1 n0:1
 held 2/2 n0:1
@@ -205,11 +195,42 @@ gets 0 steps 7 settled 1
 fn a_handover_comes_before_the_ack(rt: HostRuntime) -> Result<(), Fault> {
     let deeds = [
         Deed::At(1, NodeDeed::Down),
-        Deed::PutWithHandover(write_of(3, b'x'), 3, 1),
+        Deed::PutWhile(write_of(3, b'x'), Between::Handover(3, 1)),
     ];
-    let text = told(&rt, rt.alloc(), three_homes(2, 99), &deeds)?;
-    assert_eq!(rt; text.as_str(), HANDED_OVER_BEFORE_THE_ACK);
-    Ok(())
+    compare(
+        &rt,
+        rt.alloc(),
+        three_homes(2, 99),
+        &deeds,
+        HANDED_OVER_BEFORE_THE_ACK,
+    )
+}
+
+// What it tells of a put between the offer of a hint and its handover: the home holds the row that
+// was offered, and only that leaves the hint.
+const PUT_BETWEEN: &str = "\
+put ok n1:1 1/1=stored 0/0=down 2/2=stored 3/0=stored
+pass ok offers 1 stored 1 released 1
+show 0/0 n1:1
+show 3/0 n1:2
+held 0/0 n1:1
+held 1/1 n1:1-2
+held 2/2 n1:1
+held 3/0 n1:2
+acked n1:1 w 2 covered 0/0 1/1 2/2
+gets 0 steps 10 settled 0
+";
+
+#[test]
+fn a_put_comes_between_offer_and_handover(rt: HostRuntime) -> Result<(), Fault> {
+    let deeds = [
+        Deed::At(0, NodeDeed::Down),
+        put_of(2, b'x'),
+        Deed::At(3, NodeDeed::HandOverWhile(Between::Put)),
+        Deed::At(0, NodeDeed::Show),
+        Deed::At(3, NodeDeed::Show),
+    ];
+    compare(&rt, rt.alloc(), three_homes(2, 99), &deeds, PUT_BETWEEN)
 }
 
 // What it tells that a home comes back with an old row, which a get mends.
@@ -236,9 +257,7 @@ fn a_stale_home_is_mended(rt: HostRuntime) -> Result<(), Fault> {
         Deed::At(1, NodeDeed::Show),
         Deed::At(3, NodeDeed::Show),
     ];
-    let text = told(&rt, rt.alloc(), three_homes(2, 99), &deeds)?;
-    assert_eq!(rt; text.as_str(), REPAIRED);
-    Ok(())
+    compare(&rt, rt.alloc(), three_homes(2, 99), &deeds, REPAIRED)
 }
 
 // What it tells that a stand-in answers a get with an empty row: nobody writes to it.
@@ -260,7 +279,5 @@ fn a_stand_in_is_not_mended(rt: HostRuntime) -> Result<(), Fault> {
         Deed::GetAndRepair,
         Deed::At(3, NodeDeed::Show),
     ];
-    let text = told(&rt, rt.alloc(), three_homes(3, 99), &deeds)?;
-    assert_eq!(rt; text.as_str(), LEFT_ALONE);
-    Ok(())
+    compare(&rt, rt.alloc(), three_homes(3, 99), &deeds, LEFT_ALONE)
 }

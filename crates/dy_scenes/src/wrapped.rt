@@ -1,6 +1,8 @@
-//! A transport on the caller's own thread that lists by itself what came of its tries, and each
-//! answer that was read.
+//! A transport that wraps `Direct`. It lists by itself what came of each begin, and each answer that
+//! was read; and something else may be done while the call is under way.
 
+use crate::handovers::{Between, after_an_offer, before_a_record};
+use crate::stages::Stage;
 use dy_dots::{Context, Fault, NodeId};
 use dy_node::{Answer, Ask, Begun};
 use dy_shares::{Naming, Receipt, Seen, SessionShare, Since};
@@ -9,11 +11,12 @@ use dy_transport::{AnswerKind, Direct, Transport};
 use std::alloc::Global;
 use std::sync::Wait;
 
-// Nodes that are reached on the caller's own thread, and the list so far.
+// Nodes that are reached on the caller's own thread, what is done between, and the list so far.
 #[derive(Drop)]
-pub struct Listing<'a, J: Naming> {
-    pub alloc: Global,
+pub struct Wrapped<'a, J: Naming> {
+    pub stage: &'a Stage<'a, J>,
     pub direct: Direct<'a, J>,
+    pub between: Between,
     pub list: String,
 }
 
@@ -37,19 +40,17 @@ fn list_read<J: Naming>(
     list: &mut String,
     read: &Option<(NodeId, NodeId, Answer<J>)>,
 ) -> Result<(), Fault> {
-    let text = match read {
-        Some((node, home, answer)) => {
-            let kind = AnswerKind::of(answer);
-            format!(in alloc; " read {node}/{home}={kind}")?
-        }
-        None => format!(in alloc; " read none")?,
+    let Some((node, home, answer)) = read else {
+        list.push_str(" read none")?;
+        return Ok(());
     };
-    list.push_str(text.as_str())?;
+    let kind = AnswerKind::of(answer);
+    list.push_str(format!(in alloc; " read {node}/{home}={kind}")?.as_str())?;
     Ok(())
 }
 
-impl<J: Naming> Transport<J> for Listing<'_, J> {
-    ghost told = { λ l. l.direct };
+impl<J: Naming> Transport<J> for Wrapped<'_, J> {
+    ghost told = { λ w. w.direct };
 
     fn room(&self) -> usize {
         self.direct.room()
@@ -65,7 +66,7 @@ impl<J: Naming> Transport<J> for Listing<'_, J> {
         value: &Option<Value>,
     ) -> Result<Begun<J>, Fault> {
         let gave = self.direct.begin(rt, node, home, key, context, value);
-        let _listed = list_begun(self.alloc, &mut self.list, &gave);
+        let _listed = list_begun(self.stage.alloc, &mut self.list, &gave);
         gave
     }
 
@@ -81,7 +82,9 @@ impl<J: Naming> Transport<J> for Listing<'_, J> {
     }
 
     fn offer<R: Wait>(&mut self, rt: &R, node: NodeId) -> Result<Vec<(NodeId, Row)>, Fault> {
-        self.direct.offer(rt, node)
+        let gave = self.direct.offer(rt, node);
+        let _done = after_an_offer(rt, self.stage, self.between);
+        gave
     }
 
     fn settle<R: Wait>(
@@ -99,7 +102,7 @@ impl<J: Naming> Transport<J> for Listing<'_, J> {
 
     fn next_reply<R: Wait>(&mut self, rt: &R) -> Option<(NodeId, NodeId, Answer<J>)> {
         let read = self.direct.next_reply(rt);
-        let _listed = list_read(self.alloc, &mut self.list, &read);
+        let _listed = list_read(self.stage.alloc, &mut self.list, &read);
         read
     }
 
@@ -110,6 +113,7 @@ impl<J: Naming> Transport<J> for Listing<'_, J> {
         w: u8,
         receipts: &[Receipt<J>],
     ) -> Result<(), Fault> {
+        let _done = before_a_record(rt, self.stage, self.between);
         self.direct.record(rt, session, w, receipts)
     }
 }
