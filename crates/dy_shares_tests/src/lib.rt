@@ -1,5 +1,5 @@
-//! The tests of `dy_shares` and of `dy_quorum`, apart from them, so that their own functions are not
-//! proved once more.
+//! The tests of `dy_shares` and of `dy_quorum`, apart from them, so that their own functions are
+//! not proved once more.
 #![tactic(auto)]
 
 #[cfg(test)]
