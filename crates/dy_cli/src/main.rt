@@ -14,13 +14,15 @@ use std::env::Env;
 use std::fs::File;
 use std::io;
 use std::process::ExitCode;
+use std::sync::Wait;
 
 fn main(rt: HostRuntime) -> ExitCode {
-    ExitCode::from(status_of_words(&rt))
+    ExitCode::from(status_of_words(&rt, &rt))
 }
 
-/// Does what the words after the program's name ask for, and gives the status.
-fn status_of_words(rt: &HostRuntime) -> u8 {
+/// Does what the words after the program's name ask for, and gives the status. The leave to wait
+/// for locks is handed on beside the runtime, which has it in `main` alone.
+fn status_of_words<R: Wait>(rt: &HostRuntime, waits: &R) -> u8 {
     let alloc = rt.alloc();
     let mut err = rt.stderr();
     let words = match given_words(rt, alloc) {
@@ -28,7 +30,7 @@ fn status_of_words(rt: &HostRuntime) -> u8 {
         Err(error) => return refusing::refuse_words(&mut err, &error),
     };
     match command_lines::words(alloc, words.as_slice()) {
-        Ok(job) => status_of_job(rt, &job),
+        Ok(job) => status_of_job(rt, waits, &job),
         Err(1) => refusing::refuse_for_memory(&mut err),
         Err(status) => {
             if let Err(error) = command_lines::explain(rt, alloc, words.as_slice()) {
@@ -40,7 +42,7 @@ fn status_of_words(rt: &HostRuntime) -> u8 {
 }
 
 /// Opens the file of the job, does the job, and gives the status.
-fn status_of_job(rt: &HostRuntime, job: &Job) -> u8 {
+fn status_of_job<R: Wait>(rt: &HostRuntime, waits: &R, job: &Job) -> u8 {
     let alloc = rt.alloc();
     let mut err = rt.stderr();
     let mut input = match File::open(rt, job.file()) {
@@ -48,7 +50,7 @@ fn status_of_job(rt: &HostRuntime, job: &Job) -> u8 {
         Err(error) => return refusing::refuse_file(&mut err, job.file(), &error),
     };
     match io::BufWriter::new(alloc, io::writer(rt)) {
-        Ok(mut out) => performing::perform(alloc, job, &mut input, &mut out, &mut err),
+        Ok(mut out) => performing::perform(waits, alloc, job, &mut input, &mut out, &mut err),
         Err(_) => refusing::refuse_for_memory(&mut err),
     }
 }

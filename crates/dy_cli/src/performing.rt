@@ -7,14 +7,16 @@ use dy_runner::{Stopped, write_ring, write_run};
 use dy_script::read;
 use std::alloc::Global;
 use std::io::{Read, Write};
+use std::sync::Wait;
 
 /// Reads the script from the input, does the job, and gives the status: 0 where it was done, 1
 /// where memory or the output failed, 2 where the input can't be read, or the script, its ring, a
-/// limit or its quorum is refused. A refusal is one line on `err`.
-pub fn perform<R: Read, W: Write, E: Write>(
+/// limit or its quorum is refused. A refusal is one line on `err`. May wait for locks.
+pub fn perform<I: Read, W: Write, E: Write, R: Wait>(
+    rt: &R,
     alloc: Global,
     job: &Job,
-    input: &mut R,
+    input: &mut I,
     out: &mut W,
     err: &mut E,
 ) -> u8
@@ -24,7 +26,7 @@ pub fn perform<R: Read, W: Write, E: Write>(
     if let Err(error) = input.read_to_end(&mut bytes) {
         return refuse_file(err, job.file(), &error);
     }
-    match write_job(alloc, job, bytes.as_slice(), out) {
+    match write_job(rt, alloc, job, bytes.as_slice(), out) {
         Ok(()) => 0,
         Err(stopped) => {
             let _ = writeln!(err, "dynamo: {stopped}");
@@ -34,10 +36,16 @@ pub fn perform<R: Read, W: Write, E: Write>(
 }
 
 /// Writes what the job is asked to write.
-fn write_job<W: Write>(alloc: Global, job: &Job, bytes: &[u8], out: &mut W) -> Result<(), Stopped> {
+fn write_job<W: Write, R: Wait>(
+    rt: &R,
+    alloc: Global,
+    job: &Job,
+    bytes: &[u8],
+    out: &mut W,
+) -> Result<(), Stopped> {
     let script = read(alloc, bytes)?;
     match job {
-        Job::Run(_) => write_run(alloc, &script, out)?,
+        Job::Run(_) => write_run(rt, alloc, &script, out)?,
         Job::Ring(_) => write_ring(alloc, &script, out)?,
     }
     out.flush()?;

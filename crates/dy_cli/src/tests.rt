@@ -9,6 +9,7 @@ use crate::command_lines::words;
 use crate::performing::perform;
 use std::alloc::Global;
 use std::process::Abort;
+use std::sync::Wait;
 use std::test::Fail;
 
 /// Five nodes with a token each, three homes of a key, two for a get, and two for a put.
@@ -24,8 +25,8 @@ struct Printout {
 
 /// Checks that the program ends well with this word and the script of these members of the ring and
 /// these others, and prints just this.
-fn prints(
-    rt: &impl Abort,
+fn prints<R: Abort + Wait>(
+    rt: &R,
     alloc: Global,
     word: &str,
     ring: &str,
@@ -33,7 +34,7 @@ fn prints(
     wanted: &str,
 ) -> Result<(), Fail> {
     let script = script_of(alloc, ring, members)?;
-    let told = told(alloc, word, script.as_str())?;
+    let told = told(rt, alloc, word, script.as_str())?;
     assert_eq!(rt; told.err.as_str(), "");
     assert_eq!(rt; told.out.as_str(), wanted);
     assert_eq!(rt; told.status, 0);
@@ -42,8 +43,8 @@ fn prints(
 
 /// Checks that a run of the script of these members of the ring and these others is refused with
 /// this line.
-fn refuses(
-    rt: &impl Abort,
+fn refuses<R: Abort + Wait>(
+    rt: &R,
     alloc: Global,
     ring: &str,
     members: &str,
@@ -54,8 +55,13 @@ fn refuses(
 }
 
 /// Checks that a run of this text is refused with this line.
-fn refuses_text(rt: &impl Abort, alloc: Global, script: &str, wanted: &str) -> Result<(), Fail> {
-    let told = told(alloc, "run", script)?;
+fn refuses_text<R: Abort + Wait>(
+    rt: &R,
+    alloc: Global,
+    script: &str,
+    wanted: &str,
+) -> Result<(), Fail> {
+    let told = told(rt, alloc, "run", script)?;
     assert_eq!(rt; told.err.as_str(), wanted);
     assert_eq!(rt; told.out.as_str(), "");
     assert_eq!(rt; told.status, 2);
@@ -68,7 +74,7 @@ fn script_of(alloc: Global, ring: &str, members: &str) -> Result<String, Fail> {
 }
 
 /// Runs the program with this word and a file that has this script.
-fn told(alloc: Global, word: &str, script: &str) -> Result<Printout, Fail> {
+fn told<R: Wait>(rt: &R, alloc: Global, word: &str, script: &str) -> Result<Printout, Fail> {
     let given = words_of(alloc, &[word, "script.json"])?;
     let Ok(job) = words(alloc, given.as_slice()) else {
         return Err(Fail::from("no job"));
@@ -76,7 +82,7 @@ fn told(alloc: Global, word: &str, script: &str) -> Result<Printout, Fail> {
     let mut input = script.as_bytes();
     let mut out = Vec::new(alloc);
     let mut err = Vec::new(alloc);
-    let status = perform(alloc, &job, &mut input, &mut out, &mut err);
+    let status = perform(rt, alloc, &job, &mut input, &mut out, &mut err);
     Ok(Printout {
         status,
         out: text_of(alloc, out.as_slice())?,

@@ -1,4 +1,6 @@
 pub mod Audits
+pub mod Keeping
 pub mod Outcomes
 pub mod Places
+pub mod Refusals
 pub mod Texts

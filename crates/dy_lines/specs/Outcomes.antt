@@ -1,19 +1,24 @@
 -- The lines that tell what came of commands.
 use Rattle.std.specs.Prelude.{ℕ, List, [], ◌++◌, codes, decimal, Bool, if◌then◌else◌}
-use Rattle.std.specs.Prelude.{Option, Some, None, option_map, is_some}
+use Rattle.std.specs.Prelude.{Option, Some, None, is_some}
 use Rattle.std.specs.List.{flat_map, list_any}
 use Rattle.dy_dots.specs.Dots.{dot_text}
 use Rattle.dy_dots.specs.Spelling.{context_text}
 use Rattle.dy_dots.specs.declared.dots.Dot.{Dot}
 use Rattle.dy_siblings.specs.declared.versions.Version.{Version}
 use Rattle.dy_lines.specs.Texts.{hex_text}
-use Rattle.dy_lines.specs.Places.{places_text, stored_text}
+use Rattle.dy_dots.specs.declared.faults.Fault.TheVariants.{NotEnough}
+use Rattle.dy_lines.specs.Keeping.{own_text, hints_text}
+use Rattle.dy_lines.specs.Places.{answers_text, places_text}
+use Rattle.dy_lines.specs.Refusals.{refusal_text}
 use Rattle.dy_lines.specs.declared.outcomes.Word.{Word}
 use Rattle.dy_lines.specs.declared.outcomes.Word.TheVariants.{Put, Delete, Get}
 use Rattle.dy_lines.specs.declared.outcomes.Word.TheVariants.{Down, Up, SetMode, Deliver}
 use Rattle.dy_lines.specs.declared.outcomes.Word.TheVariants.{Handoff, Show}
 use Rattle.dy_lines.specs.declared.outcomes.Outcome.{Outcome}
-use Rattle.dy_lines.specs.declared.outcomes.Outcome.TheVariants.{Stored, Read, Refused}
+use Rattle.dy_lines.specs.declared.outcomes.Outcome.TheVariants.{Stored, Read, Lacking}
+use Rattle.dy_lines.specs.declared.outcomes.Outcome.TheVariants.{Refused, Done, Delivered}
+use Rattle.dy_lines.specs.declared.outcomes.Outcome.TheVariants.{HandedOver, Shown}
 
 -- the word of a command, as a script names it
 abbrev pub word_text : Word → List ℕ
@@ -42,18 +47,39 @@ values_text vs =
     if list_any is_present vs
     then flat_map (λ v. value_text v.dot v.value) vs else codes " none"
 
--- what came of a command; nothing is said of a refusal's text
-abbrev pub outcome_text : Outcome → Option (List ℕ)
-outcome_text (Stored word dot places) =
-    Some (word_text word ++ codes " ok " ++ dot_text dot
-    ++ codes " answers" ++ stored_text places.items)
+-- a dot, where there is one
+abbrev pub told_text : Option Dot → List ℕ
+told_text None = codes ""
+told_text (Some dot) = codes " " ++ dot_text dot
+
+-- the version that a refused put made, where it made one
+abbrev pub after_text : Option Dot → List ℕ
+after_text None = codes ""
+after_text (Some dot) = codes " after " ++ dot_text dot
+
+-- what came of a command
+abbrev pub outcome_text : Outcome → List ℕ
+outcome_text (Stored word dot answers) =
+    word_text word ++ codes " ok " ++ dot_text dot
+    ++ codes " answers" ++ answers_text answers.items
 outcome_text (Read context «from» row) =
-    Some (codes "get ok context " ++ context_text context
+    codes "get ok context " ++ context_text context
     ++ codes " from" ++ places_text «from».items
-    ++ codes " values" ++ values_text row.versions)
-outcome_text (Refused word fault) = None
+    ++ codes " values" ++ values_text row.versions
+outcome_text (Lacking word dot answers) =
+    word_text word ++ codes " " ++ refusal_text NotEnough ++ told_text dot
+    ++ codes " answers" ++ answers_text answers.items
+outcome_text (Refused word fault after) =
+    word_text word ++ codes " " ++ refusal_text fault ++ after_text after
+outcome_text (Done word) = word_text word ++ codes " ok"
+outcome_text (Delivered count) = codes "deliver ok " ++ decimal count
+outcome_text (HandedOver offers stored released) =
+    codes "handoff ok offers " ++ decimal offers ++ codes " stored " ++ decimal stored
+    ++ codes " released " ++ decimal released
+outcome_text (Shown node kept) =
+    codes "show " ++ decimal node ++ codes " own " ++ own_text node kept.items
+    ++ hints_text node kept.items
 
 -- the command's number, a blank, and what came of it
-abbrev pub command_text : ℕ → Outcome → Option (List ℕ)
-command_text number outcome =
-    option_map (λ text. decimal number ++ codes " " ++ text) (outcome_text outcome)
+abbrev pub command_text : ℕ → Outcome → List ℕ
+command_text number outcome = decimal number ++ codes " " ++ outcome_text outcome

@@ -1,7 +1,9 @@
--- The texts of places.
+-- The texts of places, and of answers.
 use Rattle.std.specs.Prelude.{ℕ, List, ◌++◌, codes, decimal}
 use Rattle.std.specs.List.{flat_map}
 use Rattle.dy_core.specs.declared.places.Place.{Place}
+use Rattle.dy_transport.specs.Kinds.{kind_text}
+use Rattle.dy_transport.specs.declared.kinds.AnswerRead.{AnswerRead}
 
 -- a place is its holder, a stroke, and its home
 abbrev pub place_text : Place → List ℕ
@@ -11,6 +13,10 @@ place_text p = decimal p.holder ++ codes "/" ++ decimal p.home
 abbrev pub places_text : List Place → List ℕ
 places_text places = flat_map (λ p. codes " " ++ place_text p) places
 
--- places that stored a row stand each behind a blank, with that word
-abbrev pub stored_text : List Place → List ℕ
-stored_text places = flat_map (λ p. codes " " ++ place_text p ++ codes "=stored") places
+-- an answer is its place and its kind
+abbrev pub answer_text : AnswerRead → List ℕ
+answer_text a = place_text a.place ++ codes "=" ++ kind_text a.kind
+
+-- answers stand each behind a blank
+abbrev pub answers_text : List AnswerRead → List ℕ
+answers_text answers = flat_map (λ a. codes " " ++ answer_text a) answers

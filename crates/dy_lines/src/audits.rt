@@ -1,6 +1,10 @@
+ghost use Rattle.std.specs.Prelude.{◌≡◌, length};
+ghost use Rattle.std.specs.List.{sum_by};
+
 use crate::places::{At, Places};
 use crate::printed::Hex;
-use dy_core::{Acked, Holding, Place, World};
+use dy_book::{AckedAt, Audit};
+use dy_core::{Holding, Place};
 use dy_dots::{Context, Dot, Fault};
 use dy_siblings::Key;
 use std::alloc::Global;
@@ -15,7 +19,7 @@ pub struct HeldLine<'a> {
 }
 
 impl<'a> HeldLine<'a> {
-    ghost use Rattle.std.specs.Prelude.{◌≡◌, IfOk, IsOkUnless};
+    ghost use Rattle.std.specs.Prelude.{IfOk, IsOkUnless};
     ghost use Rattle.dy_siblings.specs.Siblings.{own_dots};
 
     /// The line of the holding.
@@ -50,38 +54,33 @@ impl fmt::Display for HeldLine<'_> {
 
 /// The line of an acknowledged put: where its version is covered, and the number of homes that the
 /// put named, where it is not the script's.
-#[derive(Debug, Drop)]
+#[derive(Clone, Copy, Debug)]
 pub struct AckedLine<'a> {
     pub key: &'a Key,
     pub dot: Dot,
     pub own_w: Option<u8>,
-    pub places: Vec<Place>,
+    pub places: &'a [Place],
 }
 
 impl<'a> AckedLine<'a> {
-    ghost use Rattle.std.specs.Prelude.{◌≡◌, IfOk, IsOkUnless};
-    ghost use Rattle.dy_core.specs.Listings.{ListsCovers};
-    ghost use Rattle.dy_core.specs.Logs.{world_after};
     ghost use Rattle.dy_lines.specs.Audits.{own_w_of};
 
-    /// The line of the ack, in a world whose puts name w homes where they name no number of their
-    /// own.
-    pub fn of(alloc: Global, world: &World, w: u8, ack: &'a Acked) -> Result<AckedLine<'a>, Fault>
-        ensures key { IfOk result (λ line. line.key.now ≡ ack.now.key) }
-        ensures dot { IfOk result (λ line. line.dot ≡ ack.now.dot) }
-        ensures own_w { IfOk result (λ line. line.own_w ≡ own_w_of w ack.now.w) }
-        ensures places { IfOk result (λ line. ListsCovers (world_after world.now.steps)
-            ack.now.key ack.now.dot line.places.items) }
-        ensures memory { IsOkUnless result Fault.OutOfMemory }
+    /// The line of the ack, in a script whose puts name w homes where they name no number of their
+    /// own. Takes no memory.
+    pub fn of(w: u8, acked: &'a AckedAt) -> AckedLine<'a>
+        ensures key { result.key.now ≡ acked.now.ack.key }
+        ensures dot { result.dot ≡ acked.now.ack.dot }
+        ensures own_w { result.own_w ≡ own_w_of w acked.now.ack.w }
+        ensures places { result.places.now ≡ acked.now.places.items }
     {
-        let places = world.covers(alloc, &ack.key, ack.dot)?;
+        let ack = &acked.ack;
         let own_w = if ack.w == w { None } else { Some(ack.w) };
-        Ok(AckedLine {
+        AckedLine {
             key: &ack.key,
             dot: ack.dot,
             own_w,
-            places,
-        })
+            places: acked.places.as_slice(),
+        }
     }
 }
 
@@ -89,12 +88,11 @@ impl fmt::Display for AckedLine<'_> {
     ghost use Rattle.std.specs.Prelude.{Some};
     ghost use Rattle.dy_lines.specs.Audits.{acked_text};
 
-    ghost output = { λ line.
-        Some (acked_text line.key.now line.dot line.own_w line.places.items) };
+    ghost output = { λ line. Some (acked_text line.key.now line.dot line.own_w line.places.now) };
 
     fn fmt<W: fmt::Write>(&self, f: &mut fmt::Formatter<W>) -> fmt::Result {
         let key = Hex(self.key.as_bytes());
-        let places = Places(self.places.as_slice());
+        let places = Places(self.places);
         match self.own_w {
             Some(w) => write!(f, "acked {key} {} w {w} covered{places}", self.dot),
             None => write!(f, "acked {key} {} covered{places}", self.dot),
@@ -123,10 +121,39 @@ impl fmt::Display for SettledLine<'_> {
 /// steps there were.
 #[derive(Clone, Copy, Debug, PartialEq, Eq)]
 pub struct EndLine {
-    pub held: usize,
+    pub held: u128,
     pub acked: usize,
-    pub gets: usize,
+    pub gets: u128,
     pub steps: usize,
+}
+
+impl EndLine {
+    /// The last line of the audit. Takes no memory.
+    pub fn of(audit: &Audit) -> EndLine
+        ensures held { result.held
+            ≡ sum_by (λ h. length h.row.versions) audit.now.held.items }
+        ensures acked { result.acked ≡ length audit.now.acked.items }
+        ensures gets { result.gets ≡ audit.now.gets }
+        ensures steps { result.steps ≡ audit.now.steps }
+    {
+        EndLine {
+            held: count_versions(audit.held.as_slice()),
+            acked: audit.acked.len(),
+            gets: audit.gets,
+            steps: audit.steps,
+        }
+    }
+}
+
+// How many versions the holdings have together.
+fn count_versions(held: &[Holding]) -> u128
+    ensures { result ≡ sum_by (λ h. length h.row.versions) held.now }
+{
+    let mut count = 0u128;
+    for holding in held {
+        count += holding.row.versions().len() as u128;
+    }
+    count
 }
 
 impl fmt::Display for EndLine {

@@ -2,13 +2,17 @@
 #![tactic(auto)]
 
 mod audits;
+mod keeping;
 mod outcomes;
 mod places;
 mod printed;
+mod refusals;
 mod rings;
 
 pub use audits::{AckedLine, EndLine, HeldLine, SettledLine};
+pub use keeping::Kept;
 pub use outcomes::{CommandLine, Outcome, Values, Word};
-pub use places::{At, Places, StoredAt};
+pub use places::{Answers, At, Places};
 pub use printed::{Hex, Nodes, Position};
+pub use refusals::Refusal;
 pub use rings::{KeyLine, TokenLine};

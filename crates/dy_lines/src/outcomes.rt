@@ -2,11 +2,14 @@ ghost use Rattle.std.specs.Prelude.{◌≡◌};
 ghost use Rattle.std.specs.List.{list_any};
 ghost use Rattle.dy_lines.specs.Outcomes.{is_present};
 
-use crate::places::{Places, StoredAt};
+use crate::keeping::{HintsKept, Kept, OwnKept};
+use crate::places::{Answers, Places};
 use crate::printed::Hex;
+use crate::refusals::Refusal;
 use dy_core::Place;
-use dy_dots::{Context, Dot, Fault};
+use dy_dots::{Context, Dot, Fault, NodeId};
 use dy_siblings::{Row, Version};
+use dy_transport::AnswerRead;
 use std::fmt;
 
 /// The word that a command's line begins with.
@@ -78,11 +81,11 @@ fn has_values(versions: &[Version]) -> bool
 /// What came of a command, as its line tells it.
 #[derive(Debug, Drop)]
 pub enum Outcome {
-    /// A put or a delete was acknowledged; these places stored it.
+    /// A put or a delete was acknowledged: its dot, and every answer that was read.
     Stored {
         word: Word,
         dot: Dot,
-        places: Vec<Place>,
+        answers: Vec<AnswerRead>,
     },
     /// A get was answered: its context, whose rows were used, and the merged row.
     Read {
@@ -90,29 +93,117 @@ pub enum Outcome {
         from: Vec<Place>,
         row: Row,
     },
-    /// The command was refused.
+    /// Too few homes answered: the dot of a put or a delete, and every answer that was read.
+    Lacking {
+        word: Word,
+        dot: Option<Dot>,
+        answers: Vec<AnswerRead>,
+    },
+    /// The command was refused, a put or a delete maybe after its version was made.
     Refused {
         word: Word,
         fault: Fault,
+        after: Option<Dot>,
+    },
+    /// The command was done, and there is nothing more to tell.
+    Done {
+        word: Word,
+    },
+    /// So many kept messages were stored.
+    Delivered {
+        count: usize,
+    },
+    /// A pass made so many offers; receipts came for so many of them, and so many dots left hints.
+    HandedOver {
+        offers: usize,
+        stored: usize,
+        released: usize,
+    },
+    /// What the node keeps of a key.
+    Shown {
+        node: NodeId,
+        kept: Vec<Kept>,
     },
 }
 
 impl fmt::Display for Outcome {
+    ghost use Rattle.std.specs.Prelude.{Some};
     ghost use Rattle.dy_lines.specs.Outcomes.{outcome_text};
 
-    ghost output = { outcome_text };
+    ghost output = { λ outcome. Some (outcome_text outcome) };
 
     fn fmt<W: fmt::Write>(&self, f: &mut fmt::Formatter<W>) -> fmt::Result {
         match self {
-            Outcome::Stored { word, dot, places } => {
-                write!(f, "{word} ok {dot} answers{}", StoredAt(places.as_slice()))
+            Outcome::Stored { word, dot, answers } => {
+                write!(f, "{word} ok {dot} answers{}", Answers(answers.as_slice()))
             }
             Outcome::Read { context, from, row } => {
                 let from = Places(from.as_slice());
                 let values = Values(row.versions());
                 write!(f, "get ok context {context} from{from} values{values}")
             }
-            Outcome::Refused { word, fault } => write!(f, "{word} {fault}"),
+            Outcome::Lacking { word, dot, answers } => {
+                let answers = Answers(answers.as_slice());
+                let refusal = Refusal(Fault::NotEnough);
+                write!(f, "{word} {refusal}{} answers{answers}", Told(*dot))
+            }
+            Outcome::Refused { word, fault, after } => {
+                write!(f, "{word} {}{}", Refusal(*fault), After(*after))
+            }
+            Outcome::Done { word } => write!(f, "{word} ok"),
+            Outcome::Delivered { count } => write!(f, "deliver ok {count}"),
+            Outcome::HandedOver {
+                offers,
+                stored,
+                released,
+            } => write!(
+                f,
+                "handoff ok offers {offers} stored {stored} released {released}"
+            ),
+            Outcome::Shown { node, kept } => {
+                let kept = kept.as_slice();
+                let (own, hints) = (
+                    OwnKept { node: *node, kept },
+                    HintsKept { node: *node, kept },
+                );
+                write!(f, "show {node} own {own}{hints}")
+            }
+        }
+    }
+}
+
+/// A dot that prints behind a blank, where there is one.
+#[derive(Clone, Copy)]
+struct Told(Option<Dot>);
+
+impl fmt::Display for Told {
+    ghost use Rattle.std.specs.Prelude.{Some};
+    ghost use Rattle.dy_lines.specs.Outcomes.{told_text};
+
+    ghost output = { λ told. Some (told_text told.0) };
+
+    fn fmt<W: fmt::Write>(&self, f: &mut fmt::Formatter<W>) -> fmt::Result {
+        match self.0 {
+            Some(dot) => write!(f, " {dot}"),
+            None => Ok(()),
+        }
+    }
+}
+
+/// The dot of the version that a refused put made, where it made one.
+#[derive(Clone, Copy)]
+struct After(Option<Dot>);
+
+impl fmt::Display for After {
+    ghost use Rattle.std.specs.Prelude.{Some};
+    ghost use Rattle.dy_lines.specs.Outcomes.{after_text};
+
+    ghost output = { λ after. Some (after_text after.0) };
+
+    fn fmt<W: fmt::Write>(&self, f: &mut fmt::Formatter<W>) -> fmt::Result {
+        match self.0 {
+            Some(dot) => write!(f, " after {dot}"),
+            None => Ok(()),
         }
     }
 }
@@ -125,9 +216,10 @@ pub struct CommandLine<'a> {
 }
 
 impl fmt::Display for CommandLine<'_> {
+    ghost use Rattle.std.specs.Prelude.{Some};
     ghost use Rattle.dy_lines.specs.Outcomes.{command_text};
 
-    ghost output = { λ line. command_text line.number line.outcome.now };
+    ghost output = { λ line. Some (command_text line.number line.outcome.now) };
 
     fn fmt<W: fmt::Write>(&self, f: &mut fmt::Formatter<W>) -> fmt::Result {
         write!(f, "{} {}", self.number, self.outcome)

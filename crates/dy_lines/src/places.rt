@@ -1,4 +1,5 @@
 use dy_core::Place;
+use dy_transport::AnswerRead;
 use std::fmt;
 
 /// A place that prints as its holder, a stroke, and its home: the one type that prints the two.
@@ -35,19 +36,19 @@ impl fmt::Display for Places<'_> {
     }
 }
 
-/// Places that stored a row, each behind a blank with that word.
+/// Answers that print each behind a blank: the place, and which kind of answer it gave.
 #[derive(Clone, Copy, Debug)]
-pub struct StoredAt<'a>(pub &'a [Place]);
+pub struct Answers<'a>(pub &'a [AnswerRead]);
 
-impl fmt::Display for StoredAt<'_> {
+impl fmt::Display for Answers<'_> {
     ghost use Rattle.std.specs.Prelude.{Some};
-    ghost use Rattle.dy_lines.specs.Places.{stored_text};
+    ghost use Rattle.dy_lines.specs.Places.{answers_text};
 
-    ghost output = { λ places. Some (stored_text places.0.now) };
+    ghost output = { λ answers. Some (answers_text answers.0.now) };
 
     fn fmt<W: fmt::Write>(&self, f: &mut fmt::Formatter<W>) -> fmt::Result {
-        for place in self.0 {
-            write!(f, " {}=stored", At(*place))?;
+        for answer in self.0 {
+            write!(f, " {}={}", At(answer.place), answer.kind)?;
         }
         Ok(())
     }

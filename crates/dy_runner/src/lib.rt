@@ -1,12 +1,16 @@
-//! Runs a script over one world, and prints its lines and its ring.
+//! Runs a script on a cluster, and prints its lines and its ring.
 #![tactic(auto)]
 
 mod draws;
-mod runners;
+mod gets;
+mod options;
+mod outages;
+mod running;
+mod seats;
 mod stops;
+mod writes;
 mod writing;
 
 pub use draws::draw;
-pub use runners::{MAX_STEPS, MAX_VERSIONS};
 pub use stops::Stopped;
 pub use writing::{write_ring, write_run};

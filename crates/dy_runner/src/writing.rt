@@ -4,63 +4,69 @@ ghost use Rattle.dy_ring.specs.Rings.{Tokens};
 ghost use Rattle.dy_script.specs.Reading.{script_parts};
 ghost use Rattle.dy_runner.specs.RingLines.{IsLaidOut, key_lines, ring_lines, token_lines};
 
-use crate::runners::{Runner, ring_of};
+use crate::options::{options_of, ring_of};
+use crate::running::Run;
 use crate::stops::Stopped;
+use dy_book::Audit;
+use dy_cluster::with_cluster;
 use dy_dots::NodeId;
-use dy_lines::{AckedLine, CommandLine, EndLine, HeldLine, KeyLine, SettledLine, TokenLine};
+use dy_lines::{AckedLine, EndLine, HeldLine, KeyLine, SettledLine, TokenLine};
 use dy_preference::preference;
 use dy_ring::Ring;
 use dy_script::Script;
 use dy_siblings::Key;
 use std::alloc::Global;
 use std::io::Write;
+use std::sync::Wait;
 
-/// Runs the script: writes a line for each command, and then the audit.
-pub fn write_run<W: Write>(alloc: Global, script: &Script, out: &mut W) -> Result<(), Stopped> {
-    let mut runner = Runner::open(alloc, script)?;
-    let mut number = 0u32;
-    for command in &script.run {
-        number = number.saturating_add(1);
-        let outcome = runner.run(alloc, command)?;
-        let line = CommandLine {
-            number,
-            outcome: &outcome,
-        };
-        writeln!(out, "{line}")?;
-    }
-    write_audit(alloc, script, &runner, out)
-}
-
-/// Writes what the nodes hold, what was acknowledged, and the sums.
-fn write_audit<W: Write>(
+/// Runs the script: writes a line for each command, and then the audit. May wait for locks.
+pub fn write_run<O: Write, R: Wait>(
+    rt: &R,
     alloc: Global,
     script: &Script,
-    runner: &Runner,
-    out: &mut W,
+    out: &mut O,
 ) -> Result<(), Stopped> {
-    let world = runner.world();
-    let mut held = 0usize;
-    for holding in world.held() {
-        held = held.saturating_add(holding.row.versions().len());
+    let ring = ring_of(alloc, &script.layout)?;
+    let options = options_of(script)?;
+    let mut run = Run {
+        script,
+        out,
+        lost: None,
+    };
+    let closed = with_cluster(rt, alloc, ring, options, &mut run);
+    let Run {
+        script: _,
+        out,
+        lost,
+    } = run;
+    match lost {
+        Some(error) => Err(Stopped::Output(error)),
+        None => write_audit(alloc, script.w, script.settled, &closed?.audit, out),
+    }
+}
+
+/// Writes what the nodes hold, what was acknowledged, which keys are settled where that is wanted,
+/// and the sums.
+fn write_audit<O: Write>(
+    alloc: Global,
+    w: u8,
+    is_settled: bool,
+    audit: &Audit,
+    out: &mut O,
+) -> Result<(), Stopped> {
+    for holding in &audit.held {
         let line = HeldLine::of(alloc, holding)?;
         writeln!(out, "{line}")?;
     }
-    for ack in world.acked() {
-        let line = AckedLine::of(alloc, world, script.w, ack)?;
-        writeln!(out, "{line}")?;
+    for acked in &audit.acked {
+        writeln!(out, "{}", AckedLine::of(w, acked))?;
     }
-    if script.settled {
-        for key in &world.settled(alloc)? {
+    if is_settled {
+        for key in &audit.settled {
             writeln!(out, "{}", SettledLine { key })?;
         }
     }
-    let end = EndLine {
-        held,
-        acked: world.acked().len(),
-        gets: runner.gets(),
-        steps: world.steps(),
-    };
-    writeln!(out, "{end}")?;
+    writeln!(out, "{}", EndLine::of(audit))?;
     Ok(())
 }
 

@@ -9,6 +9,7 @@ use std::alloc::Global;
 use std::io;
 use std::io::{ErrorKind, Read, Write};
 use std::process::Abort;
+use std::sync::Wait;
 use std::test::Fail;
 
 const SCRIPT: &str = r#"{"n":1,"r":1,"w":1,"tokens":[["20"]],"run":[{"do":"get","key":"a"}]}"#;
@@ -58,8 +59,8 @@ fn job_of(alloc: Global) -> Result<Job, Fail> {
 }
 
 /// Checks the status and the line of a file that fails in this way.
-fn check_torn(
-    rt: &impl Abort,
+fn check_torn<R: Abort + Wait>(
+    rt: &R,
     alloc: Global,
     kind: ErrorKind,
     status: u8,
@@ -71,7 +72,7 @@ fn check_torn(
         kind,
     };
     let (mut out, mut err) = (Vec::new(alloc), Vec::new(alloc));
-    let ended = perform(alloc, &job, &mut input, &mut out, &mut err);
+    let ended = perform(rt, alloc, &job, &mut input, &mut out, &mut err);
     assert_eq!(rt; ended, status);
     assert!(rt; out.is_empty());
     assert!(rt; err.as_slice().starts_with(begin));
@@ -90,19 +91,19 @@ fn a_file_without_memory_is_status_one(rt: HostRuntime) -> Result<(), Fail> {
 }
 
 /// Whether the run stops with status 1 where there is so much room for its output.
-fn stops(alloc: Global, room: usize) -> Result<bool, Fail> {
+fn stops<R: Wait>(rt: &R, alloc: Global, room: usize) -> Result<bool, Fail> {
     let job = job_of(alloc)?;
     let mut input = SCRIPT.as_bytes();
     let mut out = Full { room };
     let mut err = Vec::new(alloc);
-    let status = perform(alloc, &job, &mut input, &mut out, &mut err);
+    let status = perform(rt, alloc, &job, &mut input, &mut out, &mut err);
     Ok(status == 1 && err.as_slice().starts_with(b"dynamo: "))
 }
 
 #[test]
 fn lost_output_is_status_one(rt: HostRuntime) -> Result<(), Fail> {
     for room in [0, 1, 20, 60] {
-        assert!(rt; stops(rt.alloc(), room)?, "room for {room} bytes");
+        assert!(rt; stops(&rt, rt.alloc(), room)?, "room for {room} bytes");
     }
     Ok(())
 }

@@ -1,0 +1,22 @@
+-- Which cluster a script asks for.
+use Rattle.std.specs.Prelude.{ℕ, Option, Some, None}
+use Rattle.dy_dots.specs.declared.dots.TheConstants.{MAX_COUNTER}
+use Rattle.dy_book.specs.declared.options.Options.{Options}
+use Rattle.dy_book.specs.declared.options.TheConstants.{MAX_STEPS, MAX_VERSIONS}
+use Rattle.dy_script.specs.Reading.{ScriptParts}
+
+-- a limit that is not set is the greatest
+abbrev pub limit_or : ℕ → Option ℕ → ℕ
+limit_or greatest None = greatest
+limit_or greatest (Some limit) = limit
+
+-- the numbers and the limits of the script
+abbrev pub options_for : ScriptParts → Options
+options_for s = record {
+  n = s.n;
+  r = s.r;
+  w = s.w;
+  counter_limit = limit_or MAX_COUNTER s.limits.counter;
+  versions_limit = limit_or MAX_VERSIONS s.limits.versions;
+  steps_limit = limit_or MAX_STEPS s.limits.steps;
+}

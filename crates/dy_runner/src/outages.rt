@@ -1,0 +1,152 @@
+// What a command does at one node.
+use crate::writes::refused;
+use dy_cluster::Cluster;
+use dy_dots::{Fault, NodeId};
+use dy_handoff::Pass;
+use dy_lines::{Kept, Outcome, Word};
+use dy_node::Mode as NodeMode;
+use dy_script::Mode;
+use dy_shares::Naming;
+use dy_siblings::{Key, Row};
+use std::alloc::Global;
+use std::sync::Wait;
+
+// The node of this number. A script that was read names nodes of its ring alone.
+fn node_of(number: usize) -> Option<NodeId> {
+    match u8::try_from(number) {
+        Ok(number) => NodeId::new(number),
+        Err(_) => None,
+    }
+}
+
+/// Takes the node down, or brings it up.
+pub(crate) fn run_set_up<J: Naming, R: Wait>(
+    rt: &R,
+    cluster: &Cluster<J>,
+    word: Word,
+    number: usize,
+    is_up: bool,
+) -> Outcome {
+    match node_of(number) {
+        Some(node) => {
+            cluster.set_up(rt, node, is_up);
+            Outcome::Done { word }
+        }
+        None => refused(word, Fault::Down),
+    }
+}
+
+/// Tells the node what to do with asks from now on.
+pub(crate) fn run_set_mode<J: Naming, R: Wait>(
+    rt: &R,
+    cluster: &Cluster<J>,
+    number: usize,
+    mode: Mode,
+) -> Outcome {
+    match node_of(number) {
+        Some(node) => {
+            cluster.fault(rt, node, mode_of(mode));
+            Outcome::Done {
+                word: Word::SetMode,
+            }
+        }
+        None => refused(Word::SetMode, Fault::Down),
+    }
+}
+
+/// Lets the node store the messages that it kept.
+pub(crate) fn run_deliver<J: Naming, R: Wait>(
+    rt: &R,
+    cluster: &Cluster<J>,
+    number: usize,
+) -> Outcome {
+    match node_of(number) {
+        Some(node) => delivered(cluster.deliver(rt, node)),
+        None => refused(Word::Deliver, Fault::Down),
+    }
+}
+
+// What came of a delivery, as its line tells it.
+fn delivered(answer: Result<usize, Fault>) -> Outcome {
+    match answer {
+        Ok(count) => Outcome::Delivered { count },
+        Err(fault) => refused(Word::Deliver, fault),
+    }
+}
+
+/// Makes a pass over the hints of the node.
+pub(crate) fn run_handoff<J: Naming, R: Wait>(
+    rt: &R,
+    cluster: &Cluster<J>,
+    number: usize,
+) -> Outcome {
+    match node_of(number) {
+        Some(node) => handed_over(cluster.handoff(rt, node)),
+        None => refused(Word::Handoff, Fault::Down),
+    }
+}
+
+// What came of a pass, as its line tells it.
+fn handed_over(answer: Result<Pass, Fault>) -> Outcome {
+    match answer {
+        Ok(pass) => Outcome::HandedOver {
+            offers: pass.offers,
+            stored: pass.stored,
+            released: pass.released,
+        },
+        Err(fault) => refused(Word::Handoff, fault),
+    }
+}
+
+/// Tells what the node keeps of the key.
+pub(crate) fn run_show<J: Naming, R: Wait>(
+    rt: &R,
+    alloc: Global,
+    cluster: &Cluster<J>,
+    number: usize,
+    key: &str,
+) -> Outcome {
+    let Some(node) = node_of(number) else {
+        return refused(Word::Show, Fault::Down);
+    };
+    match shown(rt, alloc, cluster, node, key) {
+        Ok(kept) => Outcome::Shown { node, kept },
+        Err(fault) => refused(Word::Show, fault),
+    }
+}
+
+// What the node keeps of the key, its own row and its hints.
+fn shown<J: Naming, R: Wait>(
+    rt: &R,
+    alloc: Global,
+    cluster: &Cluster<J>,
+    node: NodeId,
+    key: &str,
+) -> Result<Vec<Kept>, Fault> {
+    let key = Key::new(alloc, key.as_bytes())?;
+    let rows = cluster.show(rt, node, &key)?;
+    kept_of(alloc, rows.as_slice())
+}
+
+// The dots of each row, with its home.
+fn kept_of(alloc: Global, rows: &[(NodeId, Row)]) -> Result<Vec<Kept>, Fault> {
+    let mut kept = Vec::with_capacity(alloc, rows.len())?;
+    for row in rows {
+        kept.push(Kept {
+            home: row.0,
+            dots: row.1.dots(alloc)?,
+        })?;
+    }
+    Ok(kept)
+}
+
+// The mode of a node that a script names so.
+fn mode_of(mode: Mode) -> NodeMode {
+    match mode {
+        Mode::None => NodeMode::Plain,
+        Mode::Mute => NodeMode::Mute,
+        Mode::Late => NodeMode::Late,
+        Mode::Repeat => NodeMode::Repeat,
+        Mode::Delay => NodeMode::Delay,
+    }
+}

@@ -1,0 +1,113 @@
+use crate::gets::run_get;
+use crate::outages::{run_deliver, run_handoff, run_set_mode, run_set_up, run_show};
+use crate::seats::Seats;
+use crate::writes::run_write;
+use dy_cluster::{Cluster, Session, Work};
+use dy_dots::Fault;
+use dy_lines::{CommandLine, Outcome, Word};
+use dy_script::{Command, Script};
+use dy_shares::Naming;
+use std::alloc::Global;
+use std::io;
+use std::io::Write;
+use std::sync::Wait;
+
+/// A script that is run on a cluster, with its output: what it prints, and the first error of it.
+#[derive(Drop)]
+pub(crate) struct Run<'a, O: Write> {
+    pub script: &'a Script,
+    pub out: &'a mut O,
+    pub lost: Option<io::Error>,
+}
+
+impl<O: Write> Work for Run<'_, O> {
+    fn run<J: Naming, R: Wait>(
+        &mut self,
+        rt: &R,
+        alloc: Global,
+        cluster: &Cluster<J>,
+        sessions: &mut Vec<Session<J>>,
+    ) -> Result<(), Fault> {
+        if let Err(error) = run_all(rt, alloc, cluster, sessions, self.script, self.out) {
+            self.lost = Some(error);
+        }
+        Ok(())
+    }
+}
+
+// Runs each command, and writes its line.
+fn run_all<J: Naming, O: Write, R: Wait>(
+    rt: &R,
+    alloc: Global,
+    cluster: &Cluster<J>,
+    sessions: &mut Vec<Session<J>>,
+    script: &Script,
+    out: &mut O,
+) -> io::Result<()> {
+    let mut seats = Seats::new(alloc);
+    let mut number = 0u32;
+    for command in &script.run {
+        number = number.saturating_add(1);
+        let outcome = run_command(rt, alloc, cluster, &mut seats, sessions, script.w, command);
+        let line = CommandLine {
+            number,
+            outcome: &outcome,
+        };
+        writeln!(out, "{line}")?;
+    }
+    Ok(())
+}
+
+// What comes of the command.
+fn run_command<J: Naming, R: Wait>(
+    rt: &R,
+    alloc: Global,
+    cluster: &Cluster<J>,
+    seats: &mut Seats,
+    sessions: &mut Vec<Session<J>>,
+    w: u8,
+    command: &Command,
+) -> Outcome {
+    match command {
+        Command::Put { write, value } => {
+            let value = Some(value.as_slice());
+            run_write(
+                rt,
+                alloc,
+                cluster,
+                seats,
+                sessions,
+                w,
+                Word::Put,
+                write,
+                value,
+            )
+        }
+        Command::Delete { write } => run_write(
+            rt,
+            alloc,
+            cluster,
+            seats,
+            sessions,
+            w,
+            Word::Delete,
+            write,
+            None,
+        ),
+        Command::Get { key, session } => run_get(
+            rt,
+            alloc,
+            cluster,
+            seats,
+            sessions,
+            *session,
+            key.as_str(),
+        ),
+        Command::Down { node } => run_set_up(rt, cluster, Word::Down, *node, false),
+        Command::Up { node } => run_set_up(rt, cluster, Word::Up, *node, true),
+        Command::SetMode { node, mode } => run_set_mode(rt, cluster, *node, *mode),
+        Command::Deliver { node } => run_deliver(rt, cluster, *node),
+        Command::Handoff { node } => run_handoff(rt, cluster, *node),
+        Command::Show { node, key } => run_show(rt, alloc, cluster, *node, key.as_str()),
+    }
+}
