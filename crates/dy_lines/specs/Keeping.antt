@@ -1,7 +1,6 @@
 -- The texts of what a node keeps of a key.
 use Rattle.std.specs.Prelude.{ℕ, ◌==◌, List, [], ◌++◌, codes, decimal, Bool, if◌then◌else◌}
-use Rattle.std.specs.Prelude.{Option, Some, None}
-use Rattle.std.specs.List.{find, flat_map}
+use Rattle.std.specs.List.{flat_map, list_any}
 use Rattle.dy_dots.specs.Spelling.{context_text}
 use Rattle.dy_lines.specs.declared.keeping.Kept.{Kept}
 
@@ -9,14 +8,14 @@ use Rattle.dy_lines.specs.declared.keeping.Kept.{Kept}
 abbrev pub is_for : ℕ → Kept → Bool
 is_for home k = k.home == home
 
--- the dots of what is kept, which are none where nothing is
-abbrev pub kept_text : Option Kept → List ℕ
-kept_text None = codes "-"
-kept_text (Some k) = context_text k.dots
+-- what is kept for the node itself is told by its dots
+abbrev pub own_part : ℕ → Kept → List ℕ
+own_part node k = if is_for node k then context_text k.dots else []
 
--- what the node keeps for itself
+-- what the node keeps for itself, which may be nothing
 abbrev pub own_text : ℕ → List Kept → List ℕ
-own_text node kept = kept_text (find (is_for node) kept)
+own_text node kept =
+    if list_any (is_for node) kept then flat_map (own_part node) kept else codes "-"
 
 -- a hint is told with its home
 abbrev pub hint_text : ℕ → Kept → List ℕ

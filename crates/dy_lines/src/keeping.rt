@@ -1,5 +1,5 @@
-ghost use Rattle.std.specs.Prelude.{◌≡◌, None, Some, MatchOption};
-ghost use Rattle.std.specs.List.{find};
+ghost use Rattle.std.specs.Prelude.{◌≡◌, Some};
+ghost use Rattle.std.specs.List.{list_any};
 ghost use Rattle.dy_lines.specs.Keeping.{is_for};
 
 use dy_dots::{Context, NodeId};
@@ -25,19 +25,23 @@ impl fmt::Display for OwnKept<'_> {
     ghost output = { λ own. Some (own_text own.node own.kept.now) };
 
     fn fmt<W: fmt::Write>(&self, f: &mut fmt::Formatter<W>) -> fmt::Result {
-        match kept_for(self.kept, self.node) {
-            Some(own) => write!(f, "{}", own.dots),
-            None => f.write_str("-"),
+        if !has_own(self.kept, self.node) {
+            return f.write_str("-");
         }
+        for one in self.kept {
+            if one.home == self.node {
+                write!(f, "{}", one.dots)?;
+            }
+        }
+        Ok(())
     }
 }
 
-// What is kept for this home.
-fn kept_for<'a>(kept: &'a [Kept], home: NodeId) -> Option<&'a Kept>
-    ensures { MatchOption result (find (is_for home) kept.now ≡ None)
-        (λ found. find (is_for home) kept.now ≡ Some found.now) }
+// Whether something is kept for this home.
+fn has_own(kept: &[Kept], home: NodeId) -> bool
+    ensures { result ≡ list_any (is_for home) kept.now }
 {
-    kept.iter().find(|one| one.home == home)
+    kept.iter().any(|one| one.home == home)
 }
 
 /// What prints as the dots that the node keeps for each other home.
