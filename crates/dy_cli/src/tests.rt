@@ -1,9 +1,13 @@
 //! Worked scenes, each played by the program's words with its whole output, and runs that fail.
 
 mod failing;
+mod limits;
+mod outages;
 mod puts_and_gets;
 mod refusals;
+mod repairs;
 mod rings;
+mod settling;
 
 use crate::command_lines::words;
 use crate::performing::perform;

@@ -1,3 +1,13 @@
+ghost use Rattle.std.specs.Prelude.{◌≡◌, ◌+◌, ◌⊎◌, length, IfOk, IsOkUnless};
+ghost use Rattle.dy_reads.specs.Lists.{homes_in};
+ghost use Rattle.dy_repair.specs.Repairs.{IsRepaired};
+ghost use Rattle.dy_transport.specs.Told.{Told};
+ghost use Rattle.dy_cluster.specs.Lists.{list_of};
+ghost use Rattle.dy_lines.specs.declared.outcomes.Word.TheVariants as word;
+ghost use Rattle.dy_runner.specs.Answers.{IsUnseated, TellsGet};
+ghost use Rattle.dy_runner.specs.Seats.{IsToldAt, seat_of};
+ghost use Rattle.dy_runner.specs.Writes.{IsRead};
+
 use crate::seats::Seats;
 use crate::writes::refused;
 use dy_cluster::{Cluster, Session};
@@ -9,7 +19,7 @@ use dy_siblings::Key;
 use std::alloc::Global;
 use std::sync::Wait;
 
-/// Gets the key in the session that is named, and repairs what was found stale.
+/// Gets the key in the session of this number, and repairs what was found stale.
 pub(crate) fn run_get<J: Naming, R: Wait>(
     rt: &R,
     alloc: Global,
@@ -18,7 +28,16 @@ pub(crate) fn run_get<J: Naming, R: Wait>(
     sessions: &mut Vec<Session<J>>,
     number: u8,
     key: &str,
-) -> Outcome {
+) -> Outcome
+    requires together { seats.old.base + length seats.old.numbers.items
+        ≡ length sessions.old.items }
+    ensures together { seats.new.base + length seats.new.numbers.items
+        ≡ length sessions.new.items }
+    ensures base { seats.new.base ≡ seats.old.base }
+    ensures told { IsToldAt (seats.new.base + seat_of number seats.new.numbers.items)
+        sessions.old.items sessions.new.items (IsRead {J = J} J.ring J.n J.r key.now result)
+        ⊎ IsUnseated word.Get result sessions.old.items sessions.new.items }
+{
     let key = match Key::new(alloc, key.as_bytes()) {
         Ok(key) => key,
         Err(fault) => return refused(Word::Get, fault),
@@ -29,7 +48,7 @@ pub(crate) fn run_get<J: Naming, R: Wait>(
     };
     match sessions.as_mut_slice().get_mut(place) {
         Some(session) => get_in(rt, cluster, session, &key),
-        None => refused(Word::Get, Fault::SharesMissing),
+        None => unreachable!(),
     }
 }
 
@@ -39,12 +58,14 @@ fn get_in<J: Naming, R: Wait>(
     cluster: &Cluster<J>,
     session: &mut Session<J>,
     key: &Key,
-) -> Outcome {
+) -> Outcome
+    ensures { IsRead {J = J} J.ring J.n J.r key.now result session.old session.new }
+{
     match cluster.direct() {
         Ok(mut direct) => {
             let answer = cluster.get(rt, &mut direct, session, key);
             if let Ok(done) = &answer {
-                mend(rt, cluster, done);
+                let _ = mend(rt, cluster, done);
             }
             read(answer)
         }
@@ -52,15 +73,21 @@ fn get_in<J: Naming, R: Wait>(
     }
 }
 
-// Repairs what the get found stale. A refusal of it changes nothing in the get.
-fn mend<J: Naming, R: Wait>(rt: &R, cluster: &Cluster<J>, done: &GetDone<J>) {
-    if let Ok(mut direct) = cluster.direct() {
-        let _ = cluster.repair(rt, &mut direct, done.seen.as_slice(), &done.row);
-    }
+// Repairs what the get found stale. What comes of it changes nothing in the get.
+fn mend<J: Naming, R: Wait>(rt: &R, cluster: &Cluster<J>, done: &GetDone<J>) -> Result<(), Fault>
+    ensures ok { IfOk result (λ _. (told : Told J)
+        × IsRepaired (homes_in (list_of J.ring J.n done.now.row.key)) done.now.row
+        done.now.seen.items told) }
+    ensures memory { IsOkUnless result Fault.OutOfMemory }
+{
+    let mut direct = cluster.direct()?;
+    cluster.repair(rt, &mut direct, done.seen.as_slice(), &done.row)
 }
 
 // What came of a get, as its line tells it.
-fn read<J: Naming>(answer: Result<GetDone<J>, GetFault>) -> Outcome {
+fn read<J: Naming>(answer: Result<GetDone<J>, GetFault>) -> Outcome
+    ensures { TellsGet answer result }
+{
     match answer {
         Ok(done) => {
             let GetDone {
@@ -72,16 +99,16 @@ fn read<J: Naming>(answer: Result<GetDone<J>, GetFault>) -> Outcome {
             } = done;
             Outcome::Read { context, from, row }
         }
-        Err(
-            GetFault {
-                fault: Fault::NotEnough,
-                answers,
-            },
-        ) => Outcome::Lacking {
-            word: Word::Get,
-            dot: None,
-            answers,
-        },
-        Err(GetFault { fault, answers: _ }) => refused(Word::Get, fault),
+        Err(refusal) => {
+            let GetFault { fault, answers } = refusal;
+            match fault {
+                Fault::NotEnough => Outcome::Lacking {
+                    word: Word::Get,
+                    dot: None,
+                    answers,
+                },
+                _ => refused(Word::Get, fault),
+            }
+        }
     }
 }

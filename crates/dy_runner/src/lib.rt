@@ -3,6 +3,7 @@
 
 mod draws;
 mod gets;
+mod givens;
 mod options;
 mod outages;
 mod running;

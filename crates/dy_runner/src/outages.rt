@@ -1,4 +1,9 @@
 // What a command does at one node.
+ghost use Rattle.std.specs.Prelude.{◌≡◌, ◌<◌, ◌↔◌, None, IfOk, IsOkUnless, IfSome, IsSome, map};
+ghost use Rattle.dy_dots.specs.declared.nodes.TheConstants.{MAX_NODES};
+ghost use Rattle.dy_runner.specs.Answers.{delivery_outcome, kept_row, pass_outcome};
+ghost use Rattle.dy_runner.specs.Modes.{node_mode};
+
 use crate::writes::refused;
 use dy_cluster::Cluster;
 use dy_dots::{Fault, NodeId};
@@ -12,7 +17,10 @@ use std::alloc::Global;
 use std::sync::Wait;
 
 // The node of this number. A script that was read names nodes of its ring alone.
-fn node_of(number: usize) -> Option<NodeId> {
+fn node_of(number: usize) -> Option<NodeId>
+    ensures some { IsSome result ↔ (number < MAX_NODES) }
+    ensures value { IfSome result (λ node. node ≡ number) }
+{
     match u8::try_from(number) {
         Ok(number) => NodeId::new(number),
         Err(_) => None,
@@ -26,7 +34,9 @@ pub(crate) fn run_set_up<J: Naming, R: Wait>(
     word: Word,
     number: usize,
     is_up: bool,
-) -> Outcome {
+) -> Outcome
+    ensures { number < MAX_NODES → result ≡ Outcome.Done word }
+{
     match node_of(number) {
         Some(node) => {
             cluster.set_up(rt, node, is_up);
@@ -42,7 +52,9 @@ pub(crate) fn run_set_mode<J: Naming, R: Wait>(
     cluster: &Cluster<J>,
     number: usize,
     mode: Mode,
-) -> Outcome {
+) -> Outcome
+    ensures { number < MAX_NODES → result ≡ Outcome.Done Word.SetMode }
+{
     match node_of(number) {
         Some(node) => {
             cluster.fault(rt, node, mode_of(mode));
@@ -67,7 +79,9 @@ pub(crate) fn run_deliver<J: Naming, R: Wait>(
 }
 
 // What came of a delivery, as its line tells it.
-fn delivered(answer: Result<usize, Fault>) -> Outcome {
+fn delivered(answer: Result<usize, Fault>) -> Outcome
+    ensures { result ≡ delivery_outcome answer }
+{
     match answer {
         Ok(count) => Outcome::Delivered { count },
         Err(fault) => refused(Word::Deliver, fault),
@@ -87,7 +101,9 @@ pub(crate) fn run_handoff<J: Naming, R: Wait>(
 }
 
 // What came of a pass, as its line tells it.
-fn handed_over(answer: Result<Pass, Fault>) -> Outcome {
+fn handed_over(answer: Result<Pass, Fault>) -> Outcome
+    ensures { result ≡ pass_outcome answer }
+{
     match answer {
         Ok(pass) => Outcome::HandedOver {
             offers: pass.offers,
@@ -129,7 +145,10 @@ fn shown<J: Naming, R: Wait>(
 }
 
 // The dots of each row, with its home.
-fn kept_of(alloc: Global, rows: &[(NodeId, Row)]) -> Result<Vec<Kept>, Fault> {
+fn kept_of(alloc: Global, rows: &[(NodeId, Row)]) -> Result<Vec<Kept>, Fault>
+    ensures ok { IfOk result (λ kept. kept.items ≡ map kept_row rows.now) }
+    ensures memory { IsOkUnless result Fault.OutOfMemory }
+{
     let mut kept = Vec::with_capacity(alloc, rows.len())?;
     for row in rows {
         kept.push(Kept {
@@ -141,7 +160,9 @@ fn kept_of(alloc: Global, rows: &[(NodeId, Row)]) -> Result<Vec<Kept>, Fault> {
 }
 
 // The mode of a node that a script names so.
-fn mode_of(mode: Mode) -> NodeMode {
+fn mode_of(mode: Mode) -> NodeMode
+    ensures { result ≡ node_mode mode }
+{
     match mode {
         Mode::None => NodeMode::Plain,
         Mode::Mute => NodeMode::Mute,

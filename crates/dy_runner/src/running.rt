@@ -1,7 +1,9 @@
+ghost use Rattle.std.specs.Prelude.{◌≡◌, ◌+◌, length};
+
 use crate::gets::run_get;
 use crate::outages::{run_deliver, run_handoff, run_set_mode, run_set_up, run_show};
 use crate::seats::Seats;
-use crate::writes::run_write;
+use crate::writes::{run_delete, run_put};
 use dy_cluster::{Cluster, Session, Work};
 use dy_dots::Fault;
 use dy_lines::{CommandLine, Outcome, Word};
@@ -44,7 +46,7 @@ fn run_all<J: Naming, O: Write, R: Wait>(
     script: &Script,
     out: &mut O,
 ) -> io::Result<()> {
-    let mut seats = Seats::new(alloc);
+    let mut seats = Seats::new(alloc, sessions.len());
     let mut number = 0u32;
     for command in &script.run {
         number = number.saturating_add(1);
@@ -67,33 +69,25 @@ fn run_command<J: Naming, R: Wait>(
     sessions: &mut Vec<Session<J>>,
     w: u8,
     command: &Command,
-) -> Outcome {
+) -> Outcome
+    requires together { seats.old.base + length seats.old.numbers.items
+        ≡ length sessions.old.items }
+    ensures together { seats.new.base + length seats.new.numbers.items
+        ≡ length sessions.new.items }
+    ensures base { seats.new.base ≡ seats.old.base }
+{
     match command {
-        Command::Put { write, value } => {
-            let value = Some(value.as_slice());
-            run_write(
-                rt,
-                alloc,
-                cluster,
-                seats,
-                sessions,
-                w,
-                Word::Put,
-                write,
-                value,
-            )
-        }
-        Command::Delete { write } => run_write(
+        Command::Put { write, value } => run_put(
             rt,
             alloc,
             cluster,
             seats,
             sessions,
             w,
-            Word::Delete,
             write,
-            None,
+            value.as_slice(),
         ),
+        Command::Delete { write } => run_delete(rt, alloc, cluster, seats, sessions, w, write),
         Command::Get { key, session } => run_get(
             rt,
             alloc,

@@ -1,38 +1,70 @@
+ghost use Rattle.std.specs.Prelude.{◌≡◌, ◌<◌, ◌+◌, ◌==◌, length, IfOk, OnErr};
+ghost use Rattle.std.specs.List.{position_or_len};
+ghost use Rattle.dy_runner.specs.Seats.{IsSeated, seat_of};
+
 use dy_cluster::{Cluster, Session};
 use dy_dots::Fault;
 use dy_shares::Naming;
 use std::alloc::Global;
 use std::sync::Wait;
 
-/// Which session of the script lies at which place of the list of those that were opened.
+/// Which session of the script lies where among those that the cluster opened.
 #[derive(Drop)]
 pub(crate) struct Seats {
+    // How many were opened before the script's first.
+    pub base: usize,
     // The number of each, in the order in which they were opened.
-    numbers: Vec<u8>,
+    pub numbers: Vec<u8>,
 }
 
 impl Seats {
-    /// No session is opened yet. Takes no memory.
-    pub(crate) fn new(alloc: Global) -> Seats {
+    /// No session of the script is opened yet. Takes no memory.
+    pub(crate) fn new(alloc: Global, base: usize) -> Seats
+        ensures base { result.base ≡ base }
+        ensures none { length result.numbers.items ≡ 0 }
+    {
         Seats {
+            base,
             numbers: Vec::new(alloc),
         }
     }
 
-    /// The place of the session of this number, which is opened where it was not.
+    /// The place of the session of this number, which is opened where it was not. May wait for a
+    /// lock.
     pub(crate) fn place_of<J: Naming, R: Wait>(
         &mut self,
         rt: &R,
         cluster: &Cluster<J>,
         sessions: &mut Vec<Session<J>>,
         number: u8,
-    ) -> Result<usize, Fault> {
-        if let Some(place) = self.numbers.iter().position(|seated| *seated == number) {
-            return Ok(place);
+    ) -> Result<usize, Fault>
+        requires together { self.old.base + length self.old.numbers.items
+            ≡ length sessions.old.items }
+        ensures together { self.new.base + length self.new.numbers.items
+            ≡ length sessions.new.items }
+        ensures base { self.new.base ≡ self.old.base }
+        ensures place { IfOk result (λ place.
+            place ≡ self.new.base + seat_of number self.new.numbers.items) }
+        ensures there { IfOk result (λ place. place < length sessions.new.items) }
+        ensures seated { IsSeated sessions.old.items sessions.new.items }
+        ensures err { OnErr result (sessions.new.items ≡ sessions.old.items) }
+    {
+        let index = index_of(self.numbers.as_slice(), number);
+        if index == self.numbers.len() {
+            self.numbers.reserve(1)?;
+            let _place = cluster.seat(rt, sessions)?;
+            self.numbers.push_reserved(number);
         }
-        self.numbers.reserve(1)?;
-        let place = cluster.seat(rt, sessions)?;
-        self.numbers.push_reserved(number);
-        Ok(place)
+        Ok(self.base + index)
+    }
+}
+
+// Where the number is, or their count where it is not there.
+fn index_of(numbers: &[u8], number: u8) -> usize
+    ensures { result ≡ position_or_len (λ n. n == number) numbers.now }
+{
+    match numbers.iter().position(|seated| *seated == number) {
+        Some(index) => index,
+        None => numbers.len(),
     }
 }

@@ -1,68 +1,115 @@
+ghost use Rattle.std.specs.Prelude.{◌≡◌, ◌+◌, ◌⊎◌, None, length};
+ghost use Rattle.dy_runner.specs.Answers.{IsUnseated, TellsPut};
+ghost use Rattle.dy_runner.specs.Seats.{IsToldAt, seat_of};
+ghost use Rattle.dy_runner.specs.Writes.{IsWritten};
+
+use crate::givens::{Given, read_delete, read_put};
 use crate::seats::Seats;
 use dy_cluster::{Cluster, Session};
 use dy_coord::{PutDone, PutFault};
-use dy_dots::{Context, Fault};
+use dy_dots::Fault;
 use dy_lines::{Outcome, Word};
 use dy_script::Write;
 use dy_shares::Naming;
-use dy_siblings::{Key, MAX_KEY_BYTES, Value};
 use std::alloc::Global;
 use std::sync::Wait;
 
-// What a put or a delete is given.
-#[derive(Drop)]
-struct Given {
-    key: Key,
-    value: Option<Value>,
-    context: Context,
-}
-
-// What the texts say: the sizes of the key and of the value are judged, and then the context.
-fn read_given(alloc: Global, write: &Write, value: Option<&[u8]>) -> Result<Given, Fault> {
-    let bytes = write.key.as_bytes();
-    if bytes.is_empty() || bytes.len() > MAX_KEY_BYTES {
-        return Err(Fault::KeySize);
-    }
-    let value = match value {
-        Some(bytes) => Some(Value::new(alloc, bytes)?),
-        None => None,
-    };
-    let key = Key::new(alloc, bytes)?;
-    let context = match &write.context {
-        Some(text) => Context::read_text(alloc, text.as_str())?,
-        None => Context::new(alloc),
-    };
-    Ok(Given {
-        key,
-        value,
-        context,
-    })
-}
-
-/// Puts the value, or deletes the key where there is none, in the session that is named.
-pub(crate) fn run_write<J: Naming, R: Wait>(
+/// Puts the value in the session that is named.
+pub(crate) fn run_put<J: Naming, R: Wait>(
     rt: &R,
     alloc: Global,
     cluster: &Cluster<J>,
     seats: &mut Seats,
     sessions: &mut Vec<Session<J>>,
     w: u8,
-    word: Word,
     write: &Write,
-    value: Option<&[u8]>,
-) -> Outcome {
-    let given = match read_given(alloc, write, value) {
-        Ok(given) => given,
-        Err(fault) => return refused(word, fault),
-    };
-    let place = match seats.place_of(rt, cluster, sessions, write.session) {
+    value: &[u8],
+) -> Outcome
+    requires together { seats.old.base + length seats.old.numbers.items
+        ≡ length sessions.old.items }
+    ensures together { seats.new.base + length seats.new.numbers.items
+        ≡ length sessions.new.items }
+    ensures base { seats.new.base ≡ seats.old.base }
+{
+    match read_put(alloc, write, value) {
+        Ok(given) => {
+            let w = write.w.unwrap_or(w);
+            run_write(
+                rt,
+                cluster,
+                seats,
+                sessions,
+                write.session,
+                w,
+                Word::Put,
+                given,
+            )
+        }
+        Err(fault) => refused(Word::Put, fault),
+    }
+}
+
+/// Deletes the key in the session that is named.
+pub(crate) fn run_delete<J: Naming, R: Wait>(
+    rt: &R,
+    alloc: Global,
+    cluster: &Cluster<J>,
+    seats: &mut Seats,
+    sessions: &mut Vec<Session<J>>,
+    w: u8,
+    write: &Write,
+) -> Outcome
+    requires together { seats.old.base + length seats.old.numbers.items
+        ≡ length sessions.old.items }
+    ensures together { seats.new.base + length seats.new.numbers.items
+        ≡ length sessions.new.items }
+    ensures base { seats.new.base ≡ seats.old.base }
+{
+    match read_delete(alloc, write) {
+        Ok(given) => {
+            let w = write.w.unwrap_or(w);
+            run_write(
+                rt,
+                cluster,
+                seats,
+                sessions,
+                write.session,
+                w,
+                Word::Delete,
+                given,
+            )
+        }
+        Err(fault) => refused(Word::Delete, fault),
+    }
+}
+
+// Puts what is given in the session of this number.
+fn run_write<J: Naming, R: Wait>(
+    rt: &R,
+    cluster: &Cluster<J>,
+    seats: &mut Seats,
+    sessions: &mut Vec<Session<J>>,
+    number: u8,
+    w: u8,
+    word: Word,
+    given: Given,
+) -> Outcome
+    requires together { seats.old.base + length seats.old.numbers.items
+        ≡ length sessions.old.items }
+    ensures together { seats.new.base + length seats.new.numbers.items
+        ≡ length sessions.new.items }
+    ensures base { seats.new.base ≡ seats.old.base }
+    ensures told { IsToldAt (seats.new.base + seat_of number seats.new.numbers.items)
+        sessions.old.items sessions.new.items (IsWritten {J = J} J.ring J.n w given word result)
+        ⊎ IsUnseated word result sessions.old.items sessions.new.items }
+{
+    let place = match seats.place_of(rt, cluster, sessions, number) {
         Ok(place) => place,
         Err(fault) => return refused(word, fault),
     };
-    let w = write.w.unwrap_or(w);
     match sessions.as_mut_slice().get_mut(place) {
         Some(session) => write_in(rt, cluster, session, w, word, given),
-        None => refused(word, Fault::SharesMissing),
+        None => unreachable!(),
     }
 }
 
@@ -74,11 +121,13 @@ fn write_in<J: Naming, R: Wait>(
     w: u8,
     word: Word,
     given: Given,
-) -> Outcome {
+) -> Outcome
+    ensures { IsWritten {J = J} J.ring J.n w given word result session.old session.new }
+{
     let Given {
         key,
-        value,
         context,
+        value,
     } = given;
     match cluster.direct() {
         Ok(mut direct) => {
@@ -90,32 +139,37 @@ fn write_in<J: Naming, R: Wait>(
 }
 
 // What came of a put, as its line tells it.
-fn written(word: Word, answer: Result<PutDone, PutFault>) -> Outcome {
+fn written(word: Word, answer: Result<PutDone, PutFault>) -> Outcome
+    ensures { TellsPut word answer result }
+{
     match answer {
-        Ok(PutDone { dot, answers }) => Outcome::Stored { word, dot, answers },
-        Err(
-            PutFault {
-                fault: Fault::NotEnough,
-                dot,
-                answers,
-            },
-        ) => Outcome::Lacking { word, dot, answers },
-        Err(
-            PutFault {
+        Ok(done) => Outcome::Stored {
+            word,
+            dot: done.dot,
+            answers: done.answers,
+        },
+        Err(refusal) => {
+            let PutFault {
                 fault,
                 dot,
-                answers: _,
-            },
-        ) => Outcome::Refused {
-            word,
-            fault,
-            after: dot,
-        },
+                answers,
+            } = refusal;
+            match fault {
+                Fault::NotEnough => Outcome::Lacking { word, dot, answers },
+                _ => Outcome::Refused {
+                    word,
+                    fault,
+                    after: dot,
+                },
+            }
+        }
     }
 }
 
 /// A refusal that made nothing.
-pub(crate) fn refused(word: Word, fault: Fault) -> Outcome {
+pub(crate) fn refused(word: Word, fault: Fault) -> Outcome
+    ensures { result ≡ Outcome.Refused word fault None }
+{
     Outcome::Refused {
         word,
         fault,

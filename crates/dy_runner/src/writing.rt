@@ -1,14 +1,17 @@
 ghost use Rattle.std.specs.Prelude.{OnOk};
 ghost use Rattle.std.specs.Io.KnownBytes.{Appends};
+ghost use Rattle.std.specs.List.{flat_map};
 ghost use Rattle.dy_ring.specs.Rings.{Tokens};
 ghost use Rattle.dy_script.specs.Reading.{script_parts};
+ghost use Rattle.dy_runner.specs.AuditLines.{acked_line, audit_lines, held_line, settled_line};
 ghost use Rattle.dy_runner.specs.RingLines.{IsLaidOut, key_lines, ring_lines, token_lines};
 
 use crate::options::{options_of, ring_of};
 use crate::running::Run;
 use crate::stops::Stopped;
-use dy_book::Audit;
+use dy_book::{AckedAt, Audit};
 use dy_cluster::with_cluster;
+use dy_core::Holding;
 use dy_dots::NodeId;
 use dy_lines::{AckedLine, EndLine, HeldLine, KeyLine, SettledLine, TokenLine};
 use dy_preference::preference;
@@ -53,20 +56,49 @@ fn write_audit<O: Write>(
     is_settled: bool,
     audit: &Audit,
     out: &mut O,
-) -> Result<(), Stopped> {
-    for holding in &audit.held {
+) -> Result<(), Stopped>
+    ensures { OnOk result (Appends (O.contents out.old) (O.contents out.new)
+        (audit_lines w is_settled audit.now)) }
+{
+    write_held(alloc, audit.held.as_slice(), out)?;
+    write_acked(w, audit.acked.as_slice(), out)?;
+    if is_settled {
+        write_settled(audit.settled.as_slice(), out)?;
+    }
+    writeln!(out, "{}", EndLine::of(audit))?;
+    Ok(())
+}
+
+fn write_held<O: Write>(alloc: Global, held: &[Holding], out: &mut O) -> Result<(), Stopped>
+    ensures { OnOk result (Appends (O.contents out.old) (O.contents out.new)
+        (flat_map held_line held.now)) }
+{
+    for holding in held {
         let line = HeldLine::of(alloc, holding)?;
         writeln!(out, "{line}")?;
     }
-    for acked in &audit.acked {
-        writeln!(out, "{}", AckedLine::of(w, acked))?;
+    Ok(())
+}
+
+fn write_acked<O: Write>(w: u8, acked: &[AckedAt], out: &mut O) -> Result<(), Stopped>
+    ensures { OnOk result (Appends (O.contents out.old) (O.contents out.new)
+        (flat_map (acked_line w) acked.now)) }
+{
+    for ack in acked {
+        let line = AckedLine::of(w, ack);
+        writeln!(out, "{line}")?;
     }
-    if is_settled {
-        for key in &audit.settled {
-            writeln!(out, "{}", SettledLine { key })?;
-        }
+    Ok(())
+}
+
+fn write_settled<O: Write>(keys: &[Key], out: &mut O) -> Result<(), Stopped>
+    ensures { OnOk result (Appends (O.contents out.old) (O.contents out.new)
+        (flat_map settled_line keys.now)) }
+{
+    for key in keys {
+        let line = SettledLine { key };
+        writeln!(out, "{line}")?;
     }
-    writeln!(out, "{}", EndLine::of(audit))?;
     Ok(())
 }
 

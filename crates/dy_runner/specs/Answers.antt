@@ -1,0 +1,87 @@
+-- How the outcome of a command comes from what a cluster's call answered.
+use Rattle.std.specs.Prelude.{◌≡◌, ◌≢◌, ◌⊎◌, ℕ, List, map, Option, None, Result, Ok, Err}
+use Rattle.std.specs.Prelude.{IfOk, IfErr, OnErr}
+use Rattle.dy_dots.specs.Dots.{DotSet}
+use Rattle.dy_dots.specs.declared.faults.Fault.{Fault}
+use Rattle.dy_dots.specs.declared.faults.Fault.TheVariants.{NotEnough, OutOfMemory}
+use Rattle.dy_dots.specs.declared.nodes.TheConstants.{MAX_NODES}
+use Rattle.dy_siblings.specs.Siblings.{Siblings, own_dots}
+use Rattle.dy_preference.specs.Preferences.{Preferred}
+use Rattle.dy_shares.specs.Shares.{SessionPart, since_of, with_get}
+use Rattle.dy_quorum.specs.Gatherings.{first_answers}
+use Rattle.dy_transport.specs.Told.{Told, nothing_told}
+use Rattle.dy_coord.specs.Gets.{IsGetRefused, IsGot}
+use Rattle.dy_coord.specs.PutEnds.{PutEnds}
+use Rattle.dy_coord.specs.declared.get_dones.GetDone.{GetDone}
+use Rattle.dy_coord.specs.declared.get_faults.GetFault.{GetFault}
+use Rattle.dy_coord.specs.declared.put_results.PutDone.{PutDone}
+use Rattle.dy_coord.specs.declared.put_results.PutFault.{PutFault}
+use Rattle.dy_handoff.specs.declared.counts.Pass.{Pass}
+use Rattle.dy_lines.specs.declared.keeping.Kept.{Kept}
+use Rattle.dy_lines.specs.declared.outcomes.Outcome.{Outcome}
+use Rattle.dy_lines.specs.declared.outcomes.Outcome.TheVariants.{Stored, Read, Lacking, Refused}
+use Rattle.dy_lines.specs.declared.outcomes.Outcome.TheVariants.{Delivered, HandedOver}
+use Rattle.dy_lines.specs.declared.outcomes.Word.{Word}
+use Rattle.dy_lines.specs.declared.outcomes.Word.TheVariants as word
+
+-- the outcome tells the answer of a put: its dot and its answers, or its refusal, with all answers
+-- where there were not enough, and else with the version that it made, where it made one
+abbrev pub TellsPut : Word → Result PutDone PutFault → Outcome → Type 0
+TellsPut word (Ok done) outcome = outcome ≡ Stored word done.dot done.answers
+TellsPut word (Err e) outcome =
+    (e.fault ≡ NotEnough → outcome ≡ Lacking word e.dot e.answers)
+    × (e.fault ≢ NotEnough → outcome ≡ Refused word e.fault e.dot)
+
+-- the outcome of a delivery
+abbrev pub delivery_outcome : Result ℕ Fault → Outcome
+delivery_outcome (Ok count) = Delivered count
+delivery_outcome (Err f) = Refused word.Deliver f None
+
+-- the outcome of a pass
+abbrev pub pass_outcome : Result Pass Fault → Outcome
+pass_outcome (Ok pass) = HandedOver pass.offers pass.stored pass.released
+pass_outcome (Err f) = Refused word.Handoff f None
+
+-- what is kept of a row: its home, and the versions' own dots
+abbrev pub kept_row : ℕ × Siblings → Kept
+kept_row row = record { home = row.0; dots = own_dots row.1.versions }
+
+module _ {J : Type 0} where
+  -- the outcome tells the answer of a get: its context, whose rows it used, and the merged row, or
+  -- its refusal, with all answers where there were not enough
+  abbrev pub TellsGet : Result (GetDone J) GetFault → Outcome → Type 0
+  TellsGet (Ok done) outcome = outcome ≡ Read done.context done.from done.row
+  TellsGet (Err e) outcome =
+      (e.fault ≡ NotEnough → outcome ≡ Lacking word.Get None e.answers)
+      × (e.fault ≢ NotEnough → outcome ≡ Refused word.Get e.fault None)
+
+  -- the outcome tells what a put of these answered, and so ended the session's part in it
+  pub record IsPutTold (list : Preferred) (w : ℕ) (key : List ℕ) (context : DotSet)
+      (value : Option (List ℕ)) (word : Word) (outcome : Outcome)
+      (before after : SessionPart) : Type 0 where
+    pub told : Told J
+    pub answer : Result PutDone PutFault
+    pub ends : PutEnds list w key context value before after (nothing_told MAX_NODES) told answer
+    pub tells : TellsPut word answer outcome
+
+  -- the outcome tells what a get of the key answered, and so ended the session's part in it
+  pub record IsGetTold (list : Preferred) (r : ℕ) (key : List ℕ) (outcome : Outcome)
+      (before after : SessionPart) : Type 0 where
+    pub told : Told J
+    pub answer : Result (GetDone J) GetFault
+    pub got : IfOk answer (λ done. IsGot list key r (since_of before) told done)
+    pub heard : IfOk answer (λ done.
+        after ≡ with_get before (since_of before) (first_answers done.seen.items))
+    pub unheard : OnErr answer (after ≡ before)
+    pub refused : IfErr answer (λ e. IsGetRefused list key r (since_of before) told e)
+    pub tells : TellsGet answer outcome
+
+-- there was no memory for what carries the messages, so nobody was tried
+abbrev pub IsNotCarried : Word → Outcome → SessionPart → SessionPart → Type 0
+IsNotCarried word outcome before after =
+    (after ≡ before) × (outcome ≡ Refused word OutOfMemory None)
+
+-- there was no room for the session, so nobody was tried
+abbrev pub IsUnseated : Word → Outcome → List SessionPart → List SessionPart → Type 0
+IsUnseated word outcome before after =
+    (after ≡ before) × ((f : Fault) × (outcome ≡ Refused word f None))
