@@ -1,1 +1,3 @@
+pub mod AuditLines
 pub mod RingLines
+pub mod Seating

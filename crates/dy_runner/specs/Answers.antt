@@ -55,26 +55,26 @@ module _ {J : Type 0} where
       (e.fault ≡ NotEnough → outcome ≡ Lacking word.Get None e.answers)
       × (e.fault ≢ NotEnough → outcome ≡ Refused word.Get e.fault None)
 
-  -- the outcome tells what a put of these answered, and so ended the session's part in it
-  pub record IsPutTold (list : Preferred) (w : ℕ) (key : List ℕ) (context : DotSet)
-      (value : Option (List ℕ)) (word : Word) (outcome : Outcome)
-      (before after : SessionPart) : Type 0 where
-    pub told : Told J
-    pub answer : Result PutDone PutFault
-    pub ends : PutEnds list w key context value before after (nothing_told MAX_NODES) told answer
-    pub tells : TellsPut word answer outcome
+-- the outcome tells what a put of these answered, and so ended the session's part in it
+pub record IsPutTold (J : Type 0) (list : Preferred) (w : ℕ) (key : List ℕ) (context : DotSet)
+    (value : Option (List ℕ)) (word : Word) (outcome : Outcome)
+    (before after : SessionPart) : Type 0 where
+  pub told : Told J
+  pub answer : Result PutDone PutFault
+  pub ends : PutEnds {J = J} list w key context value before after (nothing_told MAX_NODES) told answer
+  pub tells : TellsPut word answer outcome
 
-  -- the outcome tells what a get of the key answered, and so ended the session's part in it
-  pub record IsGetTold (list : Preferred) (r : ℕ) (key : List ℕ) (outcome : Outcome)
-      (before after : SessionPart) : Type 0 where
-    pub told : Told J
-    pub answer : Result (GetDone J) GetFault
-    pub got : IfOk answer (λ done. IsGot list key r (since_of before) told done)
-    pub heard : IfOk answer (λ done.
-        after ≡ with_get before (since_of before) (first_answers done.seen.items))
-    pub unheard : OnErr answer (after ≡ before)
-    pub refused : IfErr answer (λ e. IsGetRefused list key r (since_of before) told e)
-    pub tells : TellsGet answer outcome
+-- the outcome tells what a get of the key answered, and so ended the session's part in it
+pub record IsGetTold (J : Type 0) (list : Preferred) (r : ℕ) (key : List ℕ) (outcome : Outcome)
+    (before after : SessionPart) : Type 0 where
+  pub told : Told J
+  pub answer : Result (GetDone J) GetFault
+  pub got : IfOk answer (λ done. IsGot list key r (since_of before) told done)
+  pub heard : IfOk answer (λ done.
+      after ≡ with_get before (since_of before) (first_answers done.seen.items))
+  pub unheard : OnErr answer (after ≡ before)
+  pub refused : IfErr answer (λ e. IsGetRefused list key r (since_of before) told e)
+  pub tells : TellsGet answer outcome
 
 -- there was no memory for what carries the messages, so nobody was tried
 abbrev pub IsNotCarried : Word → Outcome → SessionPart → SessionPart → Type 0

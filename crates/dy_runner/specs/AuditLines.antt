@@ -23,6 +23,10 @@ acked_line w a =
 abbrev pub settled_line : List ℕ → List ℕ
 settled_line key = line (settled_text key)
 
+-- the settled keys, where they are wanted
+abbrev pub settled_lines : Bool → List (List ℕ) → List ℕ
+settled_lines is_wanted keys = if is_wanted then flat_map settled_line keys else codes ""
+
 -- the sums
 abbrev pub end_line : Audit → List ℕ
 end_line a =
@@ -33,4 +37,4 @@ end_line a =
 abbrev pub audit_lines : ℕ → Bool → Audit → List ℕ
 audit_lines w is_settled a =
     flat_map held_line a.held.items ++ flat_map (acked_line w) a.acked.items
-    ++ (if is_settled then flat_map settled_line a.settled.items else codes "") ++ end_line a
+    ++ settled_lines is_settled a.settled.items ++ end_line a

@@ -5,10 +5,10 @@ use Rattle.dy_book.specs.declared.options.Options.{Options}
 use Rattle.dy_book.specs.declared.options.TheConstants.{MAX_STEPS, MAX_VERSIONS}
 use Rattle.dy_script.specs.Reading.{ScriptParts}
 
--- a limit that is not set is the greatest
-abbrev pub limit_or : ℕ → Option ℕ → ℕ
-limit_or greatest None = greatest
-limit_or greatest (Some limit) = limit
+-- what is given, or else this
+abbrev pub given_or : ℕ → Option ℕ → ℕ
+given_or n None = n
+given_or n (Some given) = given
 
 -- the numbers and the limits of the script
 abbrev pub options_for : ScriptParts → Options
@@ -16,7 +16,7 @@ options_for s = record {
   n = s.n;
   r = s.r;
   w = s.w;
-  counter_limit = limit_or MAX_COUNTER s.limits.counter;
-  versions_limit = limit_or MAX_VERSIONS s.limits.versions;
-  steps_limit = limit_or MAX_STEPS s.limits.steps;
+  counter_limit = given_or MAX_COUNTER s.limits.counter;
+  versions_limit = given_or MAX_VERSIONS s.limits.versions;
+  steps_limit = given_or MAX_STEPS s.limits.steps;
 }

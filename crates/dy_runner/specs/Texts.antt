@@ -1,11 +1,14 @@
 -- What the texts of a command are judged to say.
-use Rattle.std.specs.Prelude.{◌≡◌, ◌⊎◌, ⊥, ℕ, List, Option, Some, None}
+use Rattle.std.specs.Prelude.{◌≡◌, ◌<◌, ◌⊎◌, ◌↔◌, ℕ, List, length, Option, Some, None, Result}
+use Rattle.std.specs.Prelude.{IfOk, IfErr, IsErrOf}
 use Rattle.std.specs.FinSet as set
 use Rattle.dy_dots.specs.Dots.{DotSet}
 use Rattle.dy_dots.specs.Spelling.{IsFound, IsRefused}
 use Rattle.dy_dots.specs.declared.faults.Fault.{Fault}
 use Rattle.dy_dots.specs.declared.faults.Fault.TheVariants.{OutOfMemory, KeySize}
+use Rattle.dy_dots.specs.declared.faults.Fault.TheVariants.{ValueSize}
 use Rattle.dy_siblings.specs.Sizes.{IsKey}
+use Rattle.dy_siblings.specs.declared.values.TheConstants.{MAX_VALUE_BYTES}
 use Rattle.dy_runner.specs.declared.givens.Given.{Given}
 
 -- the context that a text gives, which is empty where there is none
@@ -27,3 +30,16 @@ IsGiven key context value g =
 abbrev pub IsGivenRefused : List ℕ → Option (List ℕ) → Fault → Type 0
 IsGivenRefused key context f =
     ((f ≡ KeySize) × (IsKey key → ⊥)) ⊎ (f ≡ OutOfMemory) ⊎ (IsKey key × IsContextRefused context f)
+
+-- how a put is judged: the size of its key, then that of its value, and then its context
+pub record IsPutJudged (key : List ℕ) (context : Option (List ℕ)) (value : List ℕ)
+    (judged : Result Given Fault) : Type 0 where
+  pub ok : IfOk judged (IsGiven key context (Some value))
+  pub value_size : IsErrOf judged ValueSize ↔ (IsKey key × (MAX_VALUE_BYTES < length value))
+  pub only : IfErr judged (λ f. (f ≡ ValueSize) ⊎ IsGivenRefused key context f)
+
+-- how a delete is judged
+pub record IsDeleteJudged (key : List ℕ) (context : Option (List ℕ))
+    (judged : Result Given Fault) : Type 0 where
+  pub ok : IfOk judged (IsGiven key context None)
+  pub only : IfErr judged (IsGivenRefused key context)

@@ -1,24 +1,44 @@
 -- What a put, a delete and a get do in their session.
-use Rattle.std.specs.Prelude.{◌⊎◌, ℕ, List}
+use Rattle.std.specs.Prelude.{◌≡◌, ◌⊎◌, ℕ, List, None, Result, Ok, Err}
+use Rattle.dy_dots.specs.declared.faults.Fault.{Fault}
 use Rattle.dy_ring.specs.Rings.{Tokens}
 use Rattle.dy_shares.specs.Shares.{SessionPart}
 use Rattle.dy_cluster.specs.Lists.{list_of}
 use Rattle.dy_lines.specs.declared.outcomes.Outcome.{Outcome}
 use Rattle.dy_lines.specs.declared.outcomes.Word.{Word}
 use Rattle.dy_lines.specs.declared.outcomes.Word.TheVariants.{Get}
-use Rattle.dy_runner.specs.Answers.{IsGetTold, IsNotCarried, IsPutTold}
+use Rattle.dy_lines.specs.declared.outcomes.Outcome.TheVariants.{Refused}
+use Rattle.dy_runner.specs.Answers.{IsGetTold, IsNotCarried, IsPutTold, IsUnseated}
+use Rattle.dy_runner.specs.Seats.{IsToldAt}
 use Rattle.dy_runner.specs.declared.givens.Given.{Given}
 
-module _ {J : Type 0} where
-  -- the outcome tells a put of what is given, for the key's own list, or that nothing was sent
-  abbrev pub IsWritten :
-      Tokens → ℕ → ℕ → Given → Word → Outcome → SessionPart → SessionPart → Type 0
-  IsWritten ring n w g word outcome before after =
-      IsPutTold {J = J} (list_of ring n g.key) w g.key g.context g.value word outcome before after
-      ⊎ IsNotCarried word outcome before after
+-- the outcome tells a put of what is given, for the key's own list, or that nothing was sent
+abbrev pub IsWritten :
+    Type 0 → Tokens → ℕ → ℕ → Given → Word → Outcome → SessionPart → SessionPart → Type 0
+IsWritten J ring n w g word outcome before after =
+    IsPutTold J (list_of ring n g.key) w g.key g.context g.value word outcome before after
+    ⊎ IsNotCarried word outcome before after
 
-  -- the outcome tells a get of the key, for its own list, or that nothing was sent
-  abbrev pub IsRead : Tokens → ℕ → ℕ → List ℕ → Outcome → SessionPart → SessionPart → Type 0
-  IsRead ring n r key outcome before after =
-      IsGetTold {J = J} (list_of ring n key) r key outcome before after
-      ⊎ IsNotCarried Get outcome before after
+-- the session at this place wrote what is given, or there was no room for it
+abbrev pub WritesAt :
+    Type 0 → Tokens → ℕ → ℕ → ℕ → Given → Word → Outcome
+    → List SessionPart → List SessionPart → Type 0
+WritesAt J ring n place w g word outcome before after =
+    IsToldAt place before after (IsWritten J ring n w g word outcome)
+    ⊎ IsUnseated word outcome before after
+
+-- what was judged so was written at this place, or its refusal is told and nobody was asked
+abbrev pub RunsJudged :
+    Type 0 → Tokens → ℕ → ℕ → ℕ → Word → Outcome → List SessionPart → List SessionPart
+    → Result Given Fault → Type 0
+RunsJudged J ring n place w word outcome before after (Ok g) =
+    WritesAt J ring n place w g word outcome before after
+RunsJudged J ring n place w word outcome before after (Err f) =
+    (after ≡ before) × (outcome ≡ Refused word f None)
+
+-- the outcome tells a get of the key, for its own list, or that nothing was sent
+abbrev pub IsRead :
+    Type 0 → Tokens → ℕ → ℕ → List ℕ → Outcome → SessionPart → SessionPart → Type 0
+IsRead J ring n r key outcome before after =
+    IsGetTold J (list_of ring n key) r key outcome before after
+    ⊎ IsNotCarried Get outcome before after

@@ -35,7 +35,7 @@ pub(crate) fn run_get<J: Naming, R: Wait>(
         ≡ length sessions.new.items }
     ensures base { seats.new.base ≡ seats.old.base }
     ensures told { IsToldAt (seats.new.base + seat_of number seats.new.numbers.items)
-        sessions.old.items sessions.new.items (IsRead {J = J} J.ring J.n J.r key.now result)
+        sessions.old.items sessions.new.items (IsRead J J.ring J.n J.r key.now result)
         ⊎ IsUnseated word.Get result sessions.old.items sessions.new.items }
 {
     let key = match Key::new(alloc, key.as_bytes()) {
@@ -46,10 +46,7 @@ pub(crate) fn run_get<J: Naming, R: Wait>(
         Ok(place) => place,
         Err(fault) => return refused(Word::Get, fault),
     };
-    match sessions.as_mut_slice().get_mut(place) {
-        Some(session) => get_in(rt, cluster, session, &key),
-        None => unreachable!(),
-    }
+    get_in(rt, cluster, &mut sessions[place], &key)
 }
 
 // Gets in this session.
@@ -59,7 +56,7 @@ fn get_in<J: Naming, R: Wait>(
     session: &mut Session<J>,
     key: &Key,
 ) -> Outcome
-    ensures { IsRead {J = J} J.ring J.n J.r key.now result session.old session.new }
+    ensures { IsRead J J.ring J.n J.r key.now result session.old session.new }
 {
     match cluster.direct() {
         Ok(mut direct) => {

@@ -1,7 +1,7 @@
 ghost use Rattle.std.specs.Prelude.{◌≡◌, ◌≤◌, ◌↔◌, IfOk, IfErr, IsOk};
 ghost use Rattle.dy_book.specs.Limits.{AreLimits};
 ghost use Rattle.dy_script.specs.Reading.{layout_parts, script_parts};
-ghost use Rattle.dy_runner.specs.Openings.{limit_or, options_for};
+ghost use Rattle.dy_runner.specs.Openings.{given_or, options_for};
 ghost use Rattle.dy_runner.specs.RingLines.{IsLaidOut};
 
 use dy_book::{MAX_STEPS, MAX_VERSIONS, Options};
@@ -43,9 +43,9 @@ pub(crate) fn options_of(script: &Script) -> Result<Options, Fault>
 // The limit, which is the greatest where none is set.
 fn limit_of(limit: Option<u64>, greatest: u64) -> Result<u64, Fault>
     requires some { 1 ≤ greatest }
-    ensures ok { IfOk result (λ n. n ≡ limit_or greatest limit) }
-    ensures range { IsOk result ↔ ((1 ≤ limit_or greatest limit)
-        × (limit_or greatest limit ≤ greatest)) }
+    ensures ok { IfOk result (λ n. n ≡ given_or greatest limit) }
+    ensures range { IsOk result ↔ ((1 ≤ given_or greatest limit)
+        × (given_or greatest limit ≤ greatest)) }
     ensures only { IfErr result (λ fault. fault ≡ Fault.TooMany) }
 {
     let limit = limit.unwrap_or(greatest);

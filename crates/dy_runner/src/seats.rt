@@ -1,5 +1,4 @@
-ghost use Rattle.std.specs.Prelude.{◌≡◌, ◌<◌, ◌+◌, ◌==◌, length, IfOk, OnErr};
-ghost use Rattle.std.specs.List.{position_or_len};
+ghost use Rattle.std.specs.Prelude.{◌≡◌, ◌<◌, ◌≤◌, ◌+◌, length, IfOk, OnErr};
 ghost use Rattle.dy_runner.specs.Seats.{IsSeated, seat_of};
 
 use dy_cluster::{Cluster, Session};
@@ -50,21 +49,25 @@ impl Seats {
         ensures err { OnErr result (sessions.new.items ≡ sessions.old.items) }
     {
         let index = index_of(self.numbers.as_slice(), number);
-        if index == self.numbers.len() {
-            self.numbers.reserve(1)?;
-            let _place = cluster.seat(rt, sessions)?;
-            self.numbers.push_reserved(number);
+        if index < self.numbers.len() {
+            return Ok(self.base + index);
         }
-        Ok(self.base + index)
+        self.numbers.reserve(1)?;
+        let place = cluster.seat(rt, sessions)?;
+        self.numbers.push_reserved(number);
+        Ok(place)
     }
 }
 
 // Where the number is, or their count where it is not there.
 fn index_of(numbers: &[u8], number: u8) -> usize
-    ensures { result ≡ position_or_len (λ n. n == number) numbers.now }
+    ensures first { result ≡ seat_of number numbers.now }
+    ensures within { result ≤ length numbers.now }
 {
-    match numbers.iter().position(|seated| *seated == number) {
-        Some(index) => index,
-        None => numbers.len(),
+    for (index, seated) in numbers.iter().enumerate() {
+        if *seated == number {
+            return index;
+        }
     }
+    numbers.len()
 }

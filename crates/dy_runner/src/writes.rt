@@ -1,7 +1,12 @@
-ghost use Rattle.std.specs.Prelude.{◌≡◌, ◌+◌, ◌⊎◌, None, length};
-ghost use Rattle.dy_runner.specs.Answers.{IsUnseated, TellsPut};
-ghost use Rattle.dy_runner.specs.Seats.{IsToldAt, seat_of};
-ghost use Rattle.dy_runner.specs.Writes.{IsWritten};
+ghost use Rattle.std.specs.Prelude.{◌≡◌, ◌+◌, None, Result, length, option_map, string_bytes};
+ghost use Rattle.dy_dots.specs.declared.faults.Fault.{Fault as FaultParts};
+ghost use Rattle.dy_lines.specs.declared.outcomes.Word.TheVariants as word;
+ghost use Rattle.dy_runner.specs.Answers.{TellsPut};
+ghost use Rattle.dy_runner.specs.Openings.{given_or};
+ghost use Rattle.dy_runner.specs.Seats.{seat_of};
+ghost use Rattle.dy_runner.specs.Texts.{IsDeleteJudged, IsPutJudged};
+ghost use Rattle.dy_runner.specs.Writes.{IsWritten, RunsJudged, WritesAt};
+ghost use Rattle.dy_runner.specs.declared.givens.Given.{Given as GivenParts};
 
 use crate::givens::{Given, read_delete, read_put};
 use crate::seats::Seats;
@@ -30,6 +35,13 @@ pub(crate) fn run_put<J: Naming, R: Wait>(
     ensures together { seats.new.base + length seats.new.numbers.items
         ≡ length sessions.new.items }
     ensures base { seats.new.base ≡ seats.old.base }
+    ensures told { (judged : Result GivenParts FaultParts)
+        × IsPutJudged (string_bytes write.now.key)
+        (option_map string_bytes write.now.context) value.now judged
+        × RunsJudged J J.ring J.n
+        (seats.new.base + seat_of write.now.session seats.new.numbers.items)
+        (given_or w write.now.w) word.Put result
+        sessions.old.items sessions.new.items judged }
 {
     match read_put(alloc, write, value) {
         Ok(given) => {
@@ -64,6 +76,13 @@ pub(crate) fn run_delete<J: Naming, R: Wait>(
     ensures together { seats.new.base + length seats.new.numbers.items
         ≡ length sessions.new.items }
     ensures base { seats.new.base ≡ seats.old.base }
+    ensures told { (judged : Result GivenParts FaultParts)
+        × IsDeleteJudged (string_bytes write.now.key)
+        (option_map string_bytes write.now.context) judged
+        × RunsJudged J J.ring J.n
+        (seats.new.base + seat_of write.now.session seats.new.numbers.items)
+        (given_or w write.now.w) word.Delete result
+        sessions.old.items sessions.new.items judged }
 {
     match read_delete(alloc, write) {
         Ok(given) => {
@@ -99,18 +118,14 @@ fn run_write<J: Naming, R: Wait>(
     ensures together { seats.new.base + length seats.new.numbers.items
         ≡ length sessions.new.items }
     ensures base { seats.new.base ≡ seats.old.base }
-    ensures told { IsToldAt (seats.new.base + seat_of number seats.new.numbers.items)
-        sessions.old.items sessions.new.items (IsWritten {J = J} J.ring J.n w given word result)
-        ⊎ IsUnseated word result sessions.old.items sessions.new.items }
+    ensures told { WritesAt J J.ring J.n (seats.new.base + seat_of number seats.new.numbers.items)
+        w given word result sessions.old.items sessions.new.items }
 {
     let place = match seats.place_of(rt, cluster, sessions, number) {
         Ok(place) => place,
         Err(fault) => return refused(word, fault),
     };
-    match sessions.as_mut_slice().get_mut(place) {
-        Some(session) => write_in(rt, cluster, session, w, word, given),
-        None => unreachable!(),
-    }
+    write_in(rt, cluster, &mut sessions[place], w, word, given)
 }
 
 // Puts in this session.
@@ -122,7 +137,7 @@ fn write_in<J: Naming, R: Wait>(
     word: Word,
     given: Given,
 ) -> Outcome
-    ensures { IsWritten {J = J} J.ring J.n w given word result session.old session.new }
+    ensures { IsWritten J J.ring J.n w given word result session.old session.new }
 {
     let Given {
         key,

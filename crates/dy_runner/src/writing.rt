@@ -1,9 +1,15 @@
-ghost use Rattle.std.specs.Prelude.{OnOk};
+ghost use Rattle.std.specs.Prelude.{List, OnOk};
 ghost use Rattle.std.specs.Io.KnownBytes.{Appends};
 ghost use Rattle.std.specs.List.{flat_map};
 ghost use Rattle.dy_ring.specs.Rings.{Tokens};
 ghost use Rattle.dy_script.specs.Reading.{script_parts};
-ghost use Rattle.dy_runner.specs.AuditLines.{acked_line, audit_lines, held_line, settled_line};
+ghost use Rattle.dy_book.specs.Limits.{AreLimits};
+ghost use Rattle.dy_shares.specs.Shares.{SessionPart};
+ghost use Rattle.dy_cluster.specs.Ends.{IsClosed};
+ghost use Rattle.dy_cluster.specs.declared.restings.Closed.{Closed};
+ghost use Rattle.dy_runner.specs.AuditLines.{acked_line, audit_lines, end_line, held_line};
+ghost use Rattle.dy_runner.specs.AuditLines.{settled_line, settled_lines};
+ghost use Rattle.dy_runner.specs.Openings.{options_for};
 ghost use Rattle.dy_runner.specs.RingLines.{IsLaidOut, key_lines, ring_lines, token_lines};
 
 use crate::options::{options_of, ring_of};
@@ -28,7 +34,13 @@ pub fn write_run<O: Write, R: Wait>(
     alloc: Global,
     script: &Script,
     out: &mut O,
-) -> Result<(), Stopped> {
+) -> Result<(), Stopped>
+    ensures limits { OnOk result (AreLimits (options_for (script_parts script.now))) }
+    ensures closed { OnOk result ((ring : Tokens)
+        × IsLaidOut (script_parts script.now).layout ring
+        × ((tellings : List SessionPart) × (closed : Closed)
+        × IsClosed ring (script_parts script.now).n (script_parts script.now).r tellings closed)) }
+{
     let ring = ring_of(alloc, &script.layout)?;
     let options = options_of(script)?;
     let mut run = Run {
@@ -36,16 +48,18 @@ pub fn write_run<O: Write, R: Wait>(
         out,
         lost: None,
     };
-    let closed = with_cluster(rt, alloc, ring, options, &mut run);
+    let ended = with_cluster(rt, alloc, ring, options, &mut run);
     let Run {
         script: _,
         out,
         lost,
     } = run;
-    match lost {
-        Some(error) => Err(Stopped::Output(error)),
-        None => write_audit(alloc, script.w, script.settled, &closed?.audit, out),
+    if let Some(error) = lost {
+        return Err(Stopped::Output(error));
     }
+    let closed = ended?;
+    write_audit(alloc, script.w, script.settled, &closed.audit, out)?;
+    Ok(())
 }
 
 /// Writes what the nodes hold, what was acknowledged, which keys are settled where that is wanted,
@@ -62,10 +76,8 @@ fn write_audit<O: Write>(
 {
     write_held(alloc, audit.held.as_slice(), out)?;
     write_acked(w, audit.acked.as_slice(), out)?;
-    if is_settled {
-        write_settled(audit.settled.as_slice(), out)?;
-    }
-    writeln!(out, "{}", EndLine::of(audit))?;
+    write_wanted(is_settled, audit.settled.as_slice(), out)?;
+    write_end(audit, out)?;
     Ok(())
 }
 
@@ -99,6 +111,25 @@ fn write_settled<O: Write>(keys: &[Key], out: &mut O) -> Result<(), Stopped>
         let line = SettledLine { key };
         writeln!(out, "{line}")?;
     }
+    Ok(())
+}
+
+fn write_wanted<O: Write>(is_wanted: bool, keys: &[Key], out: &mut O) -> Result<(), Stopped>
+    ensures { OnOk result (Appends (O.contents out.old) (O.contents out.new)
+        (settled_lines is_wanted keys.now)) }
+{
+    if is_wanted {
+        return write_settled(keys, out);
+    }
+    Ok(())
+}
+
+fn write_end<O: Write>(audit: &Audit, out: &mut O) -> Result<(), Stopped>
+    ensures { OnOk result (Appends (O.contents out.old) (O.contents out.new)
+        (end_line audit.now)) }
+{
+    let line = EndLine::of(audit);
+    writeln!(out, "{line}")?;
     Ok(())
 }
 

@@ -1,0 +1,29 @@
+-- Where sessions are.
+use Rattle.std.proofs.Common.{◌≡◌, ◌==◌, ◌+◌, ◌<◌, ◌≤◌, ℕ, List, [], ◌∷◌, ◌++◌, length, get_or, false, true}
+use Rattle.std.proofs.Common.{sym, ◌∙◌, rules, arith, eq-eqb}
+use Rattle.std.proofs.lemmas.Grind.{common_steps}
+use Rattle.std.proofs.lemmas.List.Folds.{position_or_len_push}
+use Rattle.std.proofs.lemmas.List.Sums.{position_or_len_is}
+use Rattle.dy_runner.specs.Seats.{seat_of}
+
+-- the first place that has the number
+pub seat_of-at : (number : ℕ) (numbers : List ℕ) (i : ℕ) → i < length numbers
+    → ((k : ℕ) → k < i → (get_or numbers k 0 == number) ≡ false)
+    → get_or numbers i 0 ≡ number → i ≡ seat_of number numbers
+seat_of-at number numbers i within before here =
+    sym (position_or_len_is (λ n. n == number) numbers i 0 (omega arith) before
+    (λ _. eq-eqb (get_or numbers i 0) number here))
+
+-- a number that is not there
+pub seat_of-none : (number : ℕ) (numbers : List ℕ) (i : ℕ) → i ≡ length numbers
+    → ((k : ℕ) → k < i → (get_or numbers k 0 == number) ≡ false)
+    → length numbers ≡ seat_of number numbers
+seat_of-none number numbers i all before =
+    sym (position_or_len_is (λ n. n == number) numbers (length numbers) 0 (omega arith)
+    (λ k h. before k (omega arith)) (λ h. absurd (omega (arith, h))))
+
+-- where it is once it has been put behind the others
+pub seat_of-push : (number : ℕ) (numbers : List ℕ) → seat_of number numbers ≡ length numbers →
+    seat_of number (numbers ++ number ∷ []) ≡ length numbers
+seat_of-push number numbers none =
+    position_or_len_push (λ n. n == number) numbers number ∙ grind (arith, common_steps, none)
