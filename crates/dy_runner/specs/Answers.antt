@@ -61,7 +61,8 @@ pub record IsPutTold (J : Type 0) (list : Preferred) (w : ℕ) (key : List ℕ) 
     (before after : SessionPart) : Type 0 where
   pub told : Told J
   pub answer : Result PutDone PutFault
-  pub ends : PutEnds {J = J} list w key context value before after (nothing_told MAX_NODES) told answer
+  pub ends :
+      PutEnds {J = J} list w key context value before after (nothing_told MAX_NODES) told answer
   pub tells : TellsPut word answer outcome
 
 -- the outcome tells what a get of the key answered, and so ended the session's part in it
