@@ -3,6 +3,7 @@
 use crate::handovers::{Between, hand_over, hand_over_while};
 use crate::stages::Stage;
 use crate::texts::{write_pass, write_row};
+use dy_core::Place;
 use dy_dots::{Fault, NodeId};
 use dy_node::Mode;
 use dy_shares::Naming;
@@ -68,10 +69,11 @@ pub fn write_rows<J: Naming, R: Wait>(
         return Err(Fault::Down);
     };
     let held = place.lock(rt);
+    let holder = held.number();
     let rows: Vec<(NodeId, &Row)> = held.rows(stage.key)?;
     for row in rows.as_slice() {
-        let start = format!(in stage.alloc; "show {node}/{}", row.0)?;
-        write_row(stage.alloc, out, start.as_str(), row.1)?;
+        let home = row.0;
+        write_row(stage.alloc, out, "show", Place { holder, home }, row.1)?;
     }
     Ok(())
 }

@@ -2,10 +2,8 @@
 ghost use Rattle.std.specs.Prelude.{◌≡◌};
 ghost use Rattle.dy_transport.specs.Told.{nothing_told};
 
-use crate::handovers::Between;
 use crate::stages::Stage;
 use crate::stated::{Stated, Stating};
-use crate::wrapped::Wrapped;
 use dy_coord::{GetDone, GetFault, PutDone, PutFault, get, put};
 use dy_dots::{Context, Fault};
 use dy_repair::repair;
@@ -45,7 +43,7 @@ fn text_of(after: After) -> &'static str {
 }
 
 // A put over this transport.
-fn put_over<J: Naming, T: Transport<J>, R: Wait>(
+pub fn put_over<J: Naming, T: Transport<J>, R: Wait>(
     rt: &R,
     transport: &mut T,
     stage: &Stage<'_, J>,
@@ -110,27 +108,6 @@ pub fn get_directly<J: Naming, R: Wait>(
 ) -> Result<Result<GetDone<J>, GetFault>, Fault> {
     let mut direct = Direct::new(stage.alloc, stage.nodes, stage.book, 32)?;
     Ok(get_over(rt, &mut direct, stage, session))
-}
-
-// A put over a transport that lists what came, while something else is done; and the list.
-pub fn put_while<J: Naming, R: Wait>(
-    rt: &R,
-    stage: &Stage<'_, J>,
-    session: &mut SessionShare<J>,
-    write: Write,
-    between: Between,
-    list: &mut String,
-) -> Result<Result<PutDone, PutFault>, Fault> {
-    let direct = Direct::new(stage.alloc, stage.nodes, stage.book, 32)?;
-    let mut wrapped = Wrapped {
-        stage,
-        direct,
-        between,
-        list: String::new(stage.alloc),
-    };
-    let ended = put_over(rt, &mut wrapped, stage, session, write)?;
-    list.push_str(wrapped.list.as_str())?;
-    Ok(ended)
 }
 
 // A put over a line on which one node's answers are stated.

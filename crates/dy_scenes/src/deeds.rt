@@ -5,13 +5,14 @@ use crate::at_nodes::{
     write_hints, write_rows,
 };
 use crate::calls::{
-    Write, get_directly, get_stated, put_directly, put_stated, put_while, repair_after,
+    Write, get_directly, get_stated, put_directly, put_over, put_stated, repair_after,
 };
 use crate::handovers::Between;
 use crate::many_keys::put_many_and_write;
 use crate::stages::{Stage, keyed_on};
 use crate::stated::Stating;
-use crate::texts::{write_get, write_put};
+use crate::texts::{write_get, write_list, write_put};
+use crate::wrapped::wrapped_on;
 use dy_dots::Fault;
 use dy_node::Mode;
 use dy_shares::{Naming, SessionShare};
@@ -124,11 +125,10 @@ fn put_while_and_write<J: Naming, R: Wait>(
     between: Between,
     out: &mut String,
 ) -> Result<(), Fault> {
-    let mut list = String::new(stage.alloc);
-    let ended = put_while(rt, stage, session, write, between, &mut list)?;
+    let mut wrapped = wrapped_on(stage, between)?;
+    let ended = put_over(rt, &mut wrapped, stage, session, write)?;
     write_put(stage.alloc, out, &ended)?;
-    out.push_str(format!(in stage.alloc; "listed{}\n", list.as_str())?.as_str())?;
-    Ok(())
+    write_list(stage.alloc, out, wrapped.list.as_str())
 }
 
 // A put over a line on which one node's answers are stated, which is told.

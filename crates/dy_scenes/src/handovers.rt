@@ -4,7 +4,7 @@ ghost use Rattle.dy_preference.specs.Preferences.{homes_of, may_hold};
 
 use crate::at_nodes::{node_of, set_up};
 use crate::stages::Stage;
-use crate::wrapped::Wrapped;
+use crate::wrapped::wrapped_on;
 use dy_dots::{Context, Fault, NodeId};
 use dy_handoff::{Pass, pass};
 use dy_node::{Ask, Begun};
@@ -44,13 +44,7 @@ pub fn hand_over_while<J: Naming, R: Wait>(
     node: NodeId,
     between: Between,
 ) -> Result<Pass, Fault> {
-    let direct = Direct::new(stage.alloc, stage.nodes, stage.book, 1)?;
-    let mut wrapped = Wrapped {
-        stage,
-        direct,
-        between,
-        list: String::new(stage.alloc),
-    };
+    let mut wrapped = wrapped_on(stage, between)?;
     pass(rt, &mut wrapped, node)
 }
 

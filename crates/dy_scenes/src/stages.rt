@@ -35,6 +35,16 @@ pub struct Keyed {
     pub list: Preference,
 }
 
+// The list of the key, of so many homes.
+fn list_of(alloc: Global, ring: &Ring, n: u8, key: &Key) -> Result<Preference, Fault>
+    requires some { 1 ≤ n }
+    requires few { n ≤ ring.now.nodes }
+    ensures nodes { IfOk result (λ list. list.nodes ≡ preference_of ring.now key.now) }
+    ensures homes { IfOk result (λ list. list.n ≡ n) }
+{
+    preference(alloc, ring, key, n)
+}
+
 // The key of these bytes, with its list of so many homes.
 pub fn with_list(alloc: Global, ring: &Ring, n: u8, bytes: &[u8]) -> Result<Keyed, Fault>
     requires some { 1 ≤ n }
@@ -43,7 +53,7 @@ pub fn with_list(alloc: Global, ring: &Ring, n: u8, bytes: &[u8]) -> Result<Keye
     ensures homes { IfOk result (λ k. k.list.n ≡ n) }
 {
     let key = Key::new(alloc, bytes)?;
-    let list = preference(alloc, ring, &key, n)?;
+    let list = list_of(alloc, ring, n, &key)?;
     Ok(Keyed { key, list })
 }
 

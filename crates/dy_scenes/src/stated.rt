@@ -95,14 +95,28 @@ impl<'a, J: Naming> Stated<'a, J> {
         requires { MayAsk J.ring J.n to ask.now }
         ensures { IsAnswerTo to ask.now result }
     {
-        let Ok(mut direct) = self.direct() else {
-            return Answer::NoAnswer;
-        };
-        direct.ask(rt, to, ask);
-        match direct.next_reply(rt) {
-            Some((_, _, answer)) => answer,
-            None => Answer::NoAnswer,
+        match self.direct() {
+            Ok(mut direct) => answered_over(rt, &mut direct, to, ask),
+            Err(_fault) => Answer::NoAnswer,
         }
+    }
+}
+
+// What the node answers at first, to the only ask.
+fn answered_over<J: Naming, R: Wait>(
+    rt: &R,
+    direct: &mut Direct<'_, J>,
+    to: NodeId,
+    ask: &Ask<'_, J>,
+) -> Answer<J>
+    requires fresh { direct.old ≡ nothing_told 1 }
+    requires may_ask { MayAsk J.ring J.n to ask.now }
+    ensures { IsAnswerTo to ask.now result }
+{
+    direct.ask(rt, to, ask);
+    match direct.next_reply(rt) {
+        Some((_, _, answer)) => answer,
+        None => Answer::NoAnswer,
     }
 }
 

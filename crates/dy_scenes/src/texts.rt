@@ -3,19 +3,30 @@
 use dy_book::{AckedAt, Audit};
 use dy_coord::{GetDone, GetFault, PutDone, PutFault};
 use dy_core::{Holding, Place};
-use dy_dots::{Dot, Fault};
+use dy_dots::{Context, Dot, Fault};
 use dy_handoff::Pass;
 use dy_shares::Naming;
 use dy_siblings::{Row, Value};
-use dy_transport::AnswerRead;
+use dy_transport::{AnswerKind, AnswerRead};
 use std::alloc::Global;
+
+// The place, behind a blank.
+pub fn write_place(alloc: Global, out: &mut String, place: Place) -> Result<(), Fault> {
+    out.push_str(format!(in alloc; " {}/{}", place.holder, place.home)?.as_str())?;
+    Ok(())
+}
+
+// The kind of an answer.
+fn write_kind(alloc: Global, out: &mut String, kind: AnswerKind) -> Result<(), Fault> {
+    out.push_str(format!(in alloc; "={kind}")?.as_str())?;
+    Ok(())
+}
 
 // Each answer that was read, in its order.
 fn write_answers(alloc: Global, out: &mut String, answers: &[AnswerRead]) -> Result<(), Fault> {
     for read in answers {
-        let at = read.place;
-        let text = format!(in alloc; " {}/{}={}", at.holder, at.home, read.kind)?;
-        out.push_str(text.as_str())?;
+        write_place(alloc, out, read.place)?;
+        write_kind(alloc, out, read.kind)?;
     }
     out.push_str("\n")?;
     Ok(())
@@ -51,7 +62,7 @@ pub fn write_put(
 // The places, each behind a blank.
 fn write_places(alloc: Global, out: &mut String, places: &[Place]) -> Result<(), Fault> {
     for place in places {
-        out.push_str(format!(in alloc; " {}/{}", place.holder, place.home)?.as_str())?;
+        write_place(alloc, out, *place)?;
     }
     Ok(())
 }
@@ -118,18 +129,34 @@ pub fn write_pass(
     Ok(())
 }
 
-// The dots of a row, behind what is said first.
-pub fn write_row(alloc: Global, out: &mut String, first: &str, row: &Row) -> Result<(), Fault> {
-    let dots = row.dots(alloc)?;
-    out.push_str(format!(in alloc; "{first} {dots}\n")?.as_str())?;
+// The dots of a row, behind a blank.
+fn write_dots(alloc: Global, out: &mut String, dots: &Context) -> Result<(), Fault> {
+    out.push_str(format!(in alloc; " {dots}\n")?.as_str())?;
     Ok(())
+}
+
+// A line on what is kept at a place, behind what is said first.
+pub fn write_row(
+    alloc: Global,
+    out: &mut String,
+    first: &str,
+    place: Place,
+    row: &Row,
+) -> Result<(), Fault> {
+    out.push_str(first)?;
+    write_place(alloc, out, place)?;
+    let dots = row.dots(alloc)?;
+    write_dots(alloc, out, &dots)
 }
 
 // A line on each place of what is held.
 fn write_held(alloc: Global, out: &mut String, held: &[Holding]) -> Result<(), Fault> {
     for holding in held {
-        let start = format!(in alloc; "held {}/{}", holding.holder, holding.home)?;
-        write_row(alloc, out, start.as_str(), &holding.row)?;
+        let place = Place {
+            holder: holding.holder,
+            home: holding.home,
+        };
+        write_row(alloc, out, "held", place, &holding.row)?;
     }
     Ok(())
 }
@@ -143,6 +170,12 @@ fn write_acked(alloc: Global, out: &mut String, acked: &[AckedAt]) -> Result<(),
         write_places(alloc, out, told.places.as_slice())?;
         out.push_str("\n")?;
     }
+    Ok(())
+}
+
+// What a transport listed.
+pub fn write_list(alloc: Global, out: &mut String, list: &str) -> Result<(), Fault> {
+    out.push_str(format!(in alloc; "listed{list}\n")?.as_str())?;
     Ok(())
 }
 

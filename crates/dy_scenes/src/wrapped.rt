@@ -1,5 +1,7 @@
-//! A transport that wraps `Direct`. It lists by itself what came of each begin, and each answer that
-//! was read; and something else may be done while the call is under way.
+//! A transport that wraps `Direct`. It lists by itself what came of each begin, and each answer
+//! that was read; and something else may be done while the call is under way.
+ghost use Rattle.std.specs.Prelude.{◌≡◌, IfOk};
+ghost use Rattle.dy_transport.specs.Told.{nothing_told};
 
 use crate::handovers::{Between, after_an_offer, before_a_record};
 use crate::stages::Stage;
@@ -18,6 +20,23 @@ pub struct Wrapped<'a, J: Naming> {
     pub direct: Direct<'a, J>,
     pub between: Between,
     pub list: String,
+}
+
+// The transport of one call.
+pub fn wrapped_on<'a, J: Naming>(
+    stage: &'a Stage<'a, J>,
+    between: Between,
+) -> Result<Wrapped<'a, J>, Fault>
+    ensures { IfOk result (λ wrapped. wrapped.direct ≡ nothing_told 32) }
+{
+    let direct = Direct::new(stage.alloc, stage.nodes, stage.book, 32)?;
+    let list = String::new(stage.alloc);
+    Ok(Wrapped {
+        stage,
+        direct,
+        between,
+        list,
+    })
 }
 
 // Lists what came of a begin.
