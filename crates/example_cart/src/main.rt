@@ -1,0 +1,41 @@
+//! A cart that three shoppers fill at once, while nodes go down and come back.
+#![tactic(auto)]
+
+mod carts;
+mod shoppers;
+
+use crate::carts::{Cart, text_of, unite};
+use crate::shoppers::Shoppers;
+use dy_book::Options;
+use dy_cluster::with_clients;
+use dy_dots::Fault;
+use dy_ring::Ring;
+use std::alloc::Global;
+use std::sync::Wait;
+use std::thread::Threads;
+
+fn main(rt: HostRuntime) -> std::io::Result<()> {
+    match shop(&rt, rt.alloc()) {
+        Ok((acked, cart)) => println!(rt; "{acked} puts acknowledged, cart: {cart}"),
+        Err(fault) => println!(rt; "refused: {fault}"),
+    }
+}
+
+/// How many puts were acknowledged, and all that the nodes hold of the cart at the end.
+fn shop<R: Threads + Wait + Sync>(rt: &R, alloc: Global) -> Result<(usize, String), Fault> {
+    let ring = Ring::derived(alloc, 5, 8)?;
+    let options = Options {
+        n: 3,
+        r: 2,
+        w: 2,
+        counter_limit: 100,
+        versions_limit: 100,
+        steps_limit: 10_000,
+    };
+    let closed = with_clients(rt, alloc, ring, options, 3, &Shoppers)?;
+    let mut cart = Cart::new(alloc);
+    for holding in &closed.audit.held {
+        unite(alloc, &mut cart, &holding.row)?;
+    }
+    Ok((closed.audit.acked.len(), text_of(alloc, &cart)?))
+}
