@@ -1,9 +1,11 @@
 -- How the outcome of a command comes from what a cluster's call answered.
-use Rattle.std.specs.Prelude.{◌≡◌, ◌≢◌, ◌⊎◌, ℕ, List, map, Option, None, Result, Ok, Err}
+use Rattle.std.specs.Prelude.{◌≡◌, ◌≢◌, ◌≤◌, ◌⊎◌, ℕ, List, map, Option, None, Result, Ok, Err}
 use Rattle.std.specs.Prelude.{IfOk, IfErr, OnErr}
+use Rattle.std.specs.declared.alloc.Global.{Global}
+use Rattle.std.specs.declared.vec.Vec.{Vec}
 use Rattle.dy_dots.specs.Dots.{DotSet}
 use Rattle.dy_dots.specs.declared.faults.Fault.{Fault}
-use Rattle.dy_dots.specs.declared.faults.Fault.TheVariants.{NotEnough, OutOfMemory}
+use Rattle.dy_dots.specs.declared.faults.Fault.TheVariants.{Down, NotEnough, OutOfMemory}
 use Rattle.dy_dots.specs.declared.nodes.TheConstants.{MAX_NODES}
 use Rattle.dy_siblings.specs.Siblings.{Siblings, own_dots}
 use Rattle.dy_preference.specs.Preferences.{Preferred}
@@ -20,7 +22,7 @@ use Rattle.dy_handoff.specs.declared.counts.Pass.{Pass}
 use Rattle.dy_lines.specs.declared.keeping.Kept.{Kept}
 use Rattle.dy_lines.specs.declared.outcomes.Outcome.{Outcome}
 use Rattle.dy_lines.specs.declared.outcomes.Outcome.TheVariants.{Stored, Read, Lacking, Refused}
-use Rattle.dy_lines.specs.declared.outcomes.Outcome.TheVariants.{Delivered, HandedOver}
+use Rattle.dy_lines.specs.declared.outcomes.Outcome.TheVariants.{Delivered, HandedOver, Shown}
 use Rattle.dy_lines.specs.declared.outcomes.Word.{Word}
 use Rattle.dy_lines.specs.declared.outcomes.Word.TheVariants as word
 
@@ -45,6 +47,30 @@ pass_outcome (Err f) = Refused word.Handoff f None
 -- what is kept of a row: its home, and the versions' own dots
 abbrev pub kept_row : ℕ × Siblings → Kept
 kept_row row = record { home = row.0; dots = own_dots row.1.versions }
+
+-- the outcome tells what a delivery answered
+abbrev pub IsDeliveryTold : Outcome → Type 0
+IsDeliveryTold outcome = (answer : Result ℕ Fault) × (outcome ≡ delivery_outcome answer)
+
+-- the outcome tells what a pass answered: it stored no more than it offered, or it was refused for
+-- a node that is down, or for memory
+pub record IsPassTold (outcome : Outcome) : Type 0 where
+  pub answer : Result Pass Fault
+  pub fewer : IfOk answer (λ pass. pass.stored ≤ pass.offers)
+  pub only : IfErr answer (λ f. (f ≡ Down) ⊎ (f ≡ OutOfMemory))
+  pub tells : outcome ≡ pass_outcome answer
+
+-- the outcome tells some rows, as those of this node
+pub record TellsRows (number : ℕ) (outcome : Outcome) : Type 0 where
+  pub rows : List (ℕ × Siblings)
+  pub kept : Vec Kept Global
+  pub kept_are : kept.items ≡ map kept_row rows
+  pub tells : outcome ≡ Shown number kept
+
+-- the outcome tells rows of this node, or a refusal
+abbrev pub IsShowTold : ℕ → Outcome → Type 0
+IsShowTold number outcome =
+    TellsRows number outcome ⊎ ((f : Fault) × (outcome ≡ Refused word.Show f None))
 
 module _ {J : Type 0} where
   -- the outcome tells the answer of a get: its context, whose rows it used, and the merged row, or

@@ -1,6 +1,8 @@
 // What a command does at one node.
-ghost use Rattle.std.specs.Prelude.{◌≡◌, ◌<◌, ◌↔◌, None, IfOk, IsOkUnless, IfSome, IsSome, map};
+ghost use Rattle.std.specs.Prelude.{◌≡◌, ◌<◌, ◌↔◌, None, IfOk, IsOkUnless, IfSome, IsSome, List, map, ℕ};
 ghost use Rattle.dy_dots.specs.declared.nodes.TheConstants.{MAX_NODES};
+ghost use Rattle.dy_siblings.specs.Siblings.{Siblings};
+ghost use Rattle.dy_runner.specs.Answers.{IsDeliveryTold, IsPassTold, IsShowTold};
 ghost use Rattle.dy_runner.specs.Answers.{delivery_outcome, kept_row, pass_outcome};
 ghost use Rattle.dy_runner.specs.Modes.{node_mode};
 
@@ -71,7 +73,9 @@ pub(crate) fn run_deliver<J: Naming, R: Wait>(
     rt: &R,
     cluster: &Cluster<J>,
     number: usize,
-) -> Outcome {
+) -> Outcome
+    ensures { IsDeliveryTold result }
+{
     match node_of(number) {
         Some(node) => delivered(cluster.deliver(rt, node)),
         None => refused(Word::Deliver, Fault::Down),
@@ -93,7 +97,9 @@ pub(crate) fn run_handoff<J: Naming, R: Wait>(
     rt: &R,
     cluster: &Cluster<J>,
     number: usize,
-) -> Outcome {
+) -> Outcome
+    ensures { IsPassTold result }
+{
     match node_of(number) {
         Some(node) => handed_over(cluster.handoff(rt, node)),
         None => refused(Word::Handoff, Fault::Down),
@@ -121,7 +127,9 @@ pub(crate) fn run_show<J: Naming, R: Wait>(
     cluster: &Cluster<J>,
     number: usize,
     key: &str,
-) -> Outcome {
+) -> Outcome
+    ensures { IsShowTold number result }
+{
     let Some(node) = node_of(number) else {
         return refused(Word::Show, Fault::Down);
     };
@@ -138,10 +146,14 @@ fn shown<J: Naming, R: Wait>(
     cluster: &Cluster<J>,
     node: NodeId,
     key: &str,
-) -> Result<Vec<Kept>, Fault> {
+) -> Result<Vec<Kept>, Fault>
+    ensures { IfOk result (λ kept. (rows : List (ℕ × Siblings))
+        × (kept.items ≡ map kept_row rows)) }
+{
     let key = Key::new(alloc, key.as_bytes())?;
     let rows = cluster.show(rt, node, &key)?;
-    kept_of(alloc, rows.as_slice())
+    let kept = kept_of(alloc, rows.as_slice())?;
+    Ok(kept)
 }
 
 // The dots of each row, with its home.

@@ -1,0 +1,22 @@
+use Rattle.std.specs.Prelude.{Err, refl}
+use Rattle.std.proofs.Common.{inl}
+use Rattle.dy_dots.specs.declared.faults.Fault.TheVariants.{Down}
+use Rattle.dy_runner.proofs.outages.run_handoff.Goals as goal
+
+-- what the cluster answered
+pub returns-in-Some : goal.returns-in-Some
+returns-in-Some g c = record {
+  answer = c.handoff.result;
+  fewer = c.handoff.ensures.fewer;
+  only = c.handoff.ensures.only;
+  tells = c.handed_over.ensures;
+}
+
+-- a node that there can't be is down
+pub returns-in-None : goal.returns-in-None
+returns-in-None g c = record {
+  answer = Err Down;
+  fewer = tt;
+  only = inl refl;
+  tells = c.refused.ensures;
+}
