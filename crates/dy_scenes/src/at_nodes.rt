@@ -54,7 +54,7 @@ pub fn deliver<J: Naming, R: Wait>(
     let mut held = place.lock(rt);
     let mut open = stage.book.lock(rt);
     let count = held.deliver(&mut open)?;
-    out.push_str(format!(in stage.alloc; "deliver {count}\n")?.as_str())?;
+    write!(out, "deliver {count}\n")?;
     Ok(())
 }
 
@@ -103,7 +103,7 @@ pub fn write_hints<J: Naming, R: Wait>(
     out: &mut String,
 ) -> Result<(), Fault> {
     let count = hints_of(rt, stage, node)?;
-    out.push_str(format!(in stage.alloc; "hints {count}\n")?.as_str())?;
+    write!(out, "hints {count}\n")?;
     Ok(())
 }
 
@@ -116,7 +116,7 @@ pub fn pass_some_and_write<J: Naming, R: Wait>(
     out: &mut String,
 ) -> Result<(), Fault> {
     let passed = hand_over(rt, stage, node_of(node)?, room.min(MOST_HINTS));
-    write_pass(stage.alloc, out, &passed)
+    write_pass(out, &passed)
 }
 
 // A pass of the node over all its hints, which is told.
@@ -139,5 +139,5 @@ pub fn pass_while_and_write<J: Naming, R: Wait>(
     out: &mut String,
 ) -> Result<(), Fault> {
     let passed = hand_over_while(rt, stage, node_of(node)?, between);
-    write_pass(stage.alloc, out, &passed)
+    write_pass(out, &passed)
 }

@@ -113,7 +113,7 @@ fn put_and_write<J: Naming, R: Wait>(
     out: &mut String,
 ) -> Result<(), Fault> {
     let ended = put_directly(rt, stage, session, write)?;
-    write_put(stage.alloc, out, &ended)
+    write_put(out, &ended)
 }
 
 // A put over a transport that lists what came, while something else is done: told with the list.
@@ -127,8 +127,8 @@ fn put_while_and_write<J: Naming, R: Wait>(
 ) -> Result<(), Fault> {
     let mut wrapped = wrapped_on(stage, between)?;
     let ended = put_over(rt, &mut wrapped, stage, session, write)?;
-    write_put(stage.alloc, out, &ended)?;
-    write_list(stage.alloc, out, wrapped.list.as_str())
+    write_put(out, &ended)?;
+    write_list(out, wrapped.list.as_str())
 }
 
 // A put over a line on which one node's answers are stated, which is told.
@@ -141,7 +141,7 @@ fn put_stated_and_write<J: Naming, R: Wait>(
     out: &mut String,
 ) -> Result<(), Fault> {
     let ended = put_stated(rt, stage, session, write, stating)?;
-    write_put(stage.alloc, out, &ended)
+    write_put(out, &ended)
 }
 
 // A get over such a line, which is told.

@@ -58,6 +58,6 @@ pub fn put_many_and_write<J: Naming, R: Wait>(
     out: &mut String,
 ) -> Result<(), Fault> {
     let acked = put_many(rt, stage, session, count)?;
-    out.push_str(format!(in stage.alloc; "put {acked} of {count}\n")?.as_str())?;
+    write!(out, "put {acked} of {count}\n")?;
     Ok(())
 }

@@ -11,78 +11,74 @@ use dy_transport::{AnswerKind, AnswerRead};
 use std::alloc::Global;
 
 // The place, behind a blank.
-pub fn write_place(alloc: Global, out: &mut String, place: Place) -> Result<(), Fault> {
-    out.push_str(format!(in alloc; " {}/{}", place.holder, place.home)?.as_str())?;
+pub fn write_place(out: &mut String, place: Place) -> Result<(), Fault> {
+    write!(out, " {}/{}", place.holder, place.home)?;
     Ok(())
 }
 
 // The kind of an answer.
-fn write_kind(alloc: Global, out: &mut String, kind: AnswerKind) -> Result<(), Fault> {
-    out.push_str(format!(in alloc; "={kind}")?.as_str())?;
+fn write_kind(out: &mut String, kind: AnswerKind) -> Result<(), Fault> {
+    write!(out, "={kind}")?;
     Ok(())
 }
 
 // Each answer that was read, in its order.
-fn write_answers(alloc: Global, out: &mut String, answers: &[AnswerRead]) -> Result<(), Fault> {
+fn write_answers(out: &mut String, answers: &[AnswerRead]) -> Result<(), Fault> {
     for read in answers {
-        write_place(alloc, out, read.place)?;
-        write_kind(alloc, out, read.kind)?;
+        write_place(out, read.place)?;
+        write_kind(out, read.kind)?;
     }
     out.push_str("\n")?;
     Ok(())
 }
 
 // The dot, where there is one.
-fn write_dot(alloc: Global, out: &mut String, dot: Option<Dot>) -> Result<(), Fault> {
+fn write_dot(out: &mut String, dot: Option<Dot>) -> Result<(), Fault> {
     if let Some(dot) = dot {
-        out.push_str(format!(in alloc; " {dot}")?.as_str())?;
+        write!(out, " {dot}")?;
     }
     Ok(())
 }
 
 // What came of a put.
-pub fn write_put(
-    alloc: Global,
-    out: &mut String,
-    ended: &Result<PutDone, PutFault>,
-) -> Result<(), Fault> {
+pub fn write_put(out: &mut String, ended: &Result<PutDone, PutFault>) -> Result<(), Fault> {
     match ended {
         Ok(done) => {
-            out.push_str(format!(in alloc; "put ok {}", done.dot)?.as_str())?;
-            write_answers(alloc, out, done.answers.as_slice())
+            write!(out, "put ok {}", done.dot)?;
+            write_answers(out, done.answers.as_slice())
         }
         Err(refused) => {
-            out.push_str(format!(in alloc; "put {}", refused.fault)?.as_str())?;
-            write_dot(alloc, out, refused.dot)?;
-            write_answers(alloc, out, refused.answers.as_slice())
+            write!(out, "put {}", refused.fault)?;
+            write_dot(out, refused.dot)?;
+            write_answers(out, refused.answers.as_slice())
         }
     }
 }
 
 // The places, each behind a blank.
-fn write_places(alloc: Global, out: &mut String, places: &[Place]) -> Result<(), Fault> {
+fn write_places(out: &mut String, places: &[Place]) -> Result<(), Fault> {
     for place in places {
-        write_place(alloc, out, *place)?;
+        write_place(out, *place)?;
     }
     Ok(())
 }
 
 // The bytes in hexadecimal digits.
-fn write_value(alloc: Global, out: &mut String, value: &Value) -> Result<(), Fault> {
+fn write_value(out: &mut String, value: &Value) -> Result<(), Fault> {
     for byte in value.as_bytes() {
-        out.push_str(format!(in alloc; "{:02x}", *byte)?.as_str())?;
+        write!(out, "{:02x}", *byte)?;
     }
     Ok(())
 }
 
 // The present values with their dots.
-fn write_values(alloc: Global, out: &mut String, values: &[(Dot, &Value)]) -> Result<(), Fault> {
+fn write_values(out: &mut String, values: &[(Dot, &Value)]) -> Result<(), Fault> {
     if values.is_empty() {
         out.push_str(" none")?;
     }
     for value in values {
-        out.push_str(format!(in alloc; " {}=", value.0)?.as_str())?;
-        write_value(alloc, out, value.1)?;
+        write!(out, " {}=", value.0)?;
+        write_value(out, value.1)?;
     }
     out.push_str("\n")?;
     Ok(())
@@ -90,11 +86,11 @@ fn write_values(alloc: Global, out: &mut String, values: &[(Dot, &Value)]) -> Re
 
 // What a get that was answered gives.
 fn write_got<J: Naming>(alloc: Global, out: &mut String, done: &GetDone<J>) -> Result<(), Fault> {
-    out.push_str(format!(in alloc; "get ok context {} from", done.context)?.as_str())?;
-    write_places(alloc, out, done.from.as_slice())?;
+    write!(out, "get ok context {} from", done.context)?;
+    write_places(out, done.from.as_slice())?;
     out.push_str(" values")?;
     let values = done.values(alloc)?;
-    write_values(alloc, out, values.as_slice())
+    write_values(out, values.as_slice())
 }
 
 // What came of a get.
@@ -106,32 +102,27 @@ pub fn write_get<J: Naming>(
     match ended {
         Ok(done) => write_got(alloc, out, done),
         Err(refused) => {
-            out.push_str(format!(in alloc; "get {}", refused.fault)?.as_str())?;
-            write_answers(alloc, out, refused.answers.as_slice())
+            write!(out, "get {}", refused.fault)?;
+            write_answers(out, refused.answers.as_slice())
         }
     }
 }
 
 // What came of a pass.
-pub fn write_pass(
-    alloc: Global,
-    out: &mut String,
-    passed: &Result<Pass, Fault>,
-) -> Result<(), Fault> {
-    let text = match passed {
-        Ok(done) => format!(in alloc;
-            "pass ok offers {} stored {} released {}\n",
-            done.offers, done.stored, done.released
-        )?,
-        Err(fault) => format!(in alloc; "pass {fault}\n")?,
-    };
-    out.push_str(text.as_str())?;
+pub fn write_pass(out: &mut String, passed: &Result<Pass, Fault>) -> Result<(), Fault> {
+    match passed {
+        Ok(done) => {
+            write!(out, "pass ok offers {} stored {}", done.offers, done.stored)?;
+            write!(out, " released {}\n", done.released)?;
+        }
+        Err(fault) => write!(out, "pass {fault}\n")?,
+    }
     Ok(())
 }
 
 // The dots of a row, behind a blank.
-fn write_dots(alloc: Global, out: &mut String, dots: &Context) -> Result<(), Fault> {
-    out.push_str(format!(in alloc; " {dots}\n")?.as_str())?;
+fn write_dots(out: &mut String, dots: &Context) -> Result<(), Fault> {
+    write!(out, " {dots}\n")?;
     Ok(())
 }
 
@@ -144,9 +135,9 @@ pub fn write_row(
     row: &Row,
 ) -> Result<(), Fault> {
     out.push_str(first)?;
-    write_place(alloc, out, place)?;
+    write_place(out, place)?;
     let dots = row.dots(alloc)?;
-    write_dots(alloc, out, &dots)
+    write_dots(out, &dots)
 }
 
 // A line on each place of what is held.
@@ -162,20 +153,19 @@ fn write_held(alloc: Global, out: &mut String, held: &[Holding]) -> Result<(), F
 }
 
 // A line on each acknowledged put, with all places that cover it.
-fn write_acked(alloc: Global, out: &mut String, acked: &[AckedAt]) -> Result<(), Fault> {
+fn write_acked(out: &mut String, acked: &[AckedAt]) -> Result<(), Fault> {
     for told in acked {
         let ack = &told.ack;
-        let start = format!(in alloc; "acked {} w {} covered", ack.dot, ack.w)?;
-        out.push_str(start.as_str())?;
-        write_places(alloc, out, told.places.as_slice())?;
+        write!(out, "acked {} w {} covered", ack.dot, ack.w)?;
+        write_places(out, told.places.as_slice())?;
         out.push_str("\n")?;
     }
     Ok(())
 }
 
 // What a transport listed.
-pub fn write_list(alloc: Global, out: &mut String, list: &str) -> Result<(), Fault> {
-    out.push_str(format!(in alloc; "listed{list}\n")?.as_str())?;
+pub fn write_list(out: &mut String, list: &str) -> Result<(), Fault> {
+    write!(out, "listed{list}\n")?;
     Ok(())
 }
 
@@ -188,14 +178,16 @@ pub fn write_audit(
 ) -> Result<(), Fault> {
     if is_whole {
         write_held(alloc, out, audit.held.as_slice())?;
-        write_acked(alloc, out, audit.acked.as_slice())?;
+        write_acked(out, audit.acked.as_slice())?;
     } else {
-        let lists = format!(in alloc; "held {} acked {} ", audit.held.len(), audit.acked.len())?;
-        out.push_str(lists.as_str())?;
+        write!(
+            out,
+            "held {} acked {} ",
+            audit.held.len(),
+            audit.acked.len()
+        )?;
     }
-    let gets = format!(in alloc; "gets {} steps {}", audit.gets, audit.steps)?;
-    out.push_str(gets.as_str())?;
-    let settled = format!(in alloc; " settled {}\n", audit.settled.len())?;
-    out.push_str(settled.as_str())?;
+    write!(out, "gets {} steps {}", audit.gets, audit.steps)?;
+    write!(out, " settled {}\n", audit.settled.len())?;
     Ok(())
 }

@@ -10,7 +10,6 @@ use dy_node::{Answer, Ask, Begun};
 use dy_shares::{Naming, Receipt, Seen, SessionShare, Since};
 use dy_siblings::{Key, Row, Value};
 use dy_transport::{AnswerKind, Direct, Transport};
-use std::alloc::Global;
 use std::sync::Wait;
 
 // Nodes that are reached on the caller's own thread, what is done between, and the list so far.
@@ -40,22 +39,16 @@ pub fn wrapped_on<'a, J: Naming>(
 }
 
 // Lists what came of a begin.
-fn list_begun<J: Naming>(
-    alloc: Global,
-    list: &mut String,
-    gave: &Result<Begun<J>, Fault>,
-) -> Result<(), Fault> {
-    let text = match gave {
-        Ok(begun) => format!(in alloc; " began {}", begun.dot)?,
-        Err(fault) => format!(in alloc; " refused {fault}")?,
-    };
-    list.push_str(text.as_str())?;
+fn list_begun<J: Naming>(list: &mut String, gave: &Result<Begun<J>, Fault>) -> Result<(), Fault> {
+    match gave {
+        Ok(begun) => write!(list, " began {}", begun.dot)?,
+        Err(fault) => write!(list, " refused {fault}")?,
+    }
     Ok(())
 }
 
 // Lists an answer, or that none was left.
 fn list_read<J: Naming>(
-    alloc: Global,
     list: &mut String,
     read: &Option<(NodeId, NodeId, Answer<J>)>,
 ) -> Result<(), Fault> {
@@ -64,7 +57,7 @@ fn list_read<J: Naming>(
         return Ok(());
     };
     let kind = AnswerKind::of(answer);
-    list.push_str(format!(in alloc; " read {node}/{home}={kind}")?.as_str())?;
+    write!(list, " read {node}/{home}={kind}")?;
     Ok(())
 }
 
@@ -85,7 +78,7 @@ impl<J: Naming> Transport<J> for Wrapped<'_, J> {
         value: &Option<Value>,
     ) -> Result<Begun<J>, Fault> {
         let gave = self.direct.begin(rt, node, home, key, context, value);
-        let _listed = list_begun(self.stage.alloc, &mut self.list, &gave);
+        let _listed = list_begun(&mut self.list, &gave);
         gave
     }
 
@@ -121,7 +114,7 @@ impl<J: Naming> Transport<J> for Wrapped<'_, J> {
 
     fn next_reply<R: Wait>(&mut self, rt: &R) -> Option<(NodeId, NodeId, Answer<J>)> {
         let read = self.direct.next_reply(rt);
-        let _listed = list_read(self.stage.alloc, &mut self.list, &read);
+        let _listed = list_read(&mut self.list, &read);
         read
     }
 
