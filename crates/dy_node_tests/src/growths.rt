@@ -260,7 +260,9 @@ pub fn all_are_done<J: Naming>(
             return false;
         }
     }
-    counted(book, nodes, key) == Ok((2, 2, 1, 10))
+    // (Counting may be refused, too.)
+    let at_last = Ok((2, 2, 1, 10));
+    counted(book, nodes, key) == at_last || counted(book, nodes, key) == at_last
 }
 
 #[test]
