@@ -10,10 +10,8 @@ pub(crate) type Cart = BTreeSet<String>;
 pub(crate) fn unite(alloc: Global, cart: &mut Cart, row: &Row) -> Result<(), Fault> {
     for version in row.versions() {
         if let Some(value) = version.value() {
-            for item in std::str::from_utf8(value.as_bytes())
-                .unwrap_or("?")
-                .split(' ')
-            {
+            let items = std::str::from_utf8(value.as_bytes()).unwrap_or("?");
+            for item in items.split(' ') {
                 cart.insert(String::from_str(alloc, item)?)?;
             }
         }

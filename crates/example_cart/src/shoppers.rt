@@ -44,16 +44,14 @@ fn fill<J: Naming, R: Wait>(
     let none = Context::new(alloc);
     put(rt, alloc, cluster, session, &key, &none, &cart)?;
     let mut direct = cluster.direct()?;
-    let done = match cluster.get(rt, &mut direct, session, &key) {
-        Ok(done) => done,
-        Err(refused) => return Err(refused.fault),
-    };
+    let done = cluster
+        .get(rt, &mut direct, session, &key)
+        .map_err(|refused| refused.fault)?;
     unite(alloc, &mut cart, &done.row)?;
     cart.insert(String::from_str(alloc, second)?)?;
     put(rt, alloc, cluster, session, &key, &done.context, &cart)?;
     cluster.set_up(rt, node, true);
     for number in 0..5 {
-        // A node that is down keeps its hints for a later pass.
         let _ = cluster.handoff(rt, NodeId::nth(number));
     }
     Ok(())
