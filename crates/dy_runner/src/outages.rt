@@ -1,5 +1,6 @@
 // What a command does at one node.
-ghost use Rattle.std.specs.Prelude.{◌≡◌, ◌<◌, ◌↔◌, None, IfOk, IsOkUnless, IfSome, IsSome, List, map, ℕ};
+ghost use Rattle.std.specs.Prelude.{◌≡◌, ◌<◌, ◌↔◌, None, IfOk, IsOkUnless, IfSome, IsSome};
+ghost use Rattle.std.specs.Prelude.{List, map, ℕ};
 ghost use Rattle.dy_dots.specs.declared.nodes.TheConstants.{MAX_NODES};
 ghost use Rattle.dy_siblings.specs.Siblings.{Siblings};
 ghost use Rattle.dy_runner.specs.Answers.{IsDeliveryTold, IsPassTold, IsShowTold};
