@@ -1,0 +1,37 @@
+-- What is asked, on its way: copies, and what they are held against.
+use Rattle.std.specs.Prelude.{◌≡◌, ℕ, IsTrue, Option, None, Some}
+use Rattle.dy_ring.specs.Rings.{Tokens}
+use Rattle.dy_preference.specs.Preferences.{homes_of, may_hold}
+use Rattle.dy_node.specs.declared.asks.Ask.{Ask}
+use Rattle.dy_transport.specs.Asking.{home_of, what_of}
+use Rattle.dy_transport.specs.declared.asked.What.{What}
+use Rattle.dy_transport.specs.declared.asked.What.TheVariants as what
+use Rattle.dy_mailboxes.specs.declared.parcels.Parcel.{Parcel}
+use Rattle.dy_mailboxes.specs.declared.parcels.Parcel.TheVariants.{Store, Fetch}
+
+module _ {J : Type 0} where
+  -- the home that a copy names
+  abbrev pub home_in : Parcel J → ℕ
+  home_in (Store home row) = home
+  home_in (Fetch home key since) = home
+
+  -- the copy is of what is asked
+  abbrev pub IsCopy : What → Parcel J → Type 0
+  IsCopy (what.Store row) (Store home copy) = row.value ≡ copy
+  IsCopy (what.Store row) (Fetch home key since) = ⊥
+  IsCopy (what.Fetch key since) (Store home row) = ⊥
+  IsCopy (what.Fetch key since) (Fetch home copy same) = (key.value ≡ copy) × (since ≡ same)
+
+  -- the copy is of the ask
+  abbrev pub IsParcelOf : Ask J → Parcel J → Type 0
+  IsParcelOf ask parcel = (home_of ask ≡ home_in parcel) × IsCopy (what_of ask) parcel
+
+  -- what was kept of an ask is a copy of it, where there was memory for one
+  abbrev pub IsKept : What → Option (Parcel J) → Type 0
+  IsKept w None = Unit {0}
+  IsKept w (Some parcel) = IsCopy w parcel
+
+  -- the node may hold what a copy carries
+  abbrev pub MayCarry : Tokens → ℕ → ℕ → Parcel J → Type 0
+  MayCarry ring n node (Store home row) = IsTrue (may_hold (homes_of ring n row.key) node home)
+  MayCarry ring n node (Fetch home key since) = Unit {0}

@@ -1,0 +1,2 @@
+-- What contracts of private functions and invariants alone speak of.
+pub mod Sheets

@@ -1,0 +1,18 @@
+use dy_dots::NodeId;
+use dy_node::Ask;
+use dy_shares::Naming;
+
+/// What a worker passes with an ask, before it takes a lock. A scene may wait there.
+pub trait Gate {
+    /// Passes once the node may answer the ask.
+    fn pass<J: Naming>(&self, node: NodeId, ask: &Ask<'_, J>);
+}
+
+/// Lets every ask pass.
+pub struct Open;
+
+impl Gate for Open {
+    fn pass<J: Naming>(&self, node: NodeId, ask: &Ask<'_, J>) {
+        let _ = (node, ask);
+    }
+}

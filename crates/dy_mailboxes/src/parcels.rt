@@ -1,0 +1,91 @@
+ghost use Rattle.std.specs.Prelude.{◌≡◌, ℕ, IfOk, IsOkUnless};
+ghost use Rattle.dy_node.specs.Answers.{MayAsk};
+ghost use Rattle.dy_transport.specs.Asking.{home_of};
+ghost use Rattle.dy_mailboxes.specs.Parcels.{IsParcelOf, MayCarry};
+
+use crate::ends::Outbox;
+use dy_dots::{Fault, NodeId};
+use dy_node::{Answer, Ask};
+use dy_shares::{Naming, Since};
+use dy_siblings::{Key, Row};
+use std::alloc::Global;
+
+/// What is asked, on its way: a copy of its own.
+#[derive(Drop)]
+pub enum Parcel<J: Naming> {
+    /// To hold the row for the home.
+    Store {
+        home: NodeId,
+        row: Row,
+    },
+    /// What is kept of the key for the home.
+    Fetch {
+        home: NodeId,
+        key: Key,
+        since: Since<J>,
+    },
+}
+
+impl<J: Naming> Parcel<J> {
+    /// A copy of what is asked.
+    pub fn new(alloc: Global, ask: &Ask<'_, J>) -> Result<Parcel<J>, Fault>
+        ensures value { IfOk result (λ parcel. IsParcelOf ask.now parcel) }
+        ensures memory { IsOkUnless result Fault.OutOfMemory }
+    {
+        match ask {
+            Ask::Store { home, row } => Ok(Parcel::Store {
+                home: *home,
+                row: row.try_clone(alloc)?,
+            }),
+            Ask::Fetch { home, key, since } => Ok(Parcel::Fetch {
+                home: *home,
+                key: key.try_clone(alloc)?,
+                since: since.copied(),
+            }),
+        }
+    }
+
+    /// What is asked. Takes no memory.
+    pub fn ask(&self) -> Ask<'_, J>
+        ensures value { IsParcelOf result self.now }
+        ensures may_ask { (to : ℕ) → MayCarry J.ring J.n to self.now → MayAsk J.ring J.n to result }
+    {
+        match self {
+            Parcel::Store { home, row } => Ask::Store { home: *home, row },
+            Parcel::Fetch { home, key, since } => Ask::Fetch {
+                home: *home,
+                key,
+                since,
+            },
+        }
+    }
+}
+
+// The home that an ask is for.
+pub(crate) fn home_asked<J: Naming>(ask: &Ask<'_, J>) -> NodeId
+    ensures { result ≡ home_of ask.now }
+{
+    match ask {
+        Ask::Store { home, row: _ } => *home,
+        Ask::Fetch { home, .. } => *home,
+    }
+}
+
+/// An ask on its way to a node that may hold what it carries: the number that it has among the asks
+/// of its call, from 0, and where its answers go.
+#[derive(Drop)]
+pub struct Posted<J: Naming> {
+    pub number: usize,
+    pub to: NodeId,
+    pub parcel: Parcel<J>,
+    pub back: Outbox<Answered<J>>,
+    ghost may_carry: { MayCarry J.ring J.n to parcel },
+}
+
+/// An answer on its way back, with the number of its ask. None comes after the last one to an ask.
+#[derive(Drop)]
+pub struct Answered<J: Naming> {
+    pub number: usize,
+    pub answer: Answer<J>,
+    pub is_last: bool,
+}

@@ -1,0 +1,215 @@
+ghost use Rattle.std.specs.Prelude.{◌≡◌, ◌<◌, ◌*◌, ◌^◌, ℕ, length, get_or, IfOk, IfNone, IfSome};
+ghost use Rattle.std.specs.Prelude.{IsOkUnless};
+ghost use Rattle.dy_node.specs.declared.asks.Answer.TheVariants.{NoAnswer};
+ghost use Rattle.dy_transport.specs.Asking.{what_of};
+ghost use Rattle.dy_transport.specs.Told.{nothing_told, with_ask, with_none, with_reply};
+ghost use Rattle.dy_transport.specs.Told.{AllAnswered, Answers, IsAwaited};
+ghost use Rattle.dy_mailboxes.specs.Parcels.{IsKept};
+
+use crate::parcels::{Answered, Parcel, home_asked};
+use crate::sent::Sent;
+use dy_dots::{Fault, NodeId};
+use dy_node::{Answer, Ask};
+use dy_shares::Naming;
+use dy_transport::Trail;
+use std::alloc::Global;
+use std::marker::Model;
+
+/// What is told of one call's asks, with what each answer is held against, and how many answers to
+/// each ask may still be handed on: two at first, one where the first said that nothing came.
+#[derive(Drop)]
+pub struct Sheet<J: Naming> {
+    trail: Trail<J>,
+    sent: Vec<Sent<J>>,
+    left: Vec<u8>,
+}
+
+impl<J: Naming> Model for Sheet<J> {
+    ghost use Rattle.std.specs.Prelude.{◌≤◌, vec_capacity};
+    ghost use Rattle.std.specs.Coded.{codes};
+    ghost use Rattle.dy_dots.specs.Dots.{dot_set_code};
+    ghost use Rattle.dy_siblings.specs.Siblings.{siblings_code};
+    ghost use Rattle.dy_shares.specs.Shares.{answer_code, receipt_parts_code as receipt_code};
+    ghost use Rattle.dy_transport.specs.Told.{Told};
+    ghost use Rattle.dy_mailboxes.specs.inside.Sheets.{IsSheet};
+
+    ghost Value = { Told J };
+
+    ghost coded = { Prim.hlevel (codes, dot_set_code, siblings_code, receipt_code, answer_code) };
+
+    ghost view = { λ s. s.trail };
+
+    ghost invariant = { λ s.
+        IsSheet s.trail.asks s.trail.room s.trail.replies s.sent.items s.left.items
+        × (s.trail.room ≤ vec_capacity s.sent) × (s.trail.room ≤ vec_capacity s.left) };
+}
+
+// The first ask that has no answer yet.
+fn unanswered(left: &[u8]) -> Option<usize>
+    ensures some { IfSome result (λ k. (k < length left.now) × (get_or left.now k 0 ≡ 2)) }
+    ensures none { IfNone result
+        ((k : ℕ) → k < length left.now → get_or left.now k 0 ≡ 2 → ⊥) }
+{
+    for k in 0..left.len() {
+        if left[k] == 2 {
+            return Some(k);
+        }
+    }
+    None
+}
+
+// The first ask that is not on its way and has no answer yet.
+fn unsent<J: Naming>(sent: &[Sent<J>], left: &[u8]) -> Option<usize> {
+    for (k, one) in sent.iter().enumerate() {
+        if !one.is_posted && left.get(k) == Some(&2) {
+            return Some(k);
+        }
+    }
+    None
+}
+
+// How many answers to an ask may still be handed on, of so many, once this one is: one that says
+// more than that nothing came is the last.
+fn left_after<J: Naming>(left: u8, answer: &Answer<J>, is_last: bool) -> u8
+    requires { 0 < left }
+    ensures less { result < left }
+    ensures awaited { 0 < result → answer.now ≡ NoAnswer }
+{
+    match answer {
+        Answer::NoAnswer => {
+            if is_last {
+                0
+            } else {
+                left - 1
+            }
+        }
+        Answer::Stored(_) | Answer::Rows(_) | Answer::Down | Answer::Refused(_) => 0,
+    }
+}
+
+impl<J: Naming> Sheet<J> {
+    /// A sheet of nothing, with room for so many asks, and two answers to each.
+    pub fn new(alloc: Global, room: usize) -> Result<Sheet<J>, Fault>
+        requires { room < 2 ^ 32 }
+        ensures ok { IfOk result (λ sheet. sheet ≡ nothing_told room) }
+        ensures memory { IsOkUnless result Fault.OutOfMemory }
+    {
+        let trail = Trail::new(alloc, room)?;
+        let sent = Vec::with_capacity(alloc, room)?;
+        let left = Vec::with_capacity(alloc, room)?;
+        Ok(Sheet { trail, sent, left })
+    }
+
+    /// For how many asks there is room. Takes no memory.
+    pub fn room(&self) -> usize
+        ensures { result ≡ self.now.room }
+    {
+        self.trail.room()
+    }
+
+    /// How many asks are told. Takes no memory.
+    pub fn ask_count(&self) -> usize
+        ensures { result ≡ length self.now.asks }
+    {
+        self.trail.ask_count()
+    }
+
+    /// Tells of an ask, with the copy that its answers are held against, and whether it is on its
+    /// way. Takes no memory.
+    pub fn put(&mut self, to: NodeId, ask: &Ask<'_, J>, kept: Option<Parcel<J>>, is_posted: bool)
+        requires room { length self.old.asks < self.old.room }
+        requires kept { IsKept (what_of ask.now) kept }
+        ensures { self.new ≡ with_ask self.old to ask.now }
+    {
+        let home = home_asked(ask);
+        self.trail.note_ask(to, ask);
+        self.sent.push_reserved(Sent {
+            to,
+            home,
+            kept,
+            is_posted,
+        });
+        self.left.push_reserved(2);
+    }
+
+    /// Whether an answer may still come. Takes no memory.
+    pub fn is_open(&self) -> bool {
+        self.left.iter().any(|left| *left > 0)
+    }
+
+    /// Reads an answer that came: it is handed on, as that nothing came where it is no answer to
+    /// its ask; one too many for its ask is dropped. Takes no memory.
+    pub fn take(&mut self, answered: Answered<J>) -> Option<(NodeId, NodeId, Answer<J>)>
+        ensures none { IfNone result (self.new ≡ self.old) }
+        ensures some { IfSome result (λ r. (number : ℕ)
+            × (self.new ≡ with_reply self.old number r.0 r.1 r.2)
+            × Answers self.old.asks number r.0 r.1 r.2
+            × IsAwaited self.old.replies number) }
+        ensures within { IfSome result
+            (λ _. length self.old.replies < 2 * length self.old.asks) }
+    {
+        let Answered {
+            number,
+            answer,
+            is_last,
+        } = answered;
+        if number >= self.left.len() {
+            return None;
+        }
+        let left = self.left[number];
+        if left == 0 {
+            return None;
+        }
+        let sent = &self.sent[number];
+        let answer = sent.only_fitting(answer);
+        self.left[number] = left_after(left, &answer, is_last);
+        self.trail.note_reply(number, sent.to, sent.home, &answer);
+        Some((sent.to, sent.home, answer))
+    }
+
+    /// Answers an ask that could not be sent: refused where there was no memory, else that nothing
+    /// came. Takes no memory.
+    pub fn take_unsent(&mut self) -> Option<(NodeId, NodeId, Answer<J>)>
+        ensures none { IfNone result (self.new ≡ self.old) }
+        ensures some { IfSome result (λ r. (number : ℕ)
+            × (self.new ≡ with_reply self.old number r.0 r.1 r.2)
+            × Answers self.old.asks number r.0 r.1 r.2
+            × IsAwaited self.old.replies number) }
+        ensures within { IfSome result
+            (λ _. length self.old.replies < 2 * length self.old.asks) }
+    {
+        let number = unsent(&self.sent, &self.left)?;
+        let answer = match &self.sent.get(number)?.kept {
+            None => Answer::Refused(Fault::OutOfMemory),
+            Some(_) => Answer::NoAnswer,
+        };
+        self.take(Answered {
+            number,
+            answer,
+            is_last: true,
+        })
+    }
+
+    /// Nothing more comes: that nothing came to an ask that has no answer yet, else none. Takes no
+    /// memory.
+    pub fn close(&mut self) -> Option<(NodeId, NodeId, Answer<J>)>
+        ensures none { IfNone result
+            ((self.new ≡ with_none self.old) × AllAnswered self.new) }
+        ensures some { IfSome result (λ r. (number : ℕ)
+            × (self.new ≡ with_reply self.old number r.0 r.1 r.2)
+            × Answers self.old.asks number r.0 r.1 r.2
+            × IsAwaited self.old.replies number) }
+        ensures within { IfSome result
+            (λ _. length self.old.replies < 2 * length self.old.asks) }
+    {
+        let Some(number) = unanswered(&self.left) else {
+            self.trail.note_none();
+            return None;
+        };
+        self.left[number] = 0;
+        let sent = &self.sent[number];
+        let answer = Answer::NoAnswer;
+        self.trail.note_reply(number, sent.to, sent.home, &answer);
+        Some((sent.to, sent.home, answer))
+    }
+}

@@ -1,0 +1,104 @@
+// A worker of a node: it answers what comes to the node's mailbox.
+ghost use Rattle.std.specs.Prelude.{◌≡◌, true, false, None};
+ghost use Rattle.dy_node.specs.Answers.{AnsweredBy, IsDown, MayAsk};
+
+use crate::ends::Inbox;
+use crate::gates::Gate;
+use crate::parcels::{Answered, Posted};
+use dy_book::Book;
+use dy_dots::NodeId;
+use dy_node::{Answer, Ask, Node, answer};
+use dy_shares::Naming;
+use std::sync::{Mutex, Wait};
+
+/// Answers what comes until the mailbox is closed and empty: each ask passes the gate, then locks
+/// the node, then the book. May wait for an ask, for locks, and for room for an answer.
+pub fn serve<J: Naming, G: Gate, R: Wait>(
+    rt: &R,
+    node: &Mutex<Node<J>>,
+    book: &Mutex<Book<J>>,
+    inbox: &mut Inbox<Posted<J>>,
+    gate: &G,
+) {
+    for _ in rt.forever() {
+        let Some(posted) = inbox.receive(rt) else {
+            break;
+        };
+        serve_one(rt, node, book, posted, gate);
+    }
+}
+
+// Answers an ask, and sends the answers.
+fn serve_one<J: Naming, G: Gate, R: Wait>(
+    rt: &R,
+    node: &Mutex<Node<J>>,
+    book: &Mutex<Book<J>>,
+    posted: Posted<J>,
+    gate: &G,
+) {
+    let Posted {
+        number,
+        to,
+        parcel,
+        mut back,
+    } = posted;
+    let ask = parcel.ask();
+    gate.pass(to, &ask);
+    let (answer, later) = answer_locked(rt, node, book, to, &ask);
+    let is_last = later.is_none();
+    let _sent = back.send(
+        rt,
+        Answered {
+            number,
+            answer,
+            is_last,
+        },
+    );
+    if let Some(answer) = later {
+        let _sent = back.send(
+            rt,
+            Answered {
+                number,
+                answer,
+                is_last: true,
+            },
+        );
+    }
+}
+
+// The node's answers, under its lock and the book's. What a lock holds is known by its type alone,
+// so a node that has another number than the one asked answers nothing.
+fn answer_locked<J: Naming, R: Wait>(
+    rt: &R,
+    node: &Mutex<Node<J>>,
+    book: &Mutex<Book<J>>,
+    to: NodeId,
+    ask: &Ask<'_, J>,
+) -> (Answer<J>, Option<Answer<J>>)
+    requires { MayAsk J.ring J.n to ask.now }
+{
+    let mut held = node.lock(rt);
+    if held.number() != to {
+        return (Answer::NoAnswer, None);
+    }
+    let mut open = book.lock(rt);
+    answer_by(&mut held, &mut open, to, ask)
+}
+
+// What this node, which has this number, answers at first and later.
+fn answer_by<J: Naming>(
+    held: &mut Node<J>,
+    book: &mut Book<J>,
+    to: NodeId,
+    ask: &Ask<'_, J>,
+) -> (Answer<J>, Option<Answer<J>>)
+    requires number { held.old.part.node ≡ to }
+    requires may_ask { MayAsk J.ring J.n to ask.now }
+    ensures down { held.old.is_up ≡ false →
+        IsDown result.0 × (result.1 ≡ None) × (held.new ≡ held.old) × (book.new ≡ book.old) }
+    ensures up { held.old.is_up ≡ true → AnsweredBy held.old.mode ask.now
+        held.old book.old held.new book.new result.0 result.1 }
+{
+    let _ = to;
+    answer(held, book, ask)
+}
