@@ -1,5 +1,5 @@
 -- What is asked, on its way: copies, and what they are held against.
-use Rattle.std.specs.Prelude.{◌≡◌, ℕ, IsTrue, Option, None, Some}
+use Rattle.std.specs.Prelude.{◌≡◌, ℕ, Bool, true, Option, None, Some}
 use Rattle.dy_ring.specs.Rings.{Tokens}
 use Rattle.dy_preference.specs.Preferences.{homes_of, may_hold}
 use Rattle.dy_node.specs.declared.asks.Ask.{Ask}
@@ -31,7 +31,7 @@ module _ {J : Type 0} where
   IsKept w None = Unit {0}
   IsKept w (Some parcel) = IsCopy w parcel
 
-  -- the node may hold what a copy carries
-  abbrev pub MayCarry : Tokens → ℕ → ℕ → Parcel J → Type 0
-  MayCarry ring n node (Store home row) = IsTrue (may_hold (homes_of ring n row.key) node home)
-  MayCarry ring n node (Fetch home key since) = Unit {0}
+  -- whether the node may hold what a copy carries
+  abbrev pub may_carry : Tokens → ℕ → ℕ → Parcel J → Bool
+  may_carry ring n node (Store home row) = may_hold (homes_of ring n row.key) node home
+  may_carry ring n node (Fetch home key since) = true

@@ -12,7 +12,5 @@ pub trait Gate {
 pub struct Open;
 
 impl Gate for Open {
-    fn pass<J: Naming>(&self, node: NodeId, ask: &Ask<'_, J>) {
-        let _ = (node, ask);
-    }
+    fn pass<J: Naming>(&self, _node: NodeId, _ask: &Ask<'_, J>) {}
 }

@@ -1,7 +1,7 @@
-ghost use Rattle.std.specs.Prelude.{◌≡◌, ℕ, IfOk, IsOkUnless};
+ghost use Rattle.std.specs.Prelude.{◌≡◌, ℕ, true, IfOk, IsOkUnless};
 ghost use Rattle.dy_node.specs.Answers.{MayAsk};
 ghost use Rattle.dy_transport.specs.Asking.{home_of};
-ghost use Rattle.dy_mailboxes.specs.Parcels.{IsParcelOf, MayCarry};
+ghost use Rattle.dy_mailboxes.specs.Parcels.{IsParcelOf, may_carry};
 
 use crate::ends::Outbox;
 use dy_dots::{Fault, NodeId};
@@ -48,7 +48,8 @@ impl<J: Naming> Parcel<J> {
     /// What is asked. Takes no memory.
     pub fn ask(&self) -> Ask<'_, J>
         ensures value { IsParcelOf result self.now }
-        ensures may_ask { (to : ℕ) → MayCarry J.ring J.n to self.now → MayAsk J.ring J.n to result }
+        ensures may_ask { (to : ℕ) → may_carry J.ring J.n to self.now ≡ true →
+            MayAsk J.ring J.n to result }
     {
         match self {
             Parcel::Store { home, row } => Ask::Store { home: *home, row },
@@ -79,7 +80,7 @@ pub struct Posted<J: Naming> {
     pub to: NodeId,
     pub parcel: Parcel<J>,
     pub back: Outbox<Answered<J>>,
-    ghost may_carry: { MayCarry J.ring J.n to parcel },
+    ghost may_carry: { may_carry J.ring J.n to parcel ≡ true },
 }
 
 /// An answer on its way back, with the number of its ask. None comes after the last one to an ask.

@@ -21,12 +21,7 @@ pub struct Sent<J: Naming> {
 }
 
 // Whether the receipt is of the version, at this node for this home.
-fn is_receipt<J: Naming>(
-    receipt: &Receipt<J>,
-    version: &Version,
-    to: NodeId,
-    home: NodeId,
-) -> bool
+fn is_receipt<J: Naming>(receipt: &Receipt<J>, version: &Version, to: NodeId, home: NodeId) -> bool
     ensures { IsTrue result →
         receipt.now ≡ receipt_parts version.now.key version.now.dot to home }
 {
@@ -57,25 +52,14 @@ fn are_receipts<J: Naming>(
 }
 
 // Whether it was seen at this node for this home and key, after so many steps.
-fn is_seen<J: Naming>(
-    seen: &Seen<J>,
-    to: NodeId,
-    home: NodeId,
-    key: &Key,
-    since: usize,
-) -> bool
+fn is_seen<J: Naming>(seen: &Seen<J>, to: NodeId, home: NodeId, key: &Key, since: usize) -> bool
     ensures { IsTrue result → IsSeenAt to home key.now since seen.now }
 {
     seen.holder() == to && seen.home() == home && seen.key() == key && since < seen.at()
 }
 
 // Whether the answer is one to what was asked of this node for this home.
-fn fits_parcel<J: Naming>(
-    to: NodeId,
-    home: NodeId,
-    parcel: &Parcel<J>,
-    answer: &Answer<J>,
-) -> bool
+fn fits_parcel<J: Naming>(to: NodeId, home: NodeId, parcel: &Parcel<J>, answer: &Answer<J>) -> bool
     ensures { IsTrue result → FitsParcel to home parcel.now answer.now }
 {
     match (parcel, answer) {

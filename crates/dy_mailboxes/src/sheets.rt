@@ -76,13 +76,7 @@ fn left_after<J: Naming>(left: u8, answer: &Answer<J>, is_last: bool) -> u8
     ensures awaited { 0 < result → answer.now ≡ NoAnswer }
 {
     match answer {
-        Answer::NoAnswer => {
-            if is_last {
-                0
-            } else {
-                left - 1
-            }
-        }
+        Answer::NoAnswer => { if is_last { 0 } else { left - 1 } }
         Answer::Stored(_) | Answer::Rows(_) | Answer::Down | Answer::Refused(_) => 0,
     }
 }

@@ -1,0 +1,91 @@
+// The calls of a scene, each with what it asks for looked at first.
+ghost use Rattle.std.specs.Prelude.{◌≡◌, ◌<◌, ◌≤◌, ◌+◌, length, take, IfOk};
+ghost use Rattle.dy_preference.specs.Preferences.{homes_of};
+ghost use Rattle.dy_transport.specs.declared.transports.TheConstants.{SPARE_TRIES};
+
+use crate::transports::Mailboxes;
+use dy_dots::{Context, Fault, NodeId};
+use dy_node::{Ask, Begun};
+use dy_preference::Preference;
+use dy_shares::{Naming, Since};
+use dy_siblings::{Key, Row};
+use dy_transport::{AnswerKind, Transport};
+use std::alloc::Global;
+use std::sync::Wait;
+
+// Begins a deletion of the key at the node, for itself.
+pub fn begin<J: Naming, R: Wait>(
+    rt: &R,
+    alloc: Global,
+    mailboxes: &mut Mailboxes<'_, J>,
+    list: &Preference,
+    node: NodeId,
+    key: &Key,
+) -> Result<Begun<J>, Fault>
+    requires list { take list.now.n list.now.nodes ≡ homes_of J.ring J.n key.now }
+    requires room { length mailboxes.old.tries < mailboxes.old.room + SPARE_TRIES }
+    ensures key { IfOk result (λ begun. begun.row.key ≡ key.now) }
+    ensures asks { mailboxes.new.asks ≡ mailboxes.old.asks }
+    ensures room { mailboxes.new.room ≡ mailboxes.old.room }
+{
+    if !list.may_hold(node, node) {
+        return Err(Fault::NoNode);
+    }
+    mailboxes.begin(rt, node, node, key, &Context::new(alloc), &None)
+}
+
+// Asks the node to hold the row, for itself.
+pub fn ask_store<J: Naming, R: Wait>(
+    rt: &R,
+    mailboxes: &mut Mailboxes<'_, J>,
+    list: &Preference,
+    node: NodeId,
+    row: &Row,
+) -> Result<(), Fault>
+    requires list { take list.now.n list.now.nodes ≡ homes_of J.ring J.n row.now.key }
+    requires room { length mailboxes.old.asks < mailboxes.old.room }
+    ensures asks { length mailboxes.new.asks ≤ length mailboxes.old.asks + 1 }
+    ensures room { mailboxes.new.room ≡ mailboxes.old.room }
+{
+    if !list.may_hold(node, node) {
+        return Err(Fault::NoNode);
+    }
+    mailboxes.ask(rt, node, &Ask::Store { home: node, row });
+    Ok(())
+}
+
+// Asks the node what it keeps of the key, for itself.
+pub fn ask_fetch<J: Naming, R: Wait>(
+    rt: &R,
+    mailboxes: &mut Mailboxes<'_, J>,
+    node: NodeId,
+    key: &Key,
+    since: &Since<J>,
+)
+    requires { length mailboxes.old.asks < mailboxes.old.room }
+{
+    let ask = Ask::Fetch {
+        home: node,
+        key,
+        since,
+    };
+    mailboxes.ask(rt, node, &ask);
+}
+
+// Each answer that is read, in the order of their texts.
+pub fn answers<J: Naming, R: Wait>(
+    rt: &R,
+    alloc: Global,
+    mailboxes: &mut Mailboxes<'_, J>,
+) -> Result<Vec<String>, Fault> {
+    let mut lines = Vec::new(alloc);
+    for _ in 0..8 {
+        let Some((node, home, answer)) = mailboxes.next_reply(rt) else {
+            lines.sort()?;
+            return Ok(lines);
+        };
+        let kind = AnswerKind::of(&answer);
+        lines.push(format!(in alloc; "{node}/{home}={kind}")?)?;
+    }
+    Err(Fault::TooMany)
+}
