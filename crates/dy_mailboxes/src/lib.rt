@@ -10,12 +10,10 @@ mod sheets;
 mod transports;
 mod workers;
 
-pub use ends::{Inbox, Outbox, mailbox};
+pub use ends::Inbox;
 pub use gates::{Gate, Open};
-pub use parcels::{Answered, Parcel, Posted};
+pub use parcels::Posted;
 pub use posts::{MAILBOX_ROOM, Post};
-pub use sent::Sent;
-pub use sheets::Sheet;
 pub use transports::Mailboxes;
 pub use workers::serve;
 

@@ -76,10 +76,10 @@ pub(crate) fn home_asked<J: Naming>(ask: &Ask<'_, J>) -> NodeId
 /// of its call, from 0, and where its answers go.
 #[derive(Drop)]
 pub struct Posted<J: Naming> {
-    pub number: usize,
-    pub to: NodeId,
-    pub parcel: Parcel<J>,
-    pub back: Outbox<Answered<J>>,
+    pub(crate) number: usize,
+    pub(crate) to: NodeId,
+    pub(crate) parcel: Parcel<J>,
+    pub(crate) back: Outbox<Answered<J>>,
     ghost may_carry: { may_carry J.ring J.n to parcel ≡ true },
 }
 

@@ -2,7 +2,7 @@ ghost use Rattle.std.specs.Prelude.{◌≡◌, ◌<◌, IsTrue};
 ghost use Rattle.dy_shares.specs.Shares.{receipt_parts};
 ghost use Rattle.dy_book.specs.Books.{receipts_of};
 ghost use Rattle.dy_transport.specs.Asking.{IsSeenAt};
-ghost use Rattle.dy_mailboxes.specs.inside.Sheets.{FitsParcel, FitsSent};
+ghost use Rattle.dy_mailboxes.specs.inside.Sheets.{FitsNothing, FitsParcel, FitsSent};
 
 use crate::parcels::Parcel;
 use dy_dots::NodeId;
@@ -77,7 +77,9 @@ fn fits_parcel<J: Naming>(to: NodeId, home: NodeId, parcel: &Parcel<J>, answer: 
 }
 
 // Whether the answer is one to an ask of which nothing was kept.
-fn fits_nothing<J: Naming>(answer: &Answer<J>) -> bool {
+fn fits_nothing<J: Naming>(answer: &Answer<J>) -> bool
+    ensures { IsTrue result → FitsNothing answer.now }
+{
     match answer {
         Answer::Stored(_) | Answer::Rows(_) => false,
         Answer::Down | Answer::NoAnswer | Answer::Refused(_) => true,

@@ -1,6 +1,7 @@
-ghost use Rattle.std.specs.Prelude.{◌≡◌, ◌<◌, ◌^◌, IfOk, IsOkUnless};
+ghost use Rattle.std.specs.Prelude.{◌≡◌, ◌<◌, ◌*◌, ◌^◌, ℕ, length, IfOk, IfNone, IfSome, IsOkUnless};
 ghost use Rattle.dy_node.specs.Answers.{MayAsk};
-ghost use Rattle.dy_transport.specs.Told.{nothing_told};
+ghost use Rattle.dy_transport.specs.Told.{AllAnswered, Answers, IsAwaited};
+ghost use Rattle.dy_transport.specs.Told.{nothing_told, with_none, with_reply};
 ghost use Rattle.dy_mailboxes.specs.Parcels.{IsParcelOf};
 
 use crate::ends::{Inbox, Outbox, mailbox};
@@ -105,6 +106,38 @@ fn post_ask<J: Naming, R: Wait>(
     Ok((kept, is_posted))
 }
 
+// The next answer: that of an ask that could not be sent, else the next that comes and is not one
+// too many. Where none is left to come, that nothing came to an ask without an answer, else none.
+fn next_of<J: Naming, R: Wait>(
+    rt: &R,
+    answers: &mut Inbox<Answered<J>>,
+    sheet: &mut Sheet<J>,
+) -> Option<(NodeId, NodeId, Answer<J>)>
+    ensures none { IfNone result ((sheet.new ≡ with_none sheet.old) × AllAnswered sheet.new) }
+    ensures some { IfSome result (λ r. (number : ℕ)
+        × (sheet.new ≡ with_reply sheet.old number r.0 r.1 r.2)
+        × Answers sheet.old.asks number r.0 r.1 r.2
+        × IsAwaited sheet.old.replies number) }
+    ensures within { IfSome result
+        (λ _. length sheet.old.replies < 2 * length sheet.old.asks) }
+{
+    if let Some(reply) = sheet.take_unsent() {
+        return Some(reply);
+    }
+    'waiting: for _ in rt.forever() {
+        if !sheet.is_open() {
+            break;
+        }
+        let Some(answered) = answers.receive(rt) else {
+            break;
+        };
+        if let Some(reply) = sheet.take(answered) {
+            return Some(reply);
+        }
+    }
+    sheet.close()
+}
+
 impl<J: Naming> Transport<J> for Mailboxes<'_, J> {
     ghost told = { λ m. m };
 
@@ -157,21 +190,7 @@ impl<J: Naming> Transport<J> for Mailboxes<'_, J> {
     }
 
     fn next_reply<R: Wait>(&mut self, rt: &R) -> Option<(NodeId, NodeId, Answer<J>)> {
-        if let Some(reply) = self.sheet.take_unsent() {
-            return Some(reply);
-        }
-        'waiting: for _ in rt.forever() {
-            if !self.sheet.is_open() {
-                break;
-            }
-            let Some(answered) = self.answers.receive(rt) else {
-                break;
-            };
-            if let Some(reply) = self.sheet.take(answered) {
-                return Some(reply);
-            }
-        }
-        self.sheet.close()
+        next_of(rt, &mut self.answers, &mut self.sheet)
     }
 
     fn record<R: Wait>(
