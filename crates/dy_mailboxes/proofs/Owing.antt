@@ -35,25 +35,25 @@ gives_each : (numbers left : List ℕ) (k n after count : ℕ) →
     ((j : ℕ) → j < count → (get_or left j 0 ≡ 2 → ⊥) → Contains numbers j) →
     k < count → (get_or (set left n after) k 0 ≡ 2 → ⊥) → Contains (numbers ++ n ∷ []) k
 gives_each numbers left k n after count h lt_k few = elim (cases_eq k n) [
-    inl e ↦
+  | inl e ↦
       (let P : ℕ → Type 0 = λ x. Contains (numbers ++ n ∷ []) x in
       subst P (sym e) (Contains-push numbers n))
   | inr ne ↦
       Contains-append_left numbers (n ∷ []) k
       (h k lt_k (λ two. few (get_or-set_other left n k after 0 ne ∙ two)))
-  ]
+]
 
 -- a new ask has two left
 asks_each : (numbers left : List ℕ) (k count : ℕ) → length left ≡ count →
     ((j : ℕ) → j < count → (get_or left j 0 ≡ 2 → ⊥) → Contains numbers j) →
     k < count + 1 → (get_or (left ++ 2 ∷ []) k 0 ≡ 2 → ⊥) → Contains numbers k
 asks_each numbers left k count e h lt few = elim (cases_lt k (length left)) [
-    inl l ↦ h k (omega arith) (λ two. few (get_or_append_left left (2 ∷ []) 0 k l ∙ two))
+  | inl l ↦ h k (omega arith) (λ two. few (get_or_append_left left (2 ∷ []) 0 k l ∙ two))
   | inr ge ↦
       absurd (few (let P : ℕ → Type 0 = λ j. get_or (left ++ 2 ∷ []) j 0 ≡ 2 in
       let here : length left ≡ k = omega arith in
       subst P here (get_or-append_seam left 2 [] 0)))
-  ]
+]
 
 -- a number below the next one is another
 not_next : (n m k : ℕ) → n < m → k ≡ m → n ≡ k → ⊥
@@ -184,18 +184,18 @@ module _ {J : Type 0} where
       k < count → 0 < get_or (set left r.number after) k 0 → IsAwaited (replies ++ r ∷ []) k
   gives_awaited replies left r after count k h lt less nothing lt_k some =
       elim (cases_eq k r.number) [
-        inl e ↦
-          (let P : ℕ → Type 0 = λ j. 0 < get_or (set left r.number after) j 0 in
-          let Q : ℕ → Type 0 = λ j. 0 < get_or left j 0 in
-          let same = get_or-set_same left r.number after 0 lt in
-          let here : 0 < get_or (set left r.number after) r.number 0 = subst P e some in
-          let was : 0 < get_or left r.number 0 = omega arith in
-          All-push (SaidNothing k) replies r (h k lt_k (subst Q (sym e) was))
-              (λ _. nothing (omega (arith, same))))
-      | inr ne ↦
-          (let other = get_or-set_other left r.number k after 0 ne in
-          All-push (SaidNothing k) replies r (h k lt_k (omega (arith, other)))
-              (λ is. absurd (ne (sym is))))
+        | inl e ↦
+            (let P : ℕ → Type 0 = λ j. 0 < get_or (set left r.number after) j 0 in
+            let Q : ℕ → Type 0 = λ j. 0 < get_or left j 0 in
+            let same = get_or-set_same left r.number after 0 lt in
+            let here : 0 < get_or (set left r.number after) r.number 0 = subst P e some in
+            let was : 0 < get_or left r.number 0 = omega arith in
+            All-push (SaidNothing k) replies r (h k lt_k (subst Q (sym e) was))
+            (λ _. nothing (omega (arith, same))))
+        | inr ne ↦
+            (let other = get_or-set_other left r.number k after 0 ne in
+            All-push (SaidNothing k) replies r (h k lt_k (omega (arith, other)))
+            (λ is. absurd (ne (sym is))))
       ]
 
   pub sheet_gives : (asks : List Asked) (room : ℕ) (replies : List (Reply J))
@@ -228,13 +228,13 @@ module _ {J : Type 0} where
       ((j : ℕ) → j < count → 0 < get_or left j 0 → IsAwaited replies j) →
       k < count + 1 → 0 < get_or (left ++ 2 ∷ []) k 0 → IsAwaited replies k
   asks_awaited replies left k count e known h lt some = elim (cases_lt k (length left)) [
-      inl l ↦
+    | inl l ↦
         (let same = get_or_append_left left (2 ∷ []) 0 k l in
         h k (omega arith) (omega (arith, same)))
     | inr ge ↦
         (let next : k ≡ count = omega arith in
         λ j d lt_j is. absurd (not_next _ count k (known j d lt_j) next is))
-    ]
+  ]
 
   -- an ask more has two answers left
   pub sheet_asks : (asks : List Asked) (room : ℕ) (replies : List (Reply J))

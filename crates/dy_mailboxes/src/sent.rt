@@ -1,11 +1,13 @@
-ghost use Rattle.std.specs.Prelude.{◌≡◌, ◌<◌, IsTrue};
+ghost use Rattle.std.specs.Prelude.{◌≡◌, ◌<◌, IfSome, IsTrue, None};
+ghost use Rattle.dy_dots.specs.declared.faults.Fault.TheVariants.{OutOfMemory};
 ghost use Rattle.dy_shares.specs.Shares.{receipt_parts};
 ghost use Rattle.dy_book.specs.Books.{receipts_of};
+ghost use Rattle.dy_node.specs.declared.asks.Answer.TheVariants.{NoAnswer, Refused};
 ghost use Rattle.dy_transport.specs.Asking.{IsSeenAt};
 ghost use Rattle.dy_mailboxes.specs.inside.Sheets.{FitsNothing, FitsParcel, FitsSent};
 
 use crate::parcels::Parcel;
-use dy_dots::NodeId;
+use dy_dots::{Fault, NodeId};
 use dy_node::Answer;
 use dy_shares::{Naming, Receipt, Seen};
 use dy_siblings::{Key, Version};
@@ -94,6 +96,18 @@ impl<J: Naming> Sent<J> {
         match &self.kept {
             Some(parcel) => fits_parcel(self.to, self.home, parcel, answer),
             None => fits_nothing(answer),
+        }
+    }
+
+    // What is answered where it is not on its way: refused where there was no memory for it, else
+    // that nothing came.
+    pub(crate) fn not_sent(&self) -> Answer<J>
+        ensures memory { self.now.kept ≡ None → result ≡ Refused OutOfMemory }
+        ensures closed { IfSome self.now.kept (λ _. result ≡ NoAnswer) }
+    {
+        match &self.kept {
+            None => Answer::Refused(Fault::OutOfMemory),
+            Some(_) => Answer::NoAnswer,
         }
     }
 

@@ -173,10 +173,7 @@ impl<J: Naming> Sheet<J> {
             (λ _. length self.old.replies < 2 * length self.old.asks) }
     {
         let number = unsent(&self.sent, &self.left)?;
-        let answer = match &self.sent.get(number)?.kept {
-            None => Answer::Refused(Fault::OutOfMemory),
-            Some(_) => Answer::NoAnswer,
-        };
+        let answer = self.sent.get(number)?.not_sent();
         self.take(Answered {
             number,
             answer,
