@@ -16,7 +16,7 @@ use Rattle.dy_siblings.specs.Siblings.{Siblings}
 use Rattle.dy_book.specs.Books.{receipts_of}
 use Rattle.dy_node.specs.declared.asks.Answer.{Answer}
 use Rattle.dy_node.specs.declared.asks.Answer.TheVariants as answer
-use Rattle.dy_transport.specs.Asking.{FitsWhat, IsSeenAt}
+use Rattle.dy_transport.specs.Asking.{FitsWhat}
 use Rattle.dy_transport.specs.Told.{Answers, IsAwaited, Told, with_reply}
 use Rattle.dy_transport.specs.declared.asked.Asked.{Asked}
 use Rattle.dy_transport.specs.declared.asked.What.{What}

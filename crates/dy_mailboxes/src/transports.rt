@@ -1,4 +1,5 @@
-ghost use Rattle.std.specs.Prelude.{◌≡◌, ◌<◌, ◌*◌, ◌^◌, ℕ, length, IfOk, IfNone, IfSome, IsOkUnless};
+ghost use Rattle.std.specs.Prelude.{◌≡◌, ◌<◌, ◌*◌, ◌^◌, ℕ, length, IfOk, IfNone, IfSome};
+ghost use Rattle.std.specs.Prelude.{IsOkUnless};
 ghost use Rattle.dy_node.specs.Answers.{MayAsk};
 ghost use Rattle.dy_transport.specs.Told.{AllAnswered, Answers, IsAwaited};
 ghost use Rattle.dy_transport.specs.Told.{nothing_told, with_none, with_reply};

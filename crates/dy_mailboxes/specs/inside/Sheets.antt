@@ -34,6 +34,7 @@ module _ {J : Type 0} where
   FitsNothing answer.NoAnswer = Unit {0}
   FitsNothing (answer.Refused f) = Unit {0}
 
+  -- the answer is one of this node, for this home, to what was kept, if anything was
   abbrev pub FitsKept : ℕ → ℕ → Option (Parcel J) → Answer J → Type 0
   FitsKept to home None x = FitsNothing x
   FitsKept to home (Some p) x = FitsParcel to home p x
@@ -53,8 +54,8 @@ module _ {J : Type 0} where
   AllSent (a ∷ asks) [] = ⊥
   AllSent (a ∷ asks) (s ∷ sent) = IsSent a s × AllSent asks sent
 
-  -- Of each ask what it was, and how many answers to it may still be handed on: where two may, none
-  -- was read perhaps; where one may, only that nothing came was read
+  -- of each ask what it was, and how many answers to it may still be handed on: where fewer than
+  -- two may, one was read; where any may, only that nothing came was read
   pub record IsSheet (asks : List Asked) (room : ℕ) (replies : List (Reply J))
       (sent : List (Sent J)) (left : List ℕ) : Type 0 where
     pub each_sent : AllSent asks sent

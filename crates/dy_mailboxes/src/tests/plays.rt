@@ -1,9 +1,9 @@
 // A new book of five nodes, on which a scene is played.
 ghost use Rattle.std.specs.Prelude.{◌≡◌, ◌≤◌, take, IfOk};
-ghost use Rattle.dy_preference.specs.Preferences.{homes_of, preference_of};
+ghost use Rattle.dy_preference.specs.Preferences.{homes_of};
 
 use crate::tests::gates::Counter;
-use crate::tests::members::{Places, give_all_back, places_of};
+use crate::tests::members::{give_all_back, places_of};
 use crate::tests::teams::{Scene, Stage, answers_of_team};
 use dy_book::{Book, Options};
 use dy_dots::Fault;

@@ -51,7 +51,7 @@ fn work<J: Naming, G: Gate, R: Wait>(
     }
 }
 
-// What the answers are to a begun row that nodes 1 and 2 are asked to hold, and to a look at node 0.
+// What is answered where nodes 1 and 2 are asked to hold a begun row, and node 0 what it keeps.
 fn ask_three<J: Naming, R: Wait>(
     rt: &R,
     stage: &Stage<'_, J>,
