@@ -1,5 +1,5 @@
 ghost use Rattle.std.specs.Prelude.{◌≡◌, ◌≢◌, ◌↔◌, ◌+◌, ◌<◌, ◌≤◌, ℕ, [], length, IfOk, OnOk, OnErr};
-ghost use Rattle.std.specs.Prelude.{IsErrOf, IsOkUnless, MatchOption, false};
+ghost use Rattle.std.specs.Prelude.{IsErrOf, IsOkUnless, MatchBool, MatchOption, false};
 ghost use Rattle.std.specs.Option.{option_copied};
 ghost use Rattle.std.specs.List.{Contains};
 ghost use Rattle.dy_dots.specs.declared.dots.TheConstants.{MAX_COUNTER};
@@ -7,7 +7,8 @@ ghost use Rattle.dy_core.specs.Worlds.{is_issued, layout_of};
 ghost use Rattle.dy_core.specs.Logs.{IsLegal};
 ghost use Rattle.dy_core.specs.Covers.{AcksAreCovered};
 ghost use Rattle.dy_shares.specs.declared.ledgers.TheConstants.{MAX_SESSIONS};
-ghost use Rattle.dy_shares.specs.Shares.{BelongsTo, first_parts, first_session, steps_of};
+ghost use Rattle.dy_shares.specs.Shares.{BelongsTo, HasAll, IsMissing};
+ghost use Rattle.dy_shares.specs.Shares.{first_parts, first_session, steps_of};
 ghost use Rattle.dy_book.specs.Limits.{AreLimits, IsQuorum};
 ghost use Rattle.dy_book.specs.Books.{with_session, world_of};
 ghost use Rattle.dy_book.specs.inside.Indexes.{IsPart};
@@ -144,6 +145,22 @@ impl<J: Naming> Book<J> {
         ensures { AcksAreCovered (world_of self.now) }
     {
         let _alloc = &self.alloc;
+    }
+
+    /// Whenever the book's lock is free, its log is legal. Takes no memory.
+    pub fn log_is_legal(&self)
+        ensures { IsLegal (layout_of J.ring J.n) (steps_of self.now.log) }
+    {
+        let _alloc = &self.alloc;
+    }
+
+    /// Whether a node's share or a session's is not among these. Takes no memory.
+    pub fn lacks(&self, nodes: &[NodeShare<J>], sessions: &[SessionShare<J>]) -> bool
+        ensures { MatchBool result
+            (IsMissing J.ring.nodes self.now.sessions nodes.now sessions.now)
+            (HasAll J.ring.nodes self.now.sessions nodes.now sessions.now) }
+    {
+        self.ledger.lacks(nodes, sessions)
     }
 
     // What is known of the key, where there is anything.
