@@ -7,6 +7,7 @@ mod embedding;
 mod handing;
 mod locks;
 mod openings;
+mod posting;
 mod restings;
 
 pub use clusters::Cluster;

@@ -1,8 +1,6 @@
-ghost use Rattle.std.specs.Prelude.{◌≡◌, ◌≤◌, ◌<◌, ◌⊎◌, ◌↔◌, length, [], vec_len, vec_capacity};
-ghost use Rattle.std.specs.Prelude.{IfOk, IfErr, IsErr};
-ghost use Rattle.dy_core.specs.Worlds.{layout_of};
-ghost use Rattle.dy_core.specs.Logs.{IsLegal};
-ghost use Rattle.dy_shares.specs.Shares.{IsMissing, steps_of};
+ghost use Rattle.std.specs.Prelude.{◌≡◌, ◌≤◌, ◌⊎◌, ◌↔◌, length, vec_len, vec_capacity};
+ghost use Rattle.std.specs.Prelude.{IfOk, IfErr, IsErr, MatchBool};
+ghost use Rattle.dy_shares.specs.Shares.{HasAll, IsMissing};
 ghost use Rattle.dy_book.specs.Limits.{IsQuorum};
 ghost use Rattle.dy_cluster.specs.Ends.{IsEndOf};
 
@@ -99,12 +97,12 @@ impl<J: Naming> Resting<J> {
             alloc,
             ring,
             options,
-            mut book,
-            mut shares,
+            book,
+            shares,
             rests,
             locks,
         } = self;
-        find_legal(&mut book, &mut shares);
+        book.log_is_legal();
         match book.close(shares, sessions) {
             Ok(audit) => {
                 locks.destroy_empty();
@@ -134,6 +132,15 @@ impl<J: Naming> Resting<J> {
         }
     }
 
+    /// Whether a session of the cluster is not among these. Takes no memory.
+    pub fn lacks(&self, sessions: &[SessionShare<J>]) -> bool
+        ensures { MatchBool result
+            (IsMissing J.ring.nodes self.now.book.sessions self.now.parts sessions.now)
+            (HasAll J.ring.nodes self.now.book.sessions self.now.parts sessions.now) }
+    {
+        self.book.lacks(self.shares.as_slice(), sessions)
+    }
+
     /// Ends the cluster with whatever sessions are there, and tells nothing. Takes no memory.
     pub fn abandon(self, sessions: Vec<SessionShare<J>>) {
         let Resting {
@@ -148,19 +155,4 @@ impl<J: Naming> Resting<J> {
         locks.destroy_empty();
         book.abandon(shares, sessions);
     }
-}
-
-// A share that is lent to its book shows that the log is legal.
-fn find_legal<J: Naming>(book: &mut Book<J>, shares: &mut Vec<NodeShare<J>>)
-    requires some { 0 < length shares.old.items }
-    ensures legal { IsLegal (layout_of J.ring J.n) (steps_of book.old.log) }
-    ensures book { book.new ≡ book.old }
-    ensures shares { shares.new.items ≡ shares.old.items }
-    ensures memory { vec_capacity shares.new ≡ vec_capacity shares.old }
-{
-    let Some(mut share) = shares.pop() else {
-        unreachable!()
-    };
-    book.agree(&mut share);
-    shares.push_reserved(share);
 }

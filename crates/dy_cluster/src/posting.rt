@@ -1,0 +1,52 @@
+// Mailboxes before the nodes, transports over them, and the workers behind.
+ghost use Rattle.std.specs.Prelude.{◌≡◌, length, IfOk, IsOkUnless};
+ghost use Rattle.dy_dots.specs.declared.nodes.TheConstants.{MAX_NODES};
+ghost use Rattle.dy_transport.specs.Told.{nothing_told};
+
+use crate::clusters::Cluster;
+use dy_dots::{Fault, MAX_NODES, NodeId};
+use dy_mailboxes::{Gate, Inbox, Mailboxes, Post, Posted, serve};
+use dy_shares::Naming;
+use std::sync::Wait;
+
+impl<J: Naming> Cluster<J> {
+    /// A mailbox for each node, and the ends that its workers receive from, in the order of the
+    /// nodes' numbers. The mailboxes close when every post is dropped. Whoever lets a post go
+    /// before each node's worker has started may wait for ever: a message that lies in a mailbox
+    /// lives as long as any post does.
+    pub fn post(&self) -> Result<(Post<J>, Vec<Inbox<Posted<J>>>), Fault>
+        ensures post { IfOk result (λ p. p.0 ≡ J.ring.nodes) }
+        ensures inboxes { IfOk result (λ p. length p.1.items ≡ J.ring.nodes) }
+        ensures memory { IsOkUnless result Fault.OutOfMemory }
+    {
+        Post::new(self.alloc, self.ring.nodes())
+    }
+
+    /// A transport over the nodes' workers, for one put, get or repair.
+    pub fn mailboxes<'a>(&'a self, post: &'a mut Post<J>) -> Result<Mailboxes<'a, J>, Fault>
+        ensures ok { IfOk result (λ mailboxes. mailboxes ≡ nothing_told MAX_NODES) }
+        ensures memory { IsOkUnless result Fault.OutOfMemory }
+    {
+        Mailboxes::new(
+            self.alloc,
+            self.nodes.as_slice(),
+            &self.book,
+            post,
+            MAX_NODES as usize,
+        )
+    }
+
+    /// A worker of the node: answers what comes to its mailbox until every post is dropped. A node
+    /// that the ring has not answers nothing. May wait for asks and for locks.
+    pub fn serve<G: Gate, R: Wait>(
+        &self,
+        rt: &R,
+        node: NodeId,
+        mut inbox: Inbox<Posted<J>>,
+        gate: &G,
+    ) {
+        if let Some(lock) = self.nodes.get(usize::from(node.number())) {
+            serve(rt, lock, &self.book, &mut inbox, gate);
+        }
+    }
+}
