@@ -1,2 +1,3 @@
 pub mod Firsts
+pub mod StoreCovers
 pub mod Together

@@ -1,3 +1,4 @@
 pub mod Ends
 pub mod Lists
 pub mod Named
+pub mod Stores

@@ -5,6 +5,7 @@ mod calls;
 mod clusters;
 mod embedding;
 mod handing;
+mod laws;
 mod locks;
 mod openings;
 mod posting;
@@ -13,6 +14,7 @@ mod restings;
 pub use clusters::Cluster;
 use dy_shares::SessionShare;
 pub use embedding::{Client, Work, with_clients, with_cluster};
+pub use laws::stores_cover_acks;
 pub use openings::Opened;
 pub use restings::{Closed, ClusterRefused, Resting};
 
