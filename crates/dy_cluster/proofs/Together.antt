@@ -1,5 +1,5 @@
 -- Two lists that go together, item by item, at their ends.
-use Rattle.std.proofs.Common.{◌≡◌, ◌++◌, List, [], ◌∷◌, length, suc, refl, sym, ap, ◌∙◌, subst}
+use Rattle.std.proofs.Common.{◌≡◌, ◌++◌, List, [], ◌∷◌, length, suc, refl, sym, ap, subst}
 use Rattle.std.specs.List.{AllZip}
 
 -- they are of one length

@@ -1,4 +1,4 @@
-use Rattle.std.proofs.Common.{◌++◌, ◌∷◌, [], length, length-append, refl, ap, ◌∙◌, arith}
+use Rattle.std.proofs.Common.{◌∷◌, [], length, length-append, refl, ap, ◌∙◌, arith}
 use Rattle.dy_cluster.specs.Ends.{GoesWith}
 use Rattle.dy_cluster.proofs.Together.{together_length, together_popped}
 use Rattle.dy_cluster.proofs.locks.rejoin_all.Goals as goal

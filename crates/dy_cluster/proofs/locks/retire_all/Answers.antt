@@ -1,7 +1,4 @@
-use Rattle.std.proofs.Common.{◌++◌, ◌∷◌, [], length, length-append, sym, ap, ◌∙◌, subst, arith}
-use Rattle.dy_node.specs.Nodes.{AreDeferred, RestState}
-use Rattle.dy_node.specs.Stored.{Shows}
-use Rattle.dy_shares.specs.Shares.{NodePart}
+use Rattle.std.proofs.Common.{◌∷◌, [], length, length-append, ap, ◌∙◌, arith}
 use Rattle.dy_cluster.specs.Ends.{GoesWith}
 use Rattle.dy_cluster.proofs.Together.{together_length, together_pushed}
 use Rattle.dy_cluster.proofs.locks.retire_all.Goals as goal

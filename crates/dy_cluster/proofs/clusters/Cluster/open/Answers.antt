@@ -1,4 +1,4 @@
-use Rattle.std.proofs.Common.{◌≡◌, ◌≤◌, ◌+◌, ◌∙◌, List, [], length, vec_len, vec_capacity}
+use Rattle.std.proofs.Common.{◌≡◌, ◌∙◌, List, [], length}
 use Rattle.std.proofs.Common.{arith, ap, sym, subst}
 use Rattle.std.specs.List.{All}
 use Rattle.dy_ring.specs.Rings.{Tokens}

@@ -1,4 +1,4 @@
-use Rattle.std.proofs.Common.{◌≡◌, ◌↔◌, List, sym, ap, ◌∙◌, subst}
+use Rattle.std.proofs.Common.{◌≡◌, ◌↔◌, List, sym, ap, subst}
 use Rattle.dy_dots.specs.declared.faults.Fault.TheVariants.{SharesMissing}
 use Rattle.dy_shares.specs.Shares.{IsMissing, NodePart}
 use Rattle.dy_book.specs.Books.{BookParts}

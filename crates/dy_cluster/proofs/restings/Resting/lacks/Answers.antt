@@ -1,4 +1,4 @@
-use Rattle.std.proofs.Common.{◌≡◌, List, MatchBool, ap, ◌∙◌, subst}
+use Rattle.std.proofs.Common.{List, MatchBool, ap, ◌∙◌, subst}
 use Rattle.dy_shares.specs.Shares.{HasAll, IsMissing, NodePart}
 use Rattle.dy_book.specs.Books.{BookParts}
 use Rattle.dy_cluster.specs.Ends.{AtRest}
