@@ -131,7 +131,7 @@ fn run_clients<J: Naming + Send + Sync, C: Client + Sync, R: Threads + Wait + Sy
 }
 
 // A session for each client.
-fn seat_clients<J: Naming, R: Wait>(
+pub(crate) fn seat_clients<J: Naming, R: Wait>(
     rt: &R,
     cluster: &Cluster<J>,
     sessions: &mut Vec<SessionShare<J>>,

@@ -4,6 +4,7 @@ ghost use Rattle.std.specs.Prelude.{◌≤◌, IfOk, IfErr, ◌⊎◌, ◌≡◌
 use crate::clusters::Cluster;
 use dy_dots::{Fault, NodeId};
 use dy_handoff::{Pass, pass};
+use dy_mailboxes::{Mailboxes, Post};
 use dy_shares::Naming;
 use dy_siblings::{Key, Row};
 use dy_transport::Direct;
@@ -30,6 +31,24 @@ impl<J: Naming> Cluster<J> {
         let room = self.hint_count(rt, node).min(MAX_ROOM);
         let mut direct = Direct::new(self.alloc, self.nodes.as_slice(), &self.book, room)?;
         pass(rt, &mut direct, node)
+    }
+
+    /// The same pass, whose asks go over the post to the homes' workers. May wait for answers and
+    /// locks.
+    pub fn handoff_by_post<R: Wait>(
+        &self,
+        rt: &R,
+        post: &mut Post<J>,
+        node: NodeId,
+    ) -> Result<Pass, Fault>
+        ensures fewer { IfOk result (λ done. done.stored ≤ done.offers) }
+        ensures only { IfErr result (λ fault. (fault ≡ Fault.Down) ⊎ (fault ≡ Fault.OutOfMemory)) }
+    {
+        // Mailboxes have room for one ask at least.
+        let room = self.hint_count(rt, node).clamp(1, MAX_ROOM);
+        let nodes = self.nodes.as_slice();
+        let mut mailboxes = Mailboxes::new(self.alloc, nodes, &self.book, post, room)?;
+        pass(rt, &mut mailboxes, node)
     }
 
     /// Lets the node store the messages that it kept, the oldest first, and tells how many. A node

@@ -3,17 +3,22 @@
 
 mod calls;
 mod clusters;
+mod correspondents;
 mod embedding;
 mod handing;
+mod handovers;
 mod laws;
 mod locks;
 mod openings;
 mod posting;
 mod restings;
+mod seats;
 
 pub use clusters::Cluster;
+pub use correspondents::{Correspondent, with_workers};
 use dy_shares::SessionShare;
 pub use embedding::{Client, Work, with_clients, with_cluster};
+pub use handovers::Handover;
 pub use laws::stores_cover_acks;
 pub use openings::Opened;
 pub use restings::{Closed, ClusterRefused, Resting};

@@ -38,14 +38,19 @@ impl<J: Naming> Cluster<J> {
 
     /// A worker of the node: answers what comes to its mailbox until every post is dropped. A node
     /// that the ring has not answers nothing. May wait for asks and for locks.
-    pub fn serve<G: Gate, R: Wait>(
+    pub fn serve<G: Gate, R: Wait>(&self, rt: &R, node: NodeId, inbox: Inbox<Posted<J>>, gate: &G) {
+        self.serve_at(rt, usize::from(node.number()), inbox, gate);
+    }
+
+    // A worker of the node at this place.
+    pub(crate) fn serve_at<G: Gate, R: Wait>(
         &self,
         rt: &R,
-        node: NodeId,
+        place: usize,
         mut inbox: Inbox<Posted<J>>,
         gate: &G,
     ) {
-        if let Some(lock) = self.nodes.get(usize::from(node.number())) {
+        if let Some(lock) = self.nodes.get(place) {
             serve(rt, lock, &self.book, &mut inbox, gate);
         }
     }

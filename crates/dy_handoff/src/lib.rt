@@ -3,6 +3,8 @@
 
 mod counts;
 mod passes;
+mod workers;
 
 pub use counts::Pass;
 pub use passes::pass;
+pub use workers::{Passing, worker};

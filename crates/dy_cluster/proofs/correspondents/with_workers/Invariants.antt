@@ -1,0 +1,11 @@
+use Rattle.dy_cluster.proofs.correspondents.with_workers.Given as goal
+
+-- the book has the name of what was just opened
+abbrev pub ghosts-run_staffed : goal.ghosts-run_staffed
+ghosts-run_staffed g a = record {
+  ring = a.opened.ring;
+  n = a.opened.options.n;
+  r = a.opened.options.r;
+  book = a.opened.blank.book;
+  table = a.opened.blank.table;
+}

@@ -1,0 +1,179 @@
+// Clients that write to the nodes' workers.
+ghost use Rattle.std.specs.Prelude.{◌≡◌, [], IfOk, IsOkUnless, List, length};
+ghost use Rattle.dy_shares.specs.Shares.{SessionPart};
+ghost use Rattle.dy_cluster.specs.Ends.{IsClosed};
+ghost use Rattle.dy_cluster.specs.Named.{NamesBook};
+
+use crate::clusters::Cluster;
+use crate::embedding::seat_clients;
+use crate::openings::Opened;
+use crate::restings::Closed;
+use crate::seats::{Seat, let_go, rise_all, seat_all};
+use dy_book::Options;
+use dy_dots::Fault;
+use dy_mailboxes::{Gate, Inbox, Post, Posted};
+use dy_ring::Ring;
+use dy_shares::{Naming, SessionShare};
+use std::alloc::Global;
+use std::marker::Brand;
+use std::sync::Wait;
+use std::thread;
+use std::thread::{Threads, for_each_mut};
+
+/// What each of many clients does, in a thread of its own, with a session and a post of its own.
+pub trait Correspondent {
+    /// Clients are numbered from 0. While it runs, each node has a worker.
+    fn run<J: Naming, R: Wait>(
+        &self,
+        rt: &R,
+        alloc: Global,
+        cluster: &Cluster<J>,
+        number: usize,
+        session: &mut SessionShare<J>,
+        post: &mut Post<J>,
+    );
+}
+
+/// Opens a cluster on the ring, starts a worker for each node, runs so many clients beside each
+/// other, each with a session and a post of its own, and closes it. Where no thread can be had for
+/// a worker, no client runs, and that is told as want of memory; a client for which none can be had
+/// runs on the caller's.
+pub fn with_workers<C: Correspondent + Sync, G: Gate + Sync, R: Threads + Wait + Sync>(
+    rt: &R,
+    alloc: Global,
+    ring: Ring,
+    options: Options,
+    gate: &G,
+    clients: u8,
+    client: &C,
+) -> Result<Closed, Fault>
+    ensures { IfOk result (λ closed. (tellings : List SessionPart)
+        × IsClosed ring options.n options.r tellings closed × length tellings ≡ clients) }
+{
+    let opened = Opened::new(alloc, ring, options)?;
+    run_staffed::<Brand, C, G, R>(rt, alloc, opened, gate, clients, client)
+}
+
+// The same under the name that was picked.
+fn run_staffed<
+    J: Naming + Send + Sync,
+    C: Correspondent + Sync,
+    G: Gate + Sync,
+    R: Threads + Wait + Sync,
+>(rt: &R, alloc: Global, opened: Opened, gate: &G, clients: u8, client: &C) -> Result<Closed, Fault>
+    requires named { NamesBook J.book J.table J.ring J.n J.r opened }
+    ensures { IfOk result (λ closed. (tellings : List SessionPart)
+        × IsClosed opened.ring opened.options.n opened.options.r tellings closed
+        × (length tellings ≡ clients)) }
+{
+    let cluster = Cluster::<J>::open(alloc, opened)?;
+    let mut sessions = Vec::new(alloc);
+    let done = run_seated(rt, alloc, &cluster, gate, &mut sessions, clients, client);
+    match cluster.close(sessions) {
+        Ok(closed) => {
+            done?;
+            Ok(closed)
+        }
+        Err(refused) => Err(refused.abandon()),
+    }
+}
+
+// Opens a session and a post for each client, and runs them. The sessions are in the list again.
+fn run_seated<
+    J: Naming + Send + Sync,
+    C: Correspondent + Sync,
+    G: Gate + Sync,
+    R: Threads + Wait + Sync,
+>(
+    rt: &R,
+    alloc: Global,
+    cluster: &Cluster<J>,
+    gate: &G,
+    sessions: &mut Vec<SessionShare<J>>,
+    clients: u8,
+    client: &C,
+) -> Result<(), Fault>
+    requires none { sessions.old.items ≡ [] }
+    ensures { IfOk result (λ _. length sessions.new.items ≡ clients) }
+{
+    seat_clients(rt, cluster, sessions, clients)?;
+    let (post, inboxes) = cluster.post()?;
+    let posts = posts_for(alloc, post, clients)?;
+    let mut seats = Vec::with_capacity(alloc, sessions.len())?;
+    seat_all(sessions, posts, &mut seats);
+    let is_staffed = run_all(
+        rt,
+        alloc,
+        cluster,
+        gate,
+        inboxes,
+        client,
+        seats.as_mut_slice(),
+    );
+    rise_all(&mut seats, sessions);
+    seats.destroy_empty();
+    if is_staffed {
+        Ok(())
+    } else {
+        Err(Fault::OutOfMemory)
+    }
+}
+
+// A post for each client. The one that they are made from is let go.
+fn posts_for<J: Naming>(
+    alloc: Global,
+    mut post: Post<J>,
+    clients: u8,
+) -> Result<Vec<Post<J>>, Fault>
+    ensures count { IfOk result (λ posts. length posts.items ≡ clients) }
+    ensures memory { IsOkUnless result Fault.OutOfMemory }
+{
+    let mut posts = Vec::with_capacity(alloc, usize::from(clients))?;
+    for _ in 0..clients {
+        posts.push(post.try_clone()?)?;
+    }
+    Ok(posts)
+}
+
+// Starts a worker for each node, and then the clients; false where a worker could not be started,
+// and then no client ran. A message that lies in a mailbox lives as long as any post does, so a
+// client that posts to a worker which never starts would wait for ever: none runs before all are
+// started. At the end every post is let go, and by that the workers end.
+fn run_all<
+    J: Naming + Send + Sync,
+    C: Correspondent + Sync,
+    G: Gate + Sync,
+    R: Threads + Wait + Sync,
+>(
+    rt: &R,
+    alloc: Global,
+    cluster: &Cluster<J>,
+    gate: &G,
+    inboxes: Vec<Inbox<Posted<J>>>,
+    client: &C,
+    seats: &mut [Seat<J>],
+) -> bool
+    ensures { length seats.new ≡ length seats.old }
+{
+    thread::scope(thread::scope_env(), rt, |scope| {
+        let mut is_staffed = true;
+        for (number, inbox) in inboxes.into_iter().enumerate() {
+            if scope
+                .spawn(move || cluster.serve_at(rt, number, inbox, gate))
+                .is_err()
+            {
+                is_staffed = false;
+            }
+        }
+        if is_staffed {
+            for_each_mut(
+                rt,
+                seats,
+                32,
+                &|number, seat| { seat.run(rt, alloc, cluster, number, client) },
+            );
+        }
+        let_go(seats);
+        is_staffed
+    })
+}
