@@ -2,6 +2,8 @@
 #![tactic(auto)]
 
 #[cfg(test)]
+mod absences;
+#[cfg(test)]
 mod clients;
 #[cfg(test)]
 mod crowds;
