@@ -8,4 +8,12 @@ mod clients;
 #[cfg(test)]
 mod crowds;
 #[cfg(test)]
+mod holds;
+#[cfg(test)]
+mod posted;
+#[cfg(test)]
 mod rings;
+#[cfg(test)]
+mod signals;
+#[cfg(test)]
+mod teams;
