@@ -8,6 +8,8 @@ mod clients;
 #[cfg(test)]
 mod crowds;
 #[cfg(test)]
+mod floods;
+#[cfg(test)]
 mod holds;
 #[cfg(test)]
 mod posted;
