@@ -12,6 +12,8 @@ mod floods;
 #[cfg(test)]
 mod holds;
 #[cfg(test)]
+mod leaves;
+#[cfg(test)]
 mod posted;
 #[cfg(test)]
 mod rings;
