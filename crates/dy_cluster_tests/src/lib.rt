@@ -10,6 +10,8 @@ mod crowds;
 #[cfg(test)]
 mod floods;
 #[cfg(test)]
+mod growths;
+#[cfg(test)]
 mod hints;
 #[cfg(test)]
 mod holds;
