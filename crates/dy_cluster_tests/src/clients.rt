@@ -118,7 +118,7 @@ fn get_and_mend<J: Naming, R: Wait>(
 }
 
 // Whether the put was acknowledged.
-fn put_one<J: Naming, R: Wait>(
+pub fn put_one<J: Naming, R: Wait>(
     rt: &R,
     alloc: Global,
     cluster: &Cluster<J>,

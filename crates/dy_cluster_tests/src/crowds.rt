@@ -17,7 +17,7 @@ fn are_apart(places: &[Place]) -> bool {
 }
 
 // Whether each acknowledged put names two homes and is covered at two homes and two nodes.
-fn are_covered(acked: &[AckedAt]) -> bool {
+pub fn are_covered(acked: &[AckedAt]) -> bool {
     acked
         .iter()
         .all(|it| it.ack.w == 2 && are_apart(it.places.as_slice()))

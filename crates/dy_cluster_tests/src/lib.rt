@@ -2,8 +2,26 @@
 #![tactic(auto)]
 
 #[cfg(test)]
+mod absences;
+#[cfg(test)]
 mod clients;
 #[cfg(test)]
 mod crowds;
 #[cfg(test)]
+mod floods;
+#[cfg(test)]
+mod growths;
+#[cfg(test)]
+mod hints;
+#[cfg(test)]
+mod holds;
+#[cfg(test)]
+mod leaves;
+#[cfg(test)]
+mod posted;
+#[cfg(test)]
 mod rings;
+#[cfg(test)]
+mod signals;
+#[cfg(test)]
+mod teams;
