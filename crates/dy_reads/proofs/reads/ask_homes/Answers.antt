@@ -70,9 +70,14 @@ loop-i-preserved g c =
     let before : List Asked = home_asks what held (take c.loop-i.i homes) in
     elim c.if-ne.branch [
       | then-ne w ↦ rw (w.transport-is, w.ask.ensures) (record {
-        asks = rw (w.for_home.ensures.home, w.for_home.ensures.what, inv.replies, inv.asks,
-            asks_more what held homes c.loop-i.i home c.loop-i-test.true c.index-homes-i.is
-            (sym c.ne.ensures ∙ w.if-ne.true)) (append_assoc start before _);
+        asks = rw (
+          w.for_home.ensures.home,
+          w.for_home.ensures.what,
+          inv.replies,
+          inv.asks,
+          asks_more what held homes c.loop-i.i home c.loop-i-test.true c.index-homes-i.is
+              (sym c.ne.ensures ∙ w.if-ne.true),
+        ) (append_assoc start before _);
         count = omega (arith, length-append {A = Asked});
         replies = inv.replies;
         tries = inv.tries;
