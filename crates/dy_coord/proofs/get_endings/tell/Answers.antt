@@ -1,10 +1,10 @@
 -- What is merged and told is the first answers of each home, and what holds of all answers holds of
 -- these.
-use Rattle.std.proofs.Common.{◌≡◌, ◌<◌, ◌∙◌, List, ℕ, nat_eq, ap, sym, subst}
+use Rattle.std.proofs.Common.{◌≡◌, ◌<◌, ◌∙◌, List, ℕ, nat_eq, sym, subst}
 use Rattle.std.specs.List.{All, IsDistinct}
 use Rattle.dy_siblings.specs.Siblings.{IsSameRow, newest}
 use Rattle.dy_core.specs.Logs.{Answer, rows_of}
-use Rattle.dy_shares.specs.Shares.{since_of, with_get}
+use Rattle.dy_shares.specs.Shares.{since_of}
 use Rattle.dy_quorum.specs.Gatherings.{answer_homes, first_answers}
 use Rattle.dy_coord.proofs.Getting.{all_firsts, firsts_apart}
 use Rattle.dy_coord.proofs.get_endings.tell.Goals as goal
@@ -58,8 +58,3 @@ returns-clause-key g c key all =
 
 pub returns-clause-context : goal.returns-clause-context
 returns-clause-context g c = c.in_ok-context.ensures.ok
-
-pub returns-clause-told : goal.returns-clause-told
-returns-clause-told g c =
-    c.in_ok-note_get.ensures.ok
-    ∙ ap (with_get c.args.session.now (since_of c.args.session.now)) c.in_ok-chosen.ensures.value
