@@ -1,3 +1,4 @@
-pub mod Readings
-pub mod Lists
 pub mod Allowed
+pub mod Lists
+pub mod Readings
+pub mod Tried

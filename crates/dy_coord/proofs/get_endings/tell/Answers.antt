@@ -55,3 +55,6 @@ returns-clause-key g c key all =
     c.in_ok-row.ensures.key key
     (subst P (sym (c.as_slice.ensures.value ∙ c.in_ok-chosen.ensures.value))
     (all_firsts (λ a. a.key ≡ key) ss all))
+
+pub returns-clause-context : goal.returns-clause-context
+returns-clause-context g c = c.in_ok-context.ensures.ok

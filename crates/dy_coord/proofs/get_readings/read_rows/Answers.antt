@@ -67,7 +67,7 @@ reading-preserved-in-Some-seen_of g c =
     let r : Reply g.row.J.Denot = reply some.0 c.in-Some-read_next.field-0-0
     c.in-Some-read_next.field-0-1 c.in-Some-read_next.answer in
     let lt : length (first_answers c.reading.gathering.seens) < c.reading.gathering.r =
-    c.if-is_ready.ensures in
+    rw c.if-is_ready.false at c.is_ready.ensures in
     let below : length (first_answers c.reading.gathering.seens) < c.args.gathering.now.r =
     rw inv.r at lt in
     let now = ap (λ t. t.seens) c.add.ensures in
@@ -101,7 +101,7 @@ reading-preserved g c =
     let r : Reply g.row.J.Denot = reply some.0 c.in-Some-read_next.field-0-0
     c.in-Some-read_next.field-0-1 c.in-Some-read_next.answer in
     let lt : length (first_answers c.reading.gathering.seens) < c.reading.gathering.r =
-    c.if-is_ready.ensures in
+    rw c.if-is_ready.false at c.is_ready.ensures in
     let below : length (first_answers c.reading.gathering.seens) < c.args.gathering.now.r =
     rw inv.r at lt in
     let none = c.in_default-seen_of.ensures.none in
@@ -133,7 +133,7 @@ returns-clause-reading g c = elim c.match-next.branch [
 pub returns-clause-out : goal.returns-clause-out
 returns-clause-out g c = elim c.match-next.branch [
   | in-None w ↦ absurd (search rules)
-  | in-Some+then-is_ready w ↦ (let ready = w.if-is_ready.ensures in
+  | in-Some+then-is_ready w ↦ (let ready = rw w.if-is_ready.true at w.is_ready.ensures in
       let same = c.reading.invariant.r in λ lt. absurd (omega arith))
   | in-Some+else-is_ready+in_default w ↦ (let none = w.in_default.ensures.none in
       rw w.transport-is (λ lt. (rw none.0 refl, none.1)))

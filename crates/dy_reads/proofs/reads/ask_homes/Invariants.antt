@@ -7,7 +7,7 @@ invariant-loop-i g l =
     let told = g.T.Transport.told l.transport in
     let start = g.T.Transport.told l.initial.transport in
     record {
-      asks : told.asks ≡ start.asks ++ home_asks (requested l.request) l.held (take l.i l.homes);
+      asks : told.asks ≡ start.asks ++ home_asks (requested l.request) l.fn.held (take l.i l.homes);
       count : length told.asks ≤ length start.asks + l.i;
       replies : told.replies ≡ [];
       tries : told.tries ≡ start.tries;
