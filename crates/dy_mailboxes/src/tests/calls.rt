@@ -72,6 +72,25 @@ pub fn ask_fetch<J: Naming, R: Wait>(
     mailboxes.ask(rt, node, &ask);
 }
 
+// The line of the next answer, where one is left.
+fn next_line<J: Naming, R: Wait>(
+    rt: &R,
+    alloc: Global,
+    mailboxes: &mut Mailboxes<'_, J>,
+) -> Result<Option<String>, Fault> {
+    let Some((node, home, answer)) = mailboxes.next_reply(rt) else {
+        return Ok(None);
+    };
+    let kind = AnswerKind::of(&answer);
+    Ok(Some(format!(in alloc; "{node}/{home}={kind}")?))
+}
+
+// The lines, in order.
+fn sorted(mut lines: Vec<String>) -> Result<Vec<String>, Fault> {
+    lines.sort()?;
+    Ok(lines)
+}
+
 // Each answer that is read, in the order of their texts.
 pub fn answers<J: Naming, R: Wait>(
     rt: &R,
@@ -80,12 +99,10 @@ pub fn answers<J: Naming, R: Wait>(
 ) -> Result<Vec<String>, Fault> {
     let mut lines = Vec::new(alloc);
     for _ in 0..8 {
-        let Some((node, home, answer)) = mailboxes.next_reply(rt) else {
-            lines.sort()?;
-            return Ok(lines);
-        };
-        let kind = AnswerKind::of(&answer);
-        lines.push(format!(in alloc; "{node}/{home}={kind}")?)?;
+        match next_line(rt, alloc, mailboxes)? {
+            Some(line) => lines.push(line)?,
+            None => return sorted(lines),
+        }
     }
     Err(Fault::TooMany)
 }
