@@ -1,5 +1,5 @@
 // A scene's workers, each in a thread of its own, and its one client.
-ghost use Rattle.std.specs.Prelude.{◌≡◌, [], take};
+ghost use Rattle.std.specs.Prelude.{◌≡◌, ◌<◌, [], length, take};
 ghost use Rattle.dy_preference.specs.Preferences.{homes_of};
 ghost use Rattle.dy_transport.specs.Told.{nothing_told};
 
@@ -7,7 +7,7 @@ use crate::ends::Inbox;
 use crate::gates::Gate;
 use crate::parcels::Posted;
 use crate::posts::Post;
-use crate::tests::calls::{answers, ask_fetch, ask_store, begin};
+use crate::tests::calls::{answers, ask_fetch, ask_store, begin_row};
 use crate::transports::Mailboxes;
 use crate::workers::serve;
 use dy_book::Book;
@@ -52,6 +52,14 @@ fn work<J: Naming, G: Gate, R: Wait>(
     }
 }
 
+// Node 0 is asked what it keeps.
+fn ask_look<J: Naming, R: Wait>(rt: &R, stage: &Stage<'_, J>, mailboxes: &mut Mailboxes<'_, J>)
+    requires { length mailboxes.old.asks < mailboxes.old.room }
+{
+    let since = stage.book.lock(rt).since();
+    ask_fetch(rt, mailboxes, NodeId::nth(0), stage.key, &since);
+}
+
 // Nodes 1 and 2 are asked to hold the row, and node 0 what it keeps.
 fn ask_all<J: Naming, R: Wait>(
     rt: &R,
@@ -66,8 +74,7 @@ fn ask_all<J: Naming, R: Wait>(
 {
     ask_store(rt, mailboxes, stage.list, NodeId::nth(1), row)?;
     ask_store(rt, mailboxes, stage.list, NodeId::nth(2), row)?;
-    let since = stage.book.lock(rt).since();
-    ask_fetch(rt, mailboxes, NodeId::nth(0), stage.key, &since);
+    ask_look(rt, stage, mailboxes);
     Ok(())
 }
 
@@ -80,20 +87,30 @@ fn begin_and_ask<J: Naming, R: Wait>(
     requires { mailboxes.old ≡ nothing_told 32 }
 {
     let (alloc, list, key) = (stage.alloc, stage.list, stage.key);
-    let began = begin(rt, alloc, mailboxes, list, NodeId::nth(0), key)?;
-    ask_all(rt, stage, mailboxes, &began.row)
+    let row = begin_row(rt, alloc, mailboxes, list, NodeId::nth(0), key)?;
+    ask_all(rt, stage, mailboxes, &row)
 }
 
 // What is answered to these asks.
+fn ask_over<J: Naming, R: Wait>(
+    rt: &R,
+    stage: &Stage<'_, J>,
+    mailboxes: &mut Mailboxes<'_, J>,
+) -> Result<Vec<String>, Fault>
+    requires { mailboxes.old ≡ nothing_told 32 }
+{
+    begin_and_ask(rt, stage, mailboxes)?;
+    answers(rt, stage.alloc, mailboxes)
+}
+
+// The same over mailboxes of this post.
 fn ask_three<J: Naming, R: Wait>(
     rt: &R,
     stage: &Stage<'_, J>,
     post: &mut Post<J>,
 ) -> Result<Vec<String>, Fault> {
-    let alloc = stage.alloc;
-    let mut mailboxes = Mailboxes::new(alloc, stage.nodes, stage.book, post, 32)?;
-    begin_and_ask(rt, stage, &mut mailboxes)?;
-    answers(rt, alloc, &mut mailboxes)
+    let mut mailboxes = Mailboxes::new(stage.alloc, stage.nodes, stage.book, post, 32)?;
+    ask_over(rt, stage, &mut mailboxes)
 }
 
 // The same where each worker was started, after which the mailboxes are closed.
