@@ -1,14 +1,15 @@
 // A book's calls, each with what it asks for looked at first. Where it isn't met the call answers
 // that the node is down, which no call of a book answers.
-ghost use Rattle.std.specs.Prelude.{◌≡◌, ◌≢◌, ◌∷◌, [], take, true, IfOk, IsTrue};
+ghost use Rattle.std.specs.Prelude.{◌≡◌, ◌≢◌, ◌<◌, ◌∷◌, [], take, true, IfOk, IsTrue};
 ghost use Rattle.dy_preference.specs.Preferences.{homes_of, may_hold};
+ghost use Rattle.dy_shares.specs.Shares.{since_of};
 ghost use Rattle.dy_book.specs.Books.{MayIssue, MayRelease, world_of};
 
 use dy_book::Book;
 use dy_core::Place;
 use dy_dots::{Context, Fault, NodeId};
 use dy_preference::Preference;
-use dy_shares::{Naming, NodeShare, Receipt, Seen, SessionShare};
+use dy_shares::{Naming, NodeShare, Receipt, Seen, SessionShare, Since};
 use dy_siblings::{Key, Row, Value, Version};
 use std::alloc::Global;
 
@@ -151,16 +152,6 @@ fn are_of_two<J: Naming>(one: &Seen<J>, two: &Seen<J>) -> bool
     one.home() != two.home()
 }
 
-// Both answers.
-fn both<J: Naming>(alloc: Global, one: Seen<J>, two: Seen<J>) -> Result<Vec<Seen<J>>, Fault>
-    ensures { IfOk result (λ seens. seens.items ≡ one ∷ two ∷ []) }
-{
-    let mut seens = Vec::with_capacity(alloc, 2)?;
-    seens.push_reserved(one);
-    seens.push_reserved(two);
-    Ok(seens)
-}
-
 // The two answers, where they are of two homes, else none.
 fn pair<J: Naming>(alloc: Global, one: Seen<J>, two: Seen<J>) -> Result<Vec<Seen<J>>, Fault>
     ensures items { IfOk result (λ seens. seens.items ≡ one ∷ two ∷ []) }
@@ -169,7 +160,41 @@ fn pair<J: Naming>(alloc: Global, one: Seen<J>, two: Seen<J>) -> Result<Vec<Seen
     if !are_of_two(&one, &two) {
         return Err(Fault::Down);
     }
-    both(alloc, one, two)
+    let seens = Vec::from_array(alloc, [one, two])?;
+    Ok(seens)
+}
+
+// The session is told the two answers.
+fn told_two<J: Naming>(
+    alloc: Global,
+    session: &mut SessionShare<J>,
+    one: Seen<J>,
+    two: Seen<J>,
+) -> Result<(), Fault>
+    requires r { J.r ≡ 2 }
+    requires one_key { one.key ≡ two.key }
+    requires first { since_of session.old < one.at }
+    requires second { since_of session.old < two.at }
+{
+    let seens = pair(alloc, one, two)?;
+    session.note_get(seens)
+}
+
+// The node of this number answers for itself.
+fn answer_of<J: Naming>(
+    book: &mut Book<J>,
+    shares: &[NodeShare<J>],
+    number: usize,
+    key: &Key,
+    since: &Since<J>,
+) -> Result<Seen<J>, Fault>
+    ensures key { IfOk result (λ seen. seen.key ≡ key.now) }
+    ensures later { IfOk result (λ seen. since.now < seen.at) }
+{
+    match shares.get(number) {
+        Some(share) => book.fetch_step(share, share.node(), key, since),
+        None => Err(Fault::Down),
+    }
 }
 
 // The first two nodes answer for themselves, and the session is told.
@@ -182,12 +207,8 @@ pub fn asked<J: Naming>(
 ) -> Result<(), Fault>
     requires { J.r ≡ 2 }
 {
-    let (Some(first), Some(second)) = (shares.first(), shares.get(1)) else {
-        return Err(Fault::Down);
-    };
     let since = session.since();
-    let one = book.fetch_step(first, first.node(), key, &since)?;
-    let two = book.fetch_step(second, second.node(), key, &since)?;
-    let seens = pair(alloc, one, two)?;
-    session.note_get(seens)
+    let one = answer_of(book, shares, 0, key, &since)?;
+    let two = answer_of(book, shares, 1, key, &since)?;
+    told_two(alloc, session, one, two)
 }

@@ -4,7 +4,7 @@ ghost use Rattle.std.specs.Prelude.{◌≡◌, ◌<◌, []};
 use crate::calls::asked;
 use crate::outcomes::{Outcome, ended_as, good, play_with};
 use crate::scenes::Scene;
-use crate::setups::two_homes;
+use crate::setups::{Opened, open_with_session, two_homes};
 use dy_book::{Book, CloseRefused, Options};
 use dy_dots::Fault;
 use dy_ring::Ring;
@@ -44,18 +44,12 @@ fn missing<J: Naming>(alloc: Global, blank: Blank, ring: Ring) -> Result<bool, F
     requires n { J.n ≡ 2 }
     requires r { J.r ≡ 1 }
 {
-    let mut back = Vec::with_capacity(alloc, 1)?;
-    let (mut book, nodes) = match Book::<J>::open(alloc, blank, ring, two_homes(9, 9, 9)) {
-        Ok(opened) => opened,
-        Err(fault) => {
-            back.destroy_empty();
-            return Err(fault);
-        }
-    };
-    let Ok(session) = book.session() else {
-        book.abandon(nodes, back);
-        return Ok(false);
-    };
+    let Opened {
+        book,
+        nodes,
+        session,
+        sessions: mut back,
+    } = open_with_session::<J>(alloc, blank, ring, two_homes(9, 9, 9))?;
     back.push_reserved(session);
     let (is_missing, book, nodes) = without_sessions(book, nodes, Vec::new(alloc));
     let ended = ended_as(Ok(is_missing), book.close(nodes, back))?;
@@ -109,18 +103,12 @@ fn told_a_get<J: Naming>(
         r: 2,
         ..two_homes(9, 9, 9)
     };
-    let mut sessions = Vec::with_capacity(alloc, 1)?;
-    let (mut book, nodes) = match Book::<J>::open(alloc, blank, ring, options) {
-        Ok(opened) => opened,
-        Err(fault) => {
-            sessions.destroy_empty();
-            return Err(fault);
-        }
-    };
-    let Ok(mut session) = book.session() else {
-        book.abandon(nodes, sessions);
-        return Err(Fault::TooMany);
-    };
+    let Opened {
+        mut book,
+        nodes,
+        mut session,
+        mut sessions,
+    } = open_with_session::<J>(alloc, blank, ring, options)?;
     let told = asked(alloc, &mut book, nodes.as_slice(), &mut session, key);
     sessions.push_reserved(session);
     ended_as(Ok(told.is_ok()), book.close(nodes, sessions))

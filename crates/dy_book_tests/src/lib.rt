@@ -23,3 +23,5 @@ mod scenes;
 mod setups;
 #[cfg(test)]
 mod texts;
+#[cfg(test)]
+mod worlds;

@@ -4,11 +4,12 @@ ghost use Rattle.dy_preference.specs.Preferences.{homes_of};
 
 use crate::calls::{acknowledge, let_go, make};
 use crate::scenes::kept_by;
-use crate::setups::{three_nodes, two_homes};
+use crate::setups::{Opened, open_with_session, three_nodes, two_homes};
 use crate::texts::{text_of, text_of_world};
+use crate::worlds::{also_ack, also_hold, also_make, also_release, empty_world, known_to, own_row};
 use dy_book::{Audit, Book, CloseRefused};
-use dy_core::{Place, Step, World};
-use dy_dots::{Context, Dot, Fault, NodeId};
+use dy_core::{Place, World};
+use dy_dots::{Context, Fault};
 use dy_preference::{Preference, preference};
 use dy_ring::Ring;
 use dy_shares::{Blank, Naming, NodeShare, Receipt, SessionShare};
@@ -29,55 +30,20 @@ pub enum Deed {
     Ack(u8),
 }
 
-// The world makes the step too, where it allows it.
-fn also(alloc: Global, world: &mut World, step: Step) -> Result<(), Fault> {
-    if world.allows(alloc, &step)? {
-        let _answer = world.apply(alloc, step)?;
-    }
-    Ok(())
-}
-
-// The dots of what the node holds for itself.
-fn known_to(alloc: Global, world: &World, key: &Key, node: NodeId) -> Result<Context, Fault> {
-    match world.row(Place::own(node), key) {
-        Some(row) => row.dots(alloc),
-        None => Ok(Context::new(alloc)),
-    }
-}
-
-// What the node of this number holds for itself.
-fn own_row(alloc: Global, world: &World, key: &Key, node: u8) -> Result<Row, Fault> {
-    let Some(node) = NodeId::new(node) else {
-        return Err(Fault::Down);
-    };
-    match world.row(Place::own(node), key) {
-        Some(row) => row.try_clone(alloc),
-        None => Err(Fault::Down),
-    }
-}
-
-// The world issues this version too, and holds it alone.
-fn also_make(
-    alloc: Global,
-    world: &mut World,
+// The node makes a version that follows those that the context names.
+fn version_made<J: Naming>(
+    book: &mut Book<J>,
+    share: &mut NodeShare<J>,
+    list: &Preference,
     key: &Key,
-    context: Context,
-    version: &Version,
-) -> Result<(), Fault> {
-    let node = version.dot().node();
-    let issue = Step::Issue {
-        node,
-        key: key.try_clone(alloc)?,
-        context,
-        value: None,
-    };
-    also(alloc, world, issue)?;
-    let hold = Step::Hold {
-        holder: node,
-        home: node,
-        row: Row::of(alloc, version.try_clone(alloc)?)?,
-    };
-    also(alloc, world, hold)
+    context: &Context,
+) -> Result<Version, Fault>
+    requires { take list.now.n list.now.nodes ≡ homes_of J.ring J.n key.now }
+{
+    match make(book, share, list, key, context, None) {
+        Ok((version, _receipt)) => Ok(version),
+        Err(fault) => Err(fault),
+    }
 }
 
 // The node of this number makes a version that follows what it holds for itself.
@@ -96,7 +62,7 @@ fn made<J: Naming>(
         return Err(Fault::Down);
     };
     let context = known_to(alloc, world, key, share.node())?;
-    let (version, _receipt) = make(book, share, list, key, &context, None)?;
+    let version = version_made(book, share, list, key, &context)?;
     also_make(alloc, world, key, context, &version)
 }
 
@@ -118,22 +84,27 @@ fn last_kept<J: Naming>(
     }
 }
 
-// The world holds the row too, where the receipt says.
-fn also_hold<J: Naming>(
+// The holder holds for the home what the third node holds for itself in the world: the last receipt.
+fn own_kept<J: Naming>(
     alloc: Global,
-    world: &mut World,
-    receipt: &Receipt<J>,
-    row: Row,
-) -> Result<(), Fault> {
-    let step = Step::Hold {
-        holder: receipt.holder(),
-        home: receipt.home(),
-        row,
-    };
-    also(alloc, world, step)
+    book: &mut Book<J>,
+    shares: &mut [NodeShare<J>],
+    list: &Preference,
+    key: &Key,
+    world: &World,
+    places: (u8, u8, u8),
+) -> Result<Receipt<J>, Fault>
+    requires { take list.now.n list.now.nodes ≡ homes_of J.ring J.n key.now }
+{
+    let (holder, home, from) = places;
+    let row = own_row(alloc, world, key, from)?;
+    if row.key() != key {
+        return Err(Fault::Down);
+    }
+    last_kept(book, shares, list, holder, home, &row)
 }
 
-// The holder holds for the home what this node holds for itself; gives the last receipt.
+// The same in the book and then in the world.
 fn held<J: Naming>(
     alloc: Global,
     book: &mut Book<J>,
@@ -145,31 +116,9 @@ fn held<J: Naming>(
 ) -> Result<Receipt<J>, Fault>
     requires { take list.now.n list.now.nodes ≡ homes_of J.ring J.n key.now }
 {
-    let (holder, home, from) = places;
-    let row = own_row(alloc, world, key, from)?;
-    if row.key() != key {
-        return Err(Fault::Down);
-    }
-    let receipt = last_kept(book, shares, list, holder, home, &row)?;
-    also_hold(alloc, world, &receipt, row)?;
+    let receipt = own_kept(alloc, book, shares, list, key, world, places)?;
+    also_hold(alloc, world, key, &receipt, places.2)?;
     Ok(receipt)
-}
-
-// The world gives the dot up too.
-fn also_release(
-    alloc: Global,
-    world: &mut World,
-    place: Place,
-    key: &Key,
-    dot: Dot,
-) -> Result<(), Fault> {
-    let step = Step::Release {
-        holder: place.holder,
-        home: place.home,
-        key: key.try_clone(alloc)?,
-        dot,
-    };
-    also(alloc, world, step)
 }
 
 // The node of this number gives up the dot of the receipt.
@@ -190,16 +139,6 @@ fn released<J: Naming>(
     also_release(alloc, world, Place { holder, home }, key, dot)
 }
 
-// The world acknowledges the dot too.
-fn also_ack(alloc: Global, world: &mut World, key: &Key, dot: Dot) -> Result<(), Fault> {
-    let step = Step::Ack {
-        key: key.try_clone(alloc)?,
-        dot,
-        w: 1,
-    };
-    also(alloc, world, step)
-}
-
 // The session is told the dot of the receipt.
 fn told<J: Naming>(
     alloc: Global,
@@ -212,6 +151,40 @@ fn told<J: Naming>(
     let dot = receipt.dot();
     acknowledge(alloc, book, session, receipt)?;
     also_ack(alloc, world, key, dot)
+}
+
+// The home holds its own row again, and the holder gives up the last dot of it.
+fn given_up<J: Naming>(
+    alloc: Global,
+    book: &mut Book<J>,
+    shares: &mut [NodeShare<J>],
+    list: &Preference,
+    key: &Key,
+    world: &mut World,
+    places: (u8, u8),
+) -> Result<(), Fault>
+    requires { take list.now.n list.now.nodes ≡ homes_of J.ring J.n key.now }
+{
+    let (holder, home) = places;
+    let receipt = held(alloc, book, shares, list, key, world, (home, home, home))?;
+    released(alloc, book, shares, key, world, holder, receipt)
+}
+
+// The home holds its own row again, and the session is told the last dot of it.
+fn acked<J: Naming>(
+    alloc: Global,
+    book: &mut Book<J>,
+    shares: &mut [NodeShare<J>],
+    session: &mut SessionShare<J>,
+    list: &Preference,
+    key: &Key,
+    world: &mut World,
+    home: u8,
+) -> Result<(), Fault>
+    requires { take list.now.n list.now.nodes ≡ homes_of J.ring J.n key.now }
+{
+    let receipt = held(alloc, book, shares, list, key, world, (home, home, home))?;
+    told(alloc, book, session, key, world, receipt)
 }
 
 // Does the deed.
@@ -234,13 +207,9 @@ fn done<J: Naming>(
             Ok(())
         }
         Deed::Release(holder, home) => {
-            let receipt = held(alloc, book, shares, list, key, world, (home, home, home))?;
-            released(alloc, book, shares, key, world, holder, receipt)
+            given_up(alloc, book, shares, list, key, world, (holder, home))
         }
-        Deed::Ack(home) => {
-            let receipt = held(alloc, book, shares, list, key, world, (home, home, home))?;
-            told(alloc, book, session, key, world, receipt)
-        }
+        Deed::Ack(home) => acked(alloc, book, shares, session, list, key, world, home),
     }
 }
 
@@ -302,21 +271,12 @@ fn played<J: Naming>(
     requires r { J.r ≡ 1 }
     requires list { take list.now.n list.now.nodes ≡ homes_of J.ring J.n key.now }
 {
-    let mut sessions = Vec::with_capacity(alloc, 1)?;
-    let (mut book, mut nodes) = match Book::<J>::open(alloc, blank, ring, two_homes(99, 99, 999)) {
-        Ok(opened) => opened,
-        Err(fault) => {
-            sessions.destroy_empty();
-            return Err(fault);
-        }
-    };
-    let mut session = match book.session() {
-        Ok(session) => session,
-        Err(fault) => {
-            book.abandon(nodes, sessions);
-            return Err(fault);
-        }
-    };
+    let Opened {
+        mut book,
+        mut nodes,
+        mut session,
+        mut sessions,
+    } = open_with_session::<J>(alloc, blank, ring, two_homes(99, 99, 999))?;
     let done = all_done(
         alloc,
         &mut book,
@@ -329,15 +289,6 @@ fn played<J: Naming>(
     );
     sessions.push_reserved(session);
     told_by(alloc, done, book.close(nodes, sessions))
-}
-
-// The empty world of three nodes and two homes a key.
-fn empty_world(alloc: Global) -> Result<World, Fault> {
-    let ring = three_nodes(alloc)?;
-    if ring.nodes() != 3 {
-        return Err(Fault::TooMany);
-    }
-    World::new(alloc, ring, 2)
 }
 
 // What a book tells after the deeds on the key `a`, which the world does too.

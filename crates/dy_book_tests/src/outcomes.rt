@@ -2,9 +2,9 @@
 ghost use Rattle.std.specs.Prelude.{◌≡◌, take};
 ghost use Rattle.dy_preference.specs.Preferences.{homes_of};
 
-use crate::scenes::{Scene, run};
-use crate::setups::{three_nodes, two_homes};
-use dy_book::{Audit, Book, CloseRefused, Options};
+use crate::scenes::{Refused, Scene, run};
+use crate::setups::{Opened, open_with_session, three_nodes, two_homes};
+use dy_book::{Audit, CloseRefused, Options};
 use dy_dots::Fault;
 use dy_preference::{Preference, preference};
 use dy_ring::Ring;
@@ -62,21 +62,12 @@ fn play<J: Naming>(
     requires r { options.r ≡ J.r }
     requires list { take list.now.n list.now.nodes ≡ homes_of J.ring J.n key.now }
 {
-    let mut sessions = Vec::with_capacity(alloc, 1)?;
-    let (mut book, mut nodes) = match Book::<J>::open(alloc, blank, ring, options) {
-        Ok(opened) => opened,
-        Err(fault) => {
-            sessions.destroy_empty();
-            return Err(fault);
-        }
-    };
-    let mut session = match book.session() {
-        Ok(session) => session,
-        Err(fault) => {
-            book.abandon(nodes, sessions);
-            return Err(fault);
-        }
-    };
+    let Opened {
+        mut book,
+        mut nodes,
+        mut session,
+        mut sessions,
+    } = open_with_session::<J>(alloc, blank, ring, options)?;
     let played = run(
         alloc,
         &mut book,
@@ -128,9 +119,17 @@ fn before(count: usize, fault: Fault) -> Scene {
 fn scenes_end_in_their_audits(rt: HostRuntime) -> Result<(), Fault> {
     for (limits, scene, ended) in [
         ((9, 9, 9), Scene::Hint, good(2, 0, 5, 1)),
-        ((9, 9, 4), Scene::FullLog, good(3, 0, 4, 0)),
-        ((9, 9, 9), Scene::OtherValue, good(1, 0, 2, 1)),
-        ((9, 9, 9), Scene::Forged, good(0, 0, 0, 0)),
+        (
+            (9, 9, 4),
+            Scene::Refused(Refused::FullLog),
+            good(3, 0, 4, 0),
+        ),
+        (
+            (9, 9, 9),
+            Scene::Refused(Refused::OtherValue),
+            good(1, 0, 2, 1),
+        ),
+        ((9, 9, 9), Scene::Refused(Refused::Forged), good(0, 0, 0, 0)),
         ((9, 9, 3), Scene::Ack, good(1, 1, 3, 1)),
         ((2, 9, 9), before(2, Fault::CounterFull), good(1, 0, 4, 1)),
         ((9, 1, 9), before(1, Fault::VersionsFull), good(1, 0, 2, 1)),
@@ -154,7 +153,7 @@ fn limits_outside_their_ranges_are_refused(rt: HostRuntime) -> Result<(), Fault>
         (1, 1, 0),
         (1, 1, 1_000_001),
     ] {
-        let outcome = play_with(rt.alloc(), limits, Scene::Forged);
+        let outcome = play_with(rt.alloc(), limits, Scene::Refused(Refused::Forged));
         assert!(&rt; outcome.err() == Some(Fault::TooMany));
     }
     Ok(())

@@ -87,6 +87,26 @@ fn copied<J: Naming>(rt: &HostRuntime, receipt: &Receipt<J>) -> Result<Receipt<J
     }
 }
 
+// Gives up the dot once more, where this refused it and the book is as before.
+fn given_up_again<J: Naming>(
+    rt: &HostRuntime,
+    book: &mut Book<J>,
+    share: &mut NodeShare<J>,
+    again: Receipt<J>,
+    fault: Fault,
+) -> Result<(), Fail> {
+    tell(rt, "Book::release", fault)?;
+    let place = Place {
+        holder: share.node(),
+        home: again.home(),
+    };
+    if book.held_dots(place, again.key()).len() != 1 {
+        return Err(Fail::new("a refused release changed the book"));
+    }
+    let_go(rt.alloc(), book, share, again)?;
+    Ok(())
+}
+
 // The node gives up the dot of the receipt.
 fn given_up<J: Naming>(
     rt: &HostRuntime,
@@ -95,17 +115,22 @@ fn given_up<J: Naming>(
     receipt: Receipt<J>,
 ) -> Result<(), Fail> {
     let again = copied(rt, &receipt)?;
-    let place = Place {
-        holder: share.node(),
-        home: receipt.home(),
-    };
-    if let Err(fault) = let_go(rt.alloc(), book, share, receipt) {
-        tell(rt, "Book::release", fault)?;
-        if book.held_dots(place, again.key()).len() != 1 {
-            return Err(Fail::new("a refused release changed the book"));
-        }
-        let_go(rt.alloc(), book, share, again)?;
+    match let_go(rt.alloc(), book, share, receipt) {
+        Ok(()) => Ok(()),
+        Err(fault) => given_up_again(rt, book, share, again, fault),
     }
+}
+
+// Tells the session once more, where this refused it.
+fn acknowledged_again<J: Naming>(
+    rt: &HostRuntime,
+    book: &mut Book<J>,
+    session: &mut SessionShare<J>,
+    again: Receipt<J>,
+    fault: Fault,
+) -> Result<(), Fail> {
+    tell(rt, "Book::ack", fault)?;
+    acknowledge(rt.alloc(), book, session, again)?;
     Ok(())
 }
 
@@ -117,11 +142,10 @@ fn acknowledged<J: Naming>(
     receipt: Receipt<J>,
 ) -> Result<(), Fail> {
     let again = copied(rt, &receipt)?;
-    if let Err(fault) = acknowledge(rt.alloc(), book, session, receipt) {
-        tell(rt, "Book::ack", fault)?;
-        acknowledge(rt.alloc(), book, session, again)?;
+    match acknowledge(rt.alloc(), book, session, receipt) {
+        Ok(()) => Ok(()),
+        Err(fault) => acknowledged_again(rt, book, session, again, fault),
     }
-    Ok(())
 }
 
 // The number of the step in which the node looks at what it holds for itself.
@@ -278,7 +302,20 @@ fn held_by_both<J: Naming>(
     held_by(rt, book, shares, list, 1, row)
 }
 
-// How many places cover the row's first version before node 2 gives it up.
+// How many places cover the row's first version before node 2 gives it up by this receipt.
+fn counted<J: Naming>(
+    rt: &HostRuntime,
+    book: &mut Book<J>,
+    shares: &mut [NodeShare<J>],
+    row: &Row,
+    of_home: Receipt<J>,
+) -> Result<usize, Fail> {
+    let both = covering_first(rt, book, row.key(), row)?;
+    handed_over(rt, book, shares, of_home)?;
+    Ok(both)
+}
+
+// The same, where nodes 2 and 1 hold the row first.
 fn moved<J: Naming>(
     rt: &HostRuntime,
     book: &mut Book<J>,
@@ -289,9 +326,7 @@ fn moved<J: Naming>(
     requires { take list.now.n list.now.nodes ≡ homes_of J.ring J.n row.now.key }
 {
     let of_home = held_by_both(rt, book, shares, list, row)?;
-    let both = covering_first(rt, book, row.key(), row)?;
-    handed_over(rt, book, shares, of_home)?;
-    Ok(both)
+    counted(rt, book, shares, row, of_home)
 }
 
 // Node 2 holds the row for node 1 until node 1 has it.

@@ -131,9 +131,8 @@ fn is_held_beside<J: Naming>(
     Ok(covered && holds(book, 0, 0, key, dot) && holds(book, holder, 1, key, dot))
 }
 
-// The row is held by node 2 for node 1, then by node 1, and given up by node 2.
-fn a_row_moves<J: Naming>(
-    alloc: Global,
+// Whether node 2 holds the row for node 1, with one receipt, beside node 0.
+fn a_row_is_hinted<J: Naming>(
     book: &mut Book<J>,
     shares: &mut [NodeShare<J>],
     list: &Preference,
@@ -144,9 +143,23 @@ fn a_row_moves<J: Naming>(
 {
     let count = hinted(book, shares, list, row)?;
     let before = is_held_beside(book, row.key(), dot, 2)?;
+    Ok(count == 1 && before)
+}
+
+// Whether node 1 holds the row itself, beside node 0, and node 2 gave it up.
+fn a_row_moves<J: Naming>(
+    alloc: Global,
+    book: &mut Book<J>,
+    shares: &mut [NodeShare<J>],
+    list: &Preference,
+    row: &Row,
+    dot: Dot,
+) -> Result<bool, Fault>
+    requires { take list.now.n list.now.nodes ≡ homes_of J.ring J.n row.now.key }
+{
     handed_over(alloc, book, shares, list, row)?;
     let after = is_held_beside(book, row.key(), dot, 1)?;
-    Ok(count == 1 && before && after && holds_nothing(book, 2, 1, row.key()))
+    Ok(after && holds_nothing(book, 2, 1, row.key()))
 }
 
 // Node 2 holds for node 1, until node 1 holds itself and node 2 gives up.
@@ -160,6 +173,9 @@ fn a_hint_is_given_up<J: Naming>(
     requires { take list.now.n list.now.nodes ≡ homes_of J.ring J.n key.now }
 {
     let (row, dot) = first_row(alloc, book, shares, list, key)?;
+    if !a_row_is_hinted(book, shares, list, &row, dot)? {
+        return Ok(false);
+    }
     a_row_moves(alloc, book, shares, list, &row, dot)
 }
 
@@ -168,20 +184,19 @@ fn is_at_all_three<J: Naming>(book: &Book<J>, key: &Key, dot: Dot) -> Result<boo
     is_covered(book, key, dot, &[(0, 0), (1, 1), (2, 1)])
 }
 
-// Whether, once the log has no room, a release and a hold are refused whole.
+// Whether the log has no room for a release and a hold, one after the other.
 fn both_are_refused<J: Naming>(
     alloc: Global,
     book: &mut Book<J>,
     shares: &mut [NodeShare<J>],
     list: &Preference,
     row: &Row,
-) -> Result<bool, Fault>
+) -> bool
     requires { take list.now.n list.now.nodes ≡ homes_of J.ring J.n row.now.key }
 {
-    let _hints = hinted(book, shares, list, row)?;
-    let released = handed_over(alloc, book, shares, list, row);
-    let held = hinted(book, shares, list, row);
-    Ok(released == Err(Fault::StepsFull) && held == Err(Fault::StepsFull))
+    let released = handed_over(alloc, book, shares, list, row).err();
+    let held = hinted(book, shares, list, row).err();
+    released == Some(Fault::StepsFull) && held == Some(Fault::StepsFull)
 }
 
 // With four steps done of four, a release and a hold are refused whole, and no release at all is
@@ -196,7 +211,8 @@ fn a_full_log_refuses_whole<J: Naming>(
     requires { take list.now.n list.now.nodes ≡ homes_of J.ring J.n key.now }
 {
     let (row, dot) = first_row(alloc, book, shares, list, key)?;
-    let refused = both_are_refused(alloc, book, shares, list, &row)?;
+    let _hints = hinted(book, shares, list, &row)?;
+    let refused = both_are_refused(alloc, book, shares, list, &row);
     Ok(refused && is_at_all_three(book, key, dot)?)
 }
 
@@ -318,15 +334,39 @@ fn makes_before<J: Naming>(
     false
 }
 
+// What a book refuses.
+#[derive(Clone, Copy)]
+pub enum Refused {
+    FullLog,
+    OtherValue,
+    Forged,
+}
+
 // What is done with a book.
 #[derive(Clone, Copy)]
 pub enum Scene {
     Hint,
-    FullLog,
-    OtherValue,
-    Forged,
     Ack,
+    Refused(Refused),
     Limit { count: usize, fault: Fault },
+}
+
+// Whether it is refused as it should be.
+fn run_refused<J: Naming>(
+    alloc: Global,
+    book: &mut Book<J>,
+    shares: &mut [NodeShare<J>],
+    list: &Preference,
+    key: &Key,
+    refused: Refused,
+) -> Result<bool, Fault>
+    requires { take list.now.n list.now.nodes ≡ homes_of J.ring J.n key.now }
+{
+    match refused {
+        Refused::FullLog => a_full_log_refuses_whole(alloc, book, shares, list, key),
+        Refused::OtherValue => another_value_is_not_held(alloc, book, shares, list, key),
+        Refused::Forged => a_forged_context_is_refused(alloc, book, shares, list, key),
+    }
 }
 
 // Whether the scene goes as it should.
@@ -343,10 +383,8 @@ pub fn run<J: Naming>(
 {
     match scene {
         Scene::Hint => a_hint_is_given_up(alloc, book, shares, list, key),
-        Scene::FullLog => a_full_log_refuses_whole(alloc, book, shares, list, key),
-        Scene::OtherValue => another_value_is_not_held(alloc, book, shares, list, key),
-        Scene::Forged => a_forged_context_is_refused(alloc, book, shares, list, key),
         Scene::Ack => an_ack_is_told(alloc, book, shares, session, list, key),
+        Scene::Refused(refused) => run_refused(alloc, book, shares, list, key, refused),
         Scene::Limit { count, fault } => {
             Ok(makes_before(alloc, book, shares, list, key, count, fault))
         }

@@ -1,9 +1,10 @@
 // What the tests begin with.
-ghost use Rattle.std.specs.Prelude.{◌≡◌};
+ghost use Rattle.std.specs.Prelude.{◌≡◌, ◌<◌, IfOk, vec_capacity, vec_len};
 
-use dy_book::Options;
+use dy_book::{Book, Options};
 use dy_dots::Fault;
 use dy_ring::Ring;
+use dy_shares::{Blank, Naming, NodeShare, SessionShare};
 use std::alloc::Global;
 
 // The tokens of a node of one token.
@@ -39,5 +40,50 @@ pub fn two_homes(counter_limit: u32, versions_limit: usize, steps_limit: usize) 
         counter_limit,
         versions_limit,
         steps_limit,
+    }
+}
+
+// A new book with its nodes' shares and a session, for whose share there is room in the list.
+pub struct Opened<J: Naming> {
+    pub book: Book<J>,
+    pub nodes: Vec<NodeShare<J>>,
+    pub session: SessionShare<J>,
+    pub sessions: Vec<SessionShare<J>>,
+}
+
+// Opens a book and a session.
+pub fn open_with_session<J: Naming>(
+    alloc: Global,
+    blank: Blank,
+    ring: Ring,
+    options: Options,
+) -> Result<Opened<J>, Fault>
+    requires named { blank ≡ record { book = J.book; table = J.table } }
+    requires ring { ring ≡ J.ring }
+    requires n { options.n ≡ J.n }
+    requires r { options.r ≡ J.r }
+    ensures session { IfOk result (λ opened. 0 < opened.book.sessions) }
+    ensures room { IfOk result (λ opened.
+        vec_len opened.sessions < vec_capacity opened.sessions) }
+{
+    let sessions = Vec::with_capacity(alloc, 1)?;
+    let (mut book, nodes) = match Book::<J>::open(alloc, blank, ring, options) {
+        Ok(opened) => opened,
+        Err(fault) => {
+            sessions.destroy_empty();
+            return Err(fault);
+        }
+    };
+    match book.session() {
+        Ok(session) => Ok(Opened {
+            book,
+            nodes,
+            session,
+            sessions,
+        }),
+        Err(fault) => {
+            book.abandon(nodes, sessions);
+            Err(fault)
+        }
     }
 }

@@ -1,9 +1,24 @@
 ghost use Rattle.std.specs.Prelude.{◌≡◌};
 
 use dy_dots::Fault;
-use dy_shares::{Blank, EndRefused, Ledger, Naming};
+use dy_shares::{Blank, EndRefused, Ledger, Naming, NodeShare, SessionShare};
 use std::alloc::Global;
 use std::marker::Brand;
+
+// Whether the ledger ends with all its shares, and with no step.
+fn ends_empty<J: Naming>(
+    ledger: Ledger<J>,
+    nodes: Vec<NodeShare<J>>,
+    sessions: Vec<SessionShare<J>>,
+) -> bool {
+    match ledger.end(nodes, sessions) {
+        Ok(steps) => steps.is_empty(),
+        Err(refused) => {
+            refused.abandon();
+            false
+        }
+    }
+}
 
 // A session's share is kept back, and then handed in.
 fn missing<J: Naming>(alloc: Global, blank: Blank) -> Result<bool, Fault>
@@ -32,13 +47,7 @@ fn missing<J: Naming>(alloc: Global, blank: Blank) -> Result<bool, Fault>
                 sessions,
             } = refused;
             sessions.destroy_empty();
-            match ledger.end(nodes, back) {
-                Ok(steps) => Ok(steps.is_empty()),
-                Err(refused) => {
-                    refused.abandon();
-                    Ok(false)
-                }
-            }
+            Ok(ends_empty(ledger, nodes, back))
         }
     }
 }

@@ -116,9 +116,7 @@ fn a_home_that_answers_twice_counts_once(rt: HostRuntime) -> Result<(), Fault> {
 fn merged<J: Naming>(alloc: Global, one: Seen<J>, other: Seen<J>) -> Result<Row, Fault>
     requires { one.key ≡ other.key }
 {
-    let mut seens = Vec::with_capacity(alloc, 2)?;
-    seens.push_reserved(one);
-    seens.push_reserved(other);
+    let seens = Vec::from_array(alloc, [one, other])?;
     merge_all(alloc, seens.as_slice())
 }
 
@@ -138,17 +136,30 @@ fn make<J: Naming>(
     Ok(())
 }
 
+// How many versions this answer and that of node 0 make together.
+fn count_with<J: Naming>(
+    alloc: Global,
+    watched: &mut Watched<J>,
+    key: &Key,
+    one: Seen<J>,
+) -> Result<usize, Fault>
+    requires { one.key ≡ key.now }
+{
+    match watched.fetch(alloc, Place::own(NodeId::nth(0)), key)? {
+        Some(other) => Ok(merged(alloc, one, other)?.versions().len()),
+        None => Ok(9),
+    }
+}
+
 // How many versions the answers of nodes 1 and 0 make together.
 fn count_merged<J: Naming>(
     alloc: Global,
     watched: &mut Watched<J>,
     key: &Key,
 ) -> Result<usize, Fault> {
-    let one = watched.fetch(alloc, Place::own(NodeId::nth(1)), key)?;
-    let other = watched.fetch(alloc, Place::own(NodeId::nth(0)), key)?;
-    match (one, other) {
-        (Some(one), Some(other)) => Ok(merged(alloc, one, other)?.versions().len()),
-        _ => Ok(9),
+    match watched.fetch(alloc, Place::own(NodeId::nth(1)), key)? {
+        Some(one) => count_with(alloc, watched, key, one),
+        None => Ok(9),
     }
 }
 

@@ -7,9 +7,13 @@ mod endings;
 #[cfg(test)]
 mod gets;
 #[cfg(test)]
+mod merges;
+#[cfg(test)]
 mod rings;
 #[cfg(test)]
 mod scenes;
+#[cfg(test)]
+mod steps;
 #[cfg(test)]
 mod tallies;
 #[cfg(test)]

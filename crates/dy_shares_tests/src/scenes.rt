@@ -1,18 +1,18 @@
-ghost use Rattle.std.specs.Prelude.{◌≡◌, [], IfOk, IfSome};
+ghost use Rattle.std.specs.Prelude.{◌≡◌, ◌<◌, [], IfOk, vec_capacity, vec_len};
 
 use crate::rings::three_nodes;
 use crate::watched::{Watched, place_of};
 use dy_core::{Place, Step, World};
 use dy_dots::{Context, Dot, Fault, NodeId};
-use dy_shares::{Blank, Ledger, Merging, Naming, NodeShare, Receipt, Seen, SessionShare};
-use dy_siblings::{Key, Row};
+use dy_shares::{Blank, Ledger, Naming, NodeShare, Receipt, Seen, SessionShare};
+use dy_siblings::Key;
 use std::alloc::Global;
 use std::marker::Brand;
 use std::sync::{Mutex, Wait};
 use std::thread::{Threads, for_each_mut};
 
 // The node of the share makes its first version of the key, and holds it for itself.
-fn issue_and_hold<J: Naming>(
+pub fn issue_and_hold<J: Naming>(
     alloc: Global,
     watched: &mut Watched<J>,
     share: &mut NodeShare<J>,
@@ -64,6 +64,21 @@ fn ask<J: Naming>(
     }
 }
 
+// The receipt of a version that the node of the share makes, taken out of the lock.
+fn make<J: Naming>(
+    rt: &impl Wait,
+    alloc: Global,
+    lock: &Mutex<Watched<J>>,
+    share: &mut NodeShare<J>,
+    key: Key,
+) -> Option<Receipt<J>> {
+    let mut guard = lock.lock(rt);
+    match make_version(alloc, &mut *guard, share, key) {
+        Ok(receipt) => receipt,
+        Err(_) => None,
+    }
+}
+
 // One thread: it takes an answer and a receipt out of the lock, and spends them under it later,
 // whatever the others did in between.
 fn put<J: Naming>(
@@ -76,15 +91,12 @@ fn put<J: Naming>(
         return;
     };
     let seen = ask(rt, alloc, lock, share.node(), &key);
-    let made = {
-        let mut guard = lock.lock(rt);
-        make_version(alloc, &mut *guard, share, key)
-    };
+    let made = make(rt, alloc, lock, share, key);
     if let Some(seen) = seen {
         let mut guard = lock.lock(rt);
         guard.find(&seen);
     }
-    if let Ok(Some(receipt)) = made {
+    if let Some(receipt) = made {
         let mut guard = lock.lock(rt);
         spend(alloc, &mut *guard, &receipt);
     }
@@ -182,6 +194,23 @@ fn first_put<J: Naming>(
     }
 }
 
+// The put of the stand-in's receipt is acknowledged, and its hint goes to its home. It says what the
+// receipt is worth then.
+fn stand_in_of<J: Naming>(
+    alloc: Global,
+    watched: &mut Watched<J>,
+    nodes: &mut [NodeShare<J>],
+    session: &mut SessionShare<J>,
+    receipt: &Receipt<J>,
+) -> Result<Option<bool>, Fault>
+    requires { J.r ≡ 1 }
+{
+    watched.ack(alloc, session, receipt.key(), receipt.dot(), 2)?;
+    hand_over(alloc, watched, nodes, receipt)?;
+    tell(alloc, watched, session, receipt)?;
+    Ok(watched.spend(receipt))
+}
+
 // A put is acknowledged by a node and a stand-in, whose hint goes to its home. It says what the
 // stand-in's receipt is worth then.
 fn stand_in<J: Naming>(
@@ -192,13 +221,25 @@ fn stand_in<J: Naming>(
 ) -> Result<Option<bool>, Fault>
     requires { J.r ≡ 1 }
 {
-    let Some(receipt) = first_put(alloc, watched, nodes)? else {
-        return Ok(None);
-    };
-    watched.ack(alloc, session, receipt.key(), receipt.dot(), 2)?;
-    hand_over(alloc, watched, nodes, &receipt)?;
-    tell(alloc, watched, session, &receipt)?;
-    Ok(watched.spend(&receipt))
+    match first_put(alloc, watched, nodes)? {
+        Some(receipt) => stand_in_of(alloc, watched, nodes, session, &receipt),
+        None => Ok(None),
+    }
+}
+
+// The session is told a get of this answer, where it is later than its since.
+fn tell_seen<J: Naming>(
+    alloc: Global,
+    session: &mut SessionShare<J>,
+    seen: Seen<J>,
+) -> Result<(), Fault>
+    requires { J.r ≡ 1 }
+{
+    if seen.at() <= session.since().at() {
+        return Ok(());
+    }
+    let seens = Vec::from_array(alloc, [seen])?;
+    session.note_get(seens)
 }
 
 // The session is told what the receipt's home answers for itself.
@@ -210,16 +251,55 @@ fn tell<J: Naming>(
 ) -> Result<(), Fault>
     requires { J.r ≡ 1 }
 {
-    let mut seens = Vec::with_capacity(alloc, 1)?;
     let home = receipt.home();
     if let Some(seen) = watched.fetch(alloc, Place::own(home), receipt.key())? {
-        if session.since().at() < seen.at() {
-            seens.push_reserved(seen);
-            session.note_get(seens)?;
-        }
+        tell_seen(alloc, session, seen)?;
     }
     watched.agree_session(session);
     Ok(())
+}
+
+// A watched ledger with its nodes' shares and a session, for whose share there is room in the list.
+struct Opened<J: Naming> {
+    watched: Watched<J>,
+    nodes: Vec<NodeShare<J>>,
+    session: SessionShare<J>,
+    sessions: Vec<SessionShare<J>>,
+}
+
+// Opens a ledger of three nodes and a session.
+fn open_with_session<J: Naming>(
+    alloc: Global,
+    blank: Blank,
+    world: World,
+) -> Result<Opened<J>, Fault>
+    requires named { blank ≡ record { book = J.book; table = J.table } }
+    requires world { world ≡ record { ring = J.ring; n = J.n; steps = [] } }
+    requires nodes { J.ring.nodes ≡ 3 }
+    ensures room { IfOk result (λ opened.
+        vec_len opened.sessions < vec_capacity opened.sessions) }
+{
+    let sessions = Vec::with_capacity(alloc, 1)?;
+    let (ledger, nodes) = match Ledger::<J>::open(alloc, blank, 3) {
+        Ok(opened) => opened,
+        Err(fault) => {
+            sessions.destroy_empty();
+            return Err(fault);
+        }
+    };
+    let mut watched = Watched::new(ledger, world);
+    match watched.session() {
+        Ok(session) => Ok(Opened {
+            watched,
+            nodes,
+            session,
+            sessions,
+        }),
+        Err(fault) => {
+            watched.into_ledger().abandon(nodes, sessions);
+            Err(fault)
+        }
+    }
 }
 
 // What the stand-in's receipt is worth, and how many steps the log has, how many gets the session
@@ -234,19 +314,12 @@ fn handed_over<J: Naming>(
     requires nodes { J.ring.nodes ≡ 3 }
     requires r { J.r ≡ 1 }
 {
-    let mut sessions = Vec::with_capacity(alloc, 1)?;
-    let (ledger, mut nodes) = match Ledger::<J>::open(alloc, blank, 3) {
-        Ok(opened) => opened,
-        Err(fault) => {
-            sessions.destroy_empty();
-            return Err(fault);
-        }
-    };
-    let mut watched = Watched::new(ledger, world);
-    let Ok(mut session) = watched.session() else {
-        watched.into_ledger().abandon(nodes, sessions);
-        return Ok((None, 0, 0, 0));
-    };
+    let Opened {
+        mut watched,
+        mut nodes,
+        mut session,
+        mut sessions,
+    } = open_with_session::<J>(alloc, blank, world)?;
     let spent = stand_in(alloc, &mut watched, nodes.as_mut_slice(), &mut session);
     let (gets, since) = (session.gets(), session.since().at());
     sessions.push_reserved(session);
@@ -299,89 +372,4 @@ fn shares_survive_a_refused_growth(rt: HostRuntime) -> Result<(), Fault> {
         Ok(_) | Err(Fault::OutOfMemory) => Ok(()),
         Err(fault) => Err(fault),
     }
-}
-
-// The node of the share makes a version that follows those which the context names, and answers.
-fn put_and_get<J: Naming>(
-    alloc: Global,
-    watched: &mut Watched<J>,
-    share: &mut NodeShare<J>,
-    key: &Key,
-    context: &Context,
-) -> Result<Option<Seen<J>>, Fault>
-    ensures { IfOk result (λ found. IfSome found (λ seen. seen.key ≡ key.now)) }
-{
-    issue_and_hold(alloc, watched, share, key, context)?;
-    let place = Place::own(share.node());
-    watched.fetch(alloc, place, key)
-}
-
-// The merge of two answers.
-fn merged<J: Naming>(alloc: Global, one: &Seen<J>, other: &Seen<J>) -> Result<Row, Fault>
-    requires { one.now.key ≡ other.now.key }
-{
-    let mut merging = Merging::of(alloc, one)?;
-    merging.add(alloc, other)?;
-    Ok(merging.into_row())
-}
-
-// Node 0 puts, and node 1 puts what follows it. It gives the merge of what both answer.
-fn two_answers<J: Naming>(
-    alloc: Global,
-    watched: &mut Watched<J>,
-    nodes: &mut [NodeShare<J>],
-    key: &Key,
-) -> Result<Option<Row>, Fault> {
-    let Some(zero) = nodes.first_mut() else {
-        return Ok(None);
-    };
-    let Some(first) = put_and_get(alloc, watched, zero, key, &Context::new(alloc))? else {
-        return Ok(None);
-    };
-    let context = first.row().context(alloc)?;
-    let Some(one) = nodes.get_mut(1) else {
-        return Ok(None);
-    };
-    match put_and_get(alloc, watched, one, key, &context)? {
-        Some(second) => Ok(Some(merged(alloc, &first, &second)?)),
-        None => Ok(None),
-    }
-}
-
-fn merge_of_two<J: Naming>(
-    alloc: Global,
-    blank: Blank,
-    world: World,
-    key: &Key,
-) -> Result<Option<Row>, Fault>
-    requires named { blank ≡ record { book = J.book; table = J.table } }
-    requires world { world ≡ record { ring = J.ring; n = J.n; steps = [] } }
-    requires nodes { J.ring.nodes ≡ 3 }
-{
-    let (ledger, mut nodes) = Ledger::<J>::open(alloc, blank, 3)?;
-    let mut watched = Watched::new(ledger, world);
-    let row = two_answers(alloc, &mut watched, nodes.as_mut_slice(), key);
-    watched.into_ledger().abandon(nodes, Vec::new(alloc));
-    row
-}
-
-// The dots of that merge, from nothing.
-fn merged_dots(alloc: Global) -> Result<Option<Context>, Fault> {
-    let blank = Blank::new(alloc)?;
-    let world = three_nodes(alloc, 2)?;
-    let key = Key::new(alloc, b"a")?;
-    match merge_of_two::<Brand>(alloc, blank, world, &key)? {
-        Some(row) => Ok(Some(row.dots(alloc)?)),
-        None => Ok(None),
-    }
-}
-
-#[test]
-fn a_version_that_follows_another_is_left_alone(rt: HostRuntime) -> Result<(), Fault> {
-    let mut text = String::new(rt.alloc());
-    if let Some(dots) = merged_dots(rt.alloc())? {
-        dots.write_text(rt.alloc(), &mut text)?;
-    }
-    assert!(&rt; text.as_str() == "n1:1");
-    Ok(())
 }

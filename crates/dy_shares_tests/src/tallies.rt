@@ -3,13 +3,66 @@ ghost use Rattle.std.specs.Prelude.{◌≡◌, [], IfOk};
 use crate::rings::five_nodes;
 use crate::watched::Watched;
 use dy_core::{Place, World};
-use dy_dots::{Context, Fault, NodeId};
+use dy_dots::{Context, Dot, Fault, NodeId};
 use dy_quorum::{TALLY_ROOM, Tally};
 use dy_shares::{Blank, Ledger, Naming, NodeShare, Receipt};
 use dy_siblings::Key;
 use std::alloc::Global;
 use std::marker::Brand;
 use std::test::Fail;
+
+// Node 0 makes a version of the key.
+fn issued<J: Naming>(
+    alloc: Global,
+    watched: &mut Watched<J>,
+    shares: &mut [NodeShare<J>],
+    key: &Key,
+) -> Result<Option<Dot>, Fault> {
+    match shares.first_mut() {
+        Some(share) => watched.issue(alloc, share, key, &Context::new(alloc)),
+        None => Ok(None),
+    }
+}
+
+// The holder, the first of the pair, holds the version for its home and gives a receipt.
+fn given<J: Naming>(
+    alloc: Global,
+    watched: &mut Watched<J>,
+    shares: &mut [NodeShare<J>],
+    key: &Key,
+    dot: Dot,
+    numbers: (u8, u8),
+) -> Result<Option<Receipt<J>>, Fault> {
+    let (Some(share), Some(home)) = (shares.get_mut(numbers.0 as usize), NodeId::new(numbers.1))
+    else {
+        return Ok(None);
+    };
+    let _held = watched.hold(alloc, share, home, key, dot)?;
+    let holder = share.node();
+    let key = key.try_clone(alloc)?;
+    Ok(watched.receipt(key, dot, Place { holder, home }))
+}
+
+// Each of these holders does so, as many times.
+fn all_given<J: Naming>(
+    alloc: Global,
+    watched: &mut Watched<J>,
+    shares: &mut [NodeShare<J>],
+    key: &Key,
+    dot: Dot,
+    times: usize,
+    places: &[(u8, u8)],
+) -> Result<Vec<Receipt<J>>, Fault> {
+    let mut receipts = Vec::new(alloc);
+    for _ in 0..times {
+        for &numbers in places {
+            if let Some(receipt) = given(alloc, watched, shares, key, dot, numbers)? {
+                receipts.push(receipt)?;
+            }
+        }
+    }
+    Ok(receipts)
+}
 
 // Node 0 makes a version. Then each of these holders, the first of a pair, holds it for its home
 // and gives a receipt, as many times.
@@ -20,32 +73,11 @@ fn receipts<J: Naming>(
     times: usize,
     places: &[(u8, u8)],
 ) -> Result<Vec<Receipt<J>>, Fault> {
-    let mut receipts = Vec::new(alloc);
     let key = Key::new(alloc, b"a")?;
-    let made = match shares.first_mut() {
-        Some(share) => watched.issue(alloc, share, &key, &Context::new(alloc))?,
-        None => None,
-    };
-    let Some(dot) = made else {
-        return Ok(receipts);
-    };
-    for _ in 0..times {
-        for &(holder, home) in places {
-            let (Some(share), Some(home)) = (shares.get_mut(holder as usize), NodeId::new(home))
-            else {
-                return Ok(receipts);
-            };
-            let _held = watched.hold(alloc, share, home, &key, dot)?;
-            let place = Place {
-                holder: share.node(),
-                home,
-            };
-            if let Some(receipt) = watched.receipt(key.try_clone(alloc)?, dot, place) {
-                receipts.push(receipt)?;
-            }
-        }
+    match issued(alloc, watched, shares, &key)? {
+        Some(dot) => all_given(alloc, watched, shares, &key, dot, times, places),
+        None => Ok(Vec::new(alloc)),
     }
-    Ok(receipts)
 }
 
 // Adds each receipt that fits, as long as there is room.

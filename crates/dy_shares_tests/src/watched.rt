@@ -1,7 +1,21 @@
-ghost use Rattle.std.specs.Prelude.{◌≡◌, ◌∷◌, [], None, Some, IfOk, IfSome, IsTrue};
-ghost use Rattle.dy_core.specs.declared.steps.Step.TheVariants.{Ack, Fetch, Hold, Issue, Release};
-ghost use Rattle.dy_shares.specs.Shares.{IsAck, MayFollow, empty_account, node_of, receipt_parts};
+ghost use Rattle.std.specs.Prelude.{◌≡◌, ◌∷◌, [], None, Some, IfOk, IfSome, IsTrue, OnOk};
+ghost use Rattle.dy_core.specs.declared.steps.Step.TheVariants.{Fetch};
+ghost use Rattle.dy_core.specs.Worlds.{layout_of};
+ghost use Rattle.dy_core.specs.Logs.{with_step, world_after};
+ghost use Rattle.dy_core.specs.Steps.{IsAllowed, row_answered};
+ghost use Rattle.dy_siblings.specs.Siblings.{IsSameRow};
+ghost use Rattle.dy_shares.specs.Shares.{
+  IsAck,
+  MayFollow,
+  empty_account,
+  node_of,
+  receipt_parts,
+  steps_of,
+  untold,
+  with_entries,
+};
 
+use crate::steps::{acking, alone, fetching, holding, making, releasing, row_of};
 use dy_core::{Place, Step, World};
 use dy_dots::{Context, Dot, Fault, NodeId};
 use dy_shares::{Ledger, Naming, NodeShare, Receipt, Seen, SessionShare};
@@ -32,60 +46,6 @@ impl<J: Naming> Model for Watched<J> {
         → w.world ≡ record { ring = J.ring; n = J.n; steps = steps_of w.ledger.log } };
 }
 
-// The node makes a version of the key, which follows those that the context names.
-fn making(alloc: Global, node: NodeId, key: &Key, context: &Context) -> Result<Step, Fault>
-    ensures { IfOk result (λ step. step ≡ Issue node key.now context.now None) }
-{
-    let key = key.try_clone(alloc)?;
-    let context = context.try_clone(alloc)?;
-    Ok(Step::Issue {
-        node,
-        key,
-        context,
-        value: None,
-    })
-}
-
-// The row is held at the place.
-fn holding(alloc: Global, place: Place, row: &Row) -> Result<Step, Fault>
-    ensures { IfOk result (λ step. step ≡ Hold place.holder place.home row.now) }
-{
-    let row = row.try_clone(alloc)?;
-    let Place { holder, home } = place;
-    Ok(Step::Hold { holder, home, row })
-}
-
-// The dot is given up at the place.
-fn releasing(alloc: Global, place: Place, key: &Key, dot: Dot) -> Result<Step, Fault>
-    ensures { IfOk result (λ step. step ≡ Release place.holder place.home key.now dot) }
-{
-    let key = key.try_clone(alloc)?;
-    let Place { holder, home } = place;
-    Ok(Step::Release {
-        holder,
-        home,
-        key,
-        dot,
-    })
-}
-
-// The row of the key at the place is answered.
-fn fetching(alloc: Global, place: Place, key: &Key) -> Result<Step, Fault>
-    ensures { IfOk result (λ step. step ≡ Fetch place.holder place.home key.now) }
-{
-    let key = key.try_clone(alloc)?;
-    let Place { holder, home } = place;
-    Ok(Step::Fetch { holder, home, key })
-}
-
-// The put is told that w homes have its version.
-fn acking(alloc: Global, key: &Key, dot: Dot, w: u8) -> Result<Step, Fault>
-    ensures { IfOk result (λ step. step ≡ Ack key.now dot w) }
-{
-    let key = key.try_clone(alloc)?;
-    Ok(Step::Ack { key, dot, w })
-}
-
 // The holder of the receipt, with its home.
 pub fn place_of<J: Naming>(receipt: &Receipt<J>) -> Place
     ensures { result ≡ record { holder = receipt.now.holder; home = receipt.now.home } }
@@ -96,13 +56,63 @@ pub fn place_of<J: Naming>(receipt: &Receipt<J>) -> Place
     }
 }
 
-// The one step.
-fn alone(alloc: Global, step: Step) -> Result<Vec<Step>, Fault>
-    ensures { IfOk result (λ steps. steps.items ≡ step ∷ []) }
+// The world has the step too.
+fn applied(alloc: Global, world: &mut World, step: Step) -> Result<(), Fault>
+    requires { IsAllowed (layout_of world.old.ring world.old.n)
+        (world_after world.old.steps) step }
+    ensures { OnOk result (world.new ≡ with_step world.old step) }
 {
-    let mut steps = Vec::with_capacity(alloc, 1)?;
-    steps.push_reserved(step);
-    Ok(steps)
+    match world.apply(alloc, step) {
+        Ok(_row) => Ok(()),
+        Err(fault) => Err(fault),
+    }
+}
+
+// The ack, which is given twice, is made in the world and in the log.
+fn both_acked<J: Naming>(
+    alloc: Global,
+    world: &mut World,
+    ledger: &mut Ledger<J>,
+    share: &mut SessionShare<J>,
+    step: Step,
+    same: Step,
+) -> Result<(), Fault>
+    requires ack { IsAck step }
+    requires same { same ≡ step }
+    requires allowed { MayFollow J.ring J.n ledger.old.log (step ∷ []) }
+    requires of_log { world.old
+        ≡ record { ring = J.ring; n = J.n; steps = steps_of ledger.old.log } }
+    ensures { OnOk result (world.new
+        ≡ record { ring = J.ring; n = J.n; steps = steps_of ledger.new.log }) }
+{
+    applied(alloc, world, same)?;
+    ledger.ack_step(share, step)
+}
+
+// What the world answers at the place.
+fn answered(alloc: Global, world: &mut World, place: Place, key: &Key) -> Result<Row, Fault>
+    ensures log { OnOk result
+        (world.new ≡ with_step world.old (Fetch place.holder place.home key.now)) }
+    ensures row { IfOk result (λ row. IsSameRow row.versions (row_answered
+        (world_after world.old.steps) (Fetch place.holder place.home key.now))) }
+    ensures key { IfOk result (λ row. row.key ≡ key.now) }
+{
+    let step = fetching(alloc, place, key)?;
+    world.apply(alloc, step)
+}
+
+// The log has the fetch.
+fn logged<J: Naming>(
+    alloc: Global,
+    ledger: &mut Ledger<J>,
+    place: Place,
+    key: &Key,
+) -> Result<(), Fault>
+    ensures { OnOk result (ledger.new
+        ≡ with_entries ledger.old (untold (Fetch place.holder place.home key.now) ∷ [])) }
+{
+    let step = fetching(alloc, place, key)?;
+    ledger.fetch_step(step)
 }
 
 impl<J: Naming> Watched<J> {
@@ -157,10 +167,26 @@ impl<J: Naming> Watched<J> {
             return Ok(false);
         }
         self.is_whole = false;
-        let _row = self.world.apply(alloc, same)?;
+        applied(alloc, &mut self.world, same)?;
         self.ledger.node_steps(share, steps)?;
         self.is_whole = true;
         Ok(true)
+    }
+
+    // The same with a step that is no list.
+    fn make_one(
+        &mut self,
+        alloc: Global,
+        share: &mut NodeShare<J>,
+        step: Step,
+        same: Step,
+    ) -> Result<bool, Fault>
+        requires own { node_of step ≡ Some share.old.node }
+        requires same { same ≡ step }
+        requires allowed { MayFollow J.ring J.n self.old.log (step ∷ []) }
+    {
+        let steps = alone(alloc, step)?;
+        self.make(alloc, share, steps, same)
     }
 
     // Whether the step, which is given twice, was allowed and came to the log.
@@ -174,11 +200,11 @@ impl<J: Naming> Watched<J> {
         requires own { node_of step ≡ Some share.old.node }
         requires same { same ≡ step }
     {
-        if !self.allows(alloc, &step)? {
-            return Ok(false);
+        match self.allows(alloc, &step) {
+            Ok(true) => self.make_one(alloc, share, step, same),
+            Ok(false) => Ok(false),
+            Err(fault) => Err(fault),
         }
-        let steps = alone(alloc, step)?;
-        self.make(alloc, share, steps, same)
     }
 
     // The share's node makes its first version of the key.
@@ -207,13 +233,23 @@ impl<J: Naming> Watched<J> {
         key: &Key,
         dot: Dot,
     ) -> Result<bool, Fault> {
-        let Some(version) = self.world.version(key, dot) else {
-            return Ok(false);
-        };
+        match row_of(alloc, &self.world, key, dot)? {
+            Some(row) => self.hold_row(alloc, share, home, &row),
+            None => Ok(false),
+        }
+    }
+
+    // The share's node holds the row for the home.
+    fn hold_row(
+        &mut self,
+        alloc: Global,
+        share: &mut NodeShare<J>,
+        home: NodeId,
+        row: &Row,
+    ) -> Result<bool, Fault> {
         let holder = share.node();
-        let row = Row::of(alloc, version.try_clone(alloc)?)?;
-        let step = holding(alloc, Place { holder, home }, &row)?;
-        let same = holding(alloc, Place { holder, home }, &row)?;
+        let step = holding(alloc, Place { holder, home }, row)?;
+        let same = holding(alloc, Place { holder, home }, row)?;
         self.node_step(alloc, share, step, same)
     }
 
@@ -248,10 +284,27 @@ impl<J: Naming> Watched<J> {
             return Ok(false);
         }
         self.is_whole = false;
-        let _row = self.world.apply(alloc, same)?;
-        self.ledger.ack_step(share, step)?;
+        both_acked(alloc, &mut self.world, &mut self.ledger, share, step, same)?;
         self.is_whole = true;
         Ok(true)
+    }
+
+    // Whether the ack, which is given twice, was allowed, and the session was told it.
+    fn ack_step(
+        &mut self,
+        alloc: Global,
+        share: &mut SessionShare<J>,
+        step: Step,
+        same: Step,
+    ) -> Result<bool, Fault>
+        requires ack { IsAck step }
+        requires same { same ≡ step }
+    {
+        match self.allows(alloc, &step) {
+            Ok(true) => self.told_step(alloc, share, step, same),
+            Ok(false) => Ok(false),
+            Err(fault) => Err(fault),
+        }
     }
 
     // Whether the ack was allowed, and the session was told it.
@@ -264,11 +317,8 @@ impl<J: Naming> Watched<J> {
         w: u8,
     ) -> Result<bool, Fault> {
         let step = acking(alloc, key, dot, w)?;
-        if !self.allows(alloc, &step)? {
-            return Ok(false);
-        }
         let same = acking(alloc, key, dot, w)?;
-        self.told_step(alloc, share, step, same)
+        self.ack_step(alloc, share, step, same)
     }
 
     // What is answered at the place.
@@ -284,15 +334,14 @@ impl<J: Naming> Watched<J> {
             return Ok(None);
         }
         let Place { holder, home } = place;
-        let step = fetching(alloc, Place { holder, home }, key)?;
-        let same = fetching(alloc, Place { holder, home }, key)?;
-        let of_seen = key.try_clone(alloc)?;
         self.is_whole = false;
-        let row = self.world.apply(alloc, same)?;
-        self.ledger.fetch_step(step)?;
+        logged(alloc, &mut self.ledger, Place { holder, home }, key)?;
+        let row = answered(alloc, &mut self.world, Place { holder, home }, key)?;
         self.is_whole = true;
+        let of_seen = key.try_clone(alloc)?;
         let at = self.ledger.steps().len();
-        Ok(Some(self.ledger.seen(at, place, of_seen, row)))
+        let at_place = Place { holder, home };
+        Ok(Some(self.ledger.seen(at, at_place, of_seen, row)))
     }
 
     // A receipt, where the holder covers the dot for the home now.

@@ -14,7 +14,7 @@ use std::alloc::Global;
 use std::sync::Wait;
 
 // Begins a deletion of the key at the node, for itself.
-pub fn begin<J: Naming, R: Wait>(
+fn begin<J: Naming, R: Wait>(
     rt: &R,
     alloc: Global,
     mailboxes: &mut Mailboxes<'_, J>,
@@ -32,6 +32,34 @@ pub fn begin<J: Naming, R: Wait>(
         return Err(Fault::NoNode);
     }
     mailboxes.begin(rt, node, node, key, &Context::new(alloc), &None)
+}
+
+// The row of a deletion that the node begins, for itself.
+pub fn begin_row<J: Naming, R: Wait>(
+    rt: &R,
+    alloc: Global,
+    mailboxes: &mut Mailboxes<'_, J>,
+    list: &Preference,
+    node: NodeId,
+    key: &Key,
+) -> Result<Row, Fault>
+    requires list { take list.now.n list.now.nodes ≡ homes_of J.ring J.n key.now }
+    requires room { length mailboxes.old.tries < mailboxes.old.room + SPARE_TRIES }
+    ensures key { IfOk result (λ row. row.key ≡ key.now) }
+    ensures asks { mailboxes.new.asks ≡ mailboxes.old.asks }
+    ensures room { mailboxes.new.room ≡ mailboxes.old.room }
+{
+    match begin(rt, alloc, mailboxes, list, node, key) {
+        Ok(begun) => {
+            let Begun {
+                dot: _,
+                row,
+                receipt: _receipt,
+            } = begun;
+            Ok(row)
+        }
+        Err(fault) => Err(fault),
+    }
 }
 
 // Asks the node to hold the row, for itself.
@@ -72,6 +100,35 @@ pub fn ask_fetch<J: Naming, R: Wait>(
     mailboxes.ask(rt, node, &ask);
 }
 
+// Where the next answer comes from and its kind, where one is left.
+fn next_kind<J: Naming, R: Wait>(
+    rt: &R,
+    mailboxes: &mut Mailboxes<'_, J>,
+) -> Option<(NodeId, NodeId, AnswerKind)> {
+    match mailboxes.next_reply(rt) {
+        Some((node, home, answer)) => Some((node, home, AnswerKind::of(&answer))),
+        None => None,
+    }
+}
+
+// The line of the next answer, where one is left.
+fn next_line<J: Naming, R: Wait>(
+    rt: &R,
+    alloc: Global,
+    mailboxes: &mut Mailboxes<'_, J>,
+) -> Result<Option<String>, Fault> {
+    match next_kind(rt, mailboxes) {
+        Some((node, home, kind)) => Ok(Some(format!(in alloc; "{node}/{home}={kind}")?)),
+        None => Ok(None),
+    }
+}
+
+// The lines, in order.
+fn sorted(mut lines: Vec<String>) -> Result<Vec<String>, Fault> {
+    lines.sort()?;
+    Ok(lines)
+}
+
 // Each answer that is read, in the order of their texts.
 pub fn answers<J: Naming, R: Wait>(
     rt: &R,
@@ -80,12 +137,10 @@ pub fn answers<J: Naming, R: Wait>(
 ) -> Result<Vec<String>, Fault> {
     let mut lines = Vec::new(alloc);
     for _ in 0..8 {
-        let Some((node, home, answer)) = mailboxes.next_reply(rt) else {
-            lines.sort()?;
-            return Ok(lines);
-        };
-        let kind = AnswerKind::of(&answer);
-        lines.push(format!(in alloc; "{node}/{home}={kind}")?)?;
+        match next_line(rt, alloc, mailboxes)? {
+            Some(line) => lines.push(line)?,
+            None => return sorted(lines),
+        }
     }
     Err(Fault::TooMany)
 }

@@ -55,7 +55,26 @@ fn list_of(alloc: Global, ring: &Ring, key: &Key) -> Result<Preference, Fault>
     preference(alloc, ring, key, 3)
 }
 
+// The lines, with a blank between them.
+fn joined(alloc: Global, lines: &[String]) -> Result<String, Fault> {
+    let mut text = String::new(alloc);
+    for (number, line) in lines.iter().enumerate() {
+        if number > 0 {
+            text.push_str(" ")?;
+        }
+        text.push_str(line.as_str())?;
+    }
+    Ok(text)
+}
+
 // What the answers are, and how many asks passed the gate.
+fn told_of(alloc: Global, lines: &[String], passed: u64) -> Result<String, Fault> {
+    let mut text = joined(alloc, lines)?;
+    text.push_str(format!(in alloc; "; passed {passed}")?.as_str())?;
+    Ok(text)
+}
+
+// The same, of a scene that is played.
 fn played_at<J: Naming + Send + Sync, R: Threads + Wait + Sync>(
     rt: &R,
     stage: &Stage<'_, J>,
@@ -66,16 +85,7 @@ fn played_at<J: Naming + Send + Sync, R: Threads + Wait + Sync>(
     }
     let counter = Counter::new();
     let lines = answers_of_team(rt, stage, scene.closed, &counter)?;
-    let mut text = String::new(stage.alloc);
-    for (number, line) in lines.iter().enumerate() {
-        if number > 0 {
-            text.push_str(" ")?;
-        }
-        text.push_str(line.as_str())?;
-    }
-    let passed = counter.passed();
-    text.push_str(format!(in stage.alloc; "; passed {passed}")?.as_str())?;
-    Ok(text)
+    told_of(stage.alloc, lines.as_slice(), counter.passed())
 }
 
 // Plays the scene on a new book, which is abandoned with all its shares.

@@ -4,7 +4,6 @@ use Rattle.dy_core.specs.Worlds.{row_at}
 use Rattle.dy_core.specs.Logs.{IsAnswer, Log, world_after}
 use Rattle.dy_core.specs.declared.steps.Step.{Step}
 use Rattle.dy_core.specs.declared.steps.Step.TheVariants.{Fetch}
-use Rattle.dy_core.specs.Steps.{row_answered}
 use Rattle.dy_shares.specs.declared.entries.Entry.{Entry}
 use Rattle.dy_shares.specs.Shares.{answer_of, steps_of, untold}
 use Rattle.dy_shares.proofs.Owners.{steps_of-length}
@@ -23,14 +22,30 @@ seen-requires-clause-is g c =
     let e = untold (Fetch holder home key) in
     let whole : c.self.inside.is_whole ≡ true = search rules in
     let same : world.steps ≡ steps_of l.log = ap (λ (w : Log). w.steps) (c.self.invariant whole) in
-    let asked : c.in_ok-same.same ≡ Fetch holder home key = search rules in
     let of_seen : key ≡ c.in_ok-of_seen.of_seen = search rules in
     let is : IsSameRow row.versions (row_at (world_after (steps_of l.log)) holder home key) =
     subst (λ (ss : List Step). IsSameRow row.versions (row_at (world_after ss) holder home key)) same
-    (subst (λ (s : Step). IsSameRow row.versions (row_answered (world_after world.steps) s)) asked c.in_ok-row.ensures.row) in
-    let new : c.fetch_step.new.self.log ≡ l.log ++ e ∷ [] = search rules in
-    let at : length l.log + 1 ≡ length c.steps-at.result.now = sym (ap length c.steps-at.ensures.value ∙ (steps_of-length c.fetch_step.new.self.log ∙ (ap length new ∙ length-append l.log (e ∷ [])))) in
+    c.in_ok-row.ensures.row in
+    let new : c.logged.new.ledger.log ≡ l.log ++ e ∷ [] = search rules in
+    let at : length l.log + 1 ≡ length c.steps-at.result.now =
+    sym (ap length c.steps-at.ensures.value ∙ (steps_of-length c.logged.new.ledger.log
+    ∙ (ap length new ∙ length-append l.log (e ∷ [])))) in
     let here = answers_last l.log holder home key row.versions is in
-    subst (λ (xs : List Entry). IsAnswer (steps_of xs) (answer_of (length c.steps-at.result.now) holder home c.in_ok-of_seen.of_seen row)) (sym new)
-    (subst (λ n. IsAnswer (steps_of (l.log ++ e ∷ [])) (record { at = n; holder = holder; home = home; key = c.in_ok-of_seen.of_seen; row = row.versions })) at
-    (subst (λ k. IsAnswer (steps_of (l.log ++ e ∷ [])) (record { at = length l.log + 1; holder = holder; home = home; key = k; row = row.versions })) of_seen here))
+    subst (λ (xs : List Entry). IsAnswer (steps_of xs)
+    (answer_of (length c.steps-at.result.now) holder home c.in_ok-of_seen.of_seen row)) (sym new)
+    (subst (λ n. IsAnswer (steps_of (l.log ++ e ∷ []))
+    (record {
+      at = n;
+      holder = holder;
+      home = home;
+      key = c.in_ok-of_seen.of_seen;
+      row = row.versions;
+    })) at
+    (subst (λ k. IsAnswer (steps_of (l.log ++ e ∷ []))
+    (record {
+      at = length l.log + 1;
+      holder = holder;
+      home = home;
+      key = k;
+      row = row.versions;
+    })) of_seen here))

@@ -1,4 +1,4 @@
-use Rattle.dy_shares_tests.proofs.scenes.merged_dots.Given as goal
+use Rattle.dy_shares_tests.proofs.merges.merged_dots.Given as goal
 
 -- the log and the roll that were just made, and the ring of the world
 abbrev pub ghosts-merge_of_two : goal.ghosts-merge_of_two

@@ -1,0 +1,79 @@
+// Steps of their own, of what is lent.
+ghost use Rattle.std.specs.Prelude.{◌≡◌, ◌∷◌, [], None, IfOk};
+ghost use Rattle.dy_core.specs.declared.steps.Step.TheVariants.{Ack, Fetch, Hold, Issue, Release};
+
+use dy_core::{Place, Step, World};
+use dy_dots::{Context, Dot, Fault, NodeId};
+use dy_siblings::{Key, Row};
+use std::alloc::Global;
+
+// The node makes a version of the key, which follows those that the context names.
+pub fn making(alloc: Global, node: NodeId, key: &Key, context: &Context) -> Result<Step, Fault>
+    ensures { IfOk result (λ step. step ≡ Issue node key.now context.now None) }
+{
+    let key = key.try_clone(alloc)?;
+    let context = context.try_clone(alloc)?;
+    Ok(Step::Issue {
+        node,
+        key,
+        context,
+        value: None,
+    })
+}
+
+// The row is held at the place.
+pub fn holding(alloc: Global, place: Place, row: &Row) -> Result<Step, Fault>
+    ensures { IfOk result (λ step. step ≡ Hold place.holder place.home row.now) }
+{
+    let row = row.try_clone(alloc)?;
+    let Place { holder, home } = place;
+    Ok(Step::Hold { holder, home, row })
+}
+
+// The dot is given up at the place.
+pub fn releasing(alloc: Global, place: Place, key: &Key, dot: Dot) -> Result<Step, Fault>
+    ensures { IfOk result (λ step. step ≡ Release place.holder place.home key.now dot) }
+{
+    let key = key.try_clone(alloc)?;
+    let Place { holder, home } = place;
+    Ok(Step::Release {
+        holder,
+        home,
+        key,
+        dot,
+    })
+}
+
+// The row of the key at the place is answered.
+pub fn fetching(alloc: Global, place: Place, key: &Key) -> Result<Step, Fault>
+    ensures { IfOk result (λ step. step ≡ Fetch place.holder place.home key.now) }
+{
+    let key = key.try_clone(alloc)?;
+    let Place { holder, home } = place;
+    Ok(Step::Fetch { holder, home, key })
+}
+
+// The put is told that w homes have its version.
+pub fn acking(alloc: Global, key: &Key, dot: Dot, w: u8) -> Result<Step, Fault>
+    ensures { IfOk result (λ step. step ≡ Ack key.now dot w) }
+{
+    let key = key.try_clone(alloc)?;
+    Ok(Step::Ack { key, dot, w })
+}
+
+// The row of the one version of the dot, where the world has it.
+pub fn row_of(alloc: Global, world: &World, key: &Key, dot: Dot) -> Result<Option<Row>, Fault> {
+    match world.version(key, dot) {
+        Some(version) => Ok(Some(Row::of(alloc, version.try_clone(alloc)?)?)),
+        None => Ok(None),
+    }
+}
+
+// The one step.
+pub fn alone(alloc: Global, step: Step) -> Result<Vec<Step>, Fault>
+    ensures { IfOk result (λ steps. steps.items ≡ step ∷ []) }
+{
+    let mut steps = Vec::with_capacity(alloc, 1)?;
+    steps.push_reserved(step);
+    Ok(steps)
+}
