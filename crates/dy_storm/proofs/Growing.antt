@@ -4,20 +4,25 @@ use Rattle.std.proofs.Common.{◌≡◌, ◌≢◌, ◌≤◌, ◌<◌, ◌+◌,
 use Rattle.std.proofs.Common.{Bool, true, false, Option, Some, None, Result, Ok, Err, is_ok, is_some}
 use Rattle.std.proofs.Common.{refl, sym, ap, ◌∙◌, arith, inl, inr, subst}
 use Rattle.std.specs.Int.{from_bool}
+use Rattle.std.specs.Prelude.{unwrap_or, result_ok, IfOk, OnErr}
+use Rattle.std.specs.FinSet as set
 use Rattle.dy_dots.specs.Dots.{DotSet}
 use Rattle.dy_dots.specs.declared.dots.Dot.{Dot}
 use Rattle.dy_ring.specs.Rings.{Tokens}
 use Rattle.dy_preference.specs.Preferences.{Preferred}
 use Rattle.dy_core.specs.declared.steps.Step.TheVariants.{Ack}
-use Rattle.dy_shares.specs.Shares.{ReceiptParts, SessionPart, since_of, with_ack}
+use Rattle.dy_shares.specs.Shares.{ReceiptParts, SessionPart, since_of, with_ack, with_get}
 use Rattle.dy_quorum.specs.Gatherings.{first_answers}
 use Rattle.dy_transport.specs.Told.{Told}
 use Rattle.dy_transport.specs.declared.kinds.AnswerRead.{AnswerRead}
 use Rattle.dy_cluster.specs.Lists.{list_of}
+use Rattle.dy_coord.specs.Gets.{IsGot}
+use Rattle.dy_coord.specs.declared.get_dones.GetDone.{GetDone}
+use Rattle.dy_coord.specs.declared.get_faults.GetFault.{GetFault}
 use Rattle.dy_coord.specs.PutEnds.{EndsAfter, PutEnds}
 use Rattle.dy_coord.specs.declared.put_results.PutDone.{PutDone}
 use Rattle.dy_coord.specs.declared.put_results.PutFault.{PutFault}
-use Rattle.dy_storm.specs.Turns.{HasPut, IsGetOf, IsPutOf, IsTurnOf, context_or_empty}
+use Rattle.dy_storm.specs.Turns.{HasPut, IsGetOf, IsGotOf, IsPutOf, IsTurnOf}
 use Rattle.dy_storm.specs.declared.turns.Turn.{Turn}
 
 -- the session has so many gets and so many acks more
@@ -55,10 +60,10 @@ ends : (key : List ℕ) (dot : Dot) (w : ℕ) (added : List ReceiptParts) (answe
 ends key dot w added answers before after answer (inl (can, ok)) =
     subst (λ (a : Result PutDone PutFault). GrowsBy a before after) (sym ok.result_is)
     (acked before after ok.at w key dot ok.told)
-ends key dot w added answers before after answer (inr (inl (can, (same, no)))) =
-    refused answer no.0 before after no.1.0 same
-ends key dot w added answers before after answer (inr (inr (can, (same, no)))) =
-    refused answer no.0 before after no.1.0 same
+ends key dot w added answers before after answer (inr (inl (can, same, no))) =
+    refused answer no.0 before after no.1 same
+ends key dot w added answers before after answer (inr (inr (can, same, no))) =
+    refused answer no.0 before after no.1 same
 
 -- a put tells its session one ack exactly where it is Ok, and no get
 pub put_grows : {J : Type 0} (list : Preferred) (w : ℕ) (key : List ℕ) (context : DotSet)
@@ -66,13 +71,13 @@ pub put_grows : {J : Type 0} (list : Preferred) (w : ℕ) (key : List ℕ) (cont
     (answer : Result PutDone PutFault)
     → PutEnds {J = J} list w key context value before after old new answer →
     GrowsBy answer before after
-put_grows list w key context value before after old new answer (inl (some, (few, inl run))) =
-    let put = run.1.1 in
-    ends key run.1.0.dot w put.added put.answers before after answer put.ends
-put_grows list w key context value before after old new answer (inl (some, (few, inr early))) =
-    let no = early.1.1.1 in refused answer no.0 before after no.1.0 early.0
-put_grows list w key context value before after old new answer (inr (out, (same, (still, no)))) =
-    refused answer no.0 before after no.1.0 same
+put_grows list w key context value before after old new answer (inl (some, few, inl run)) =
+    let put = run.2 in
+    ends key run.1.dot w put.added put.answers before after answer put.ends
+put_grows list w key context value before after old new answer (inl (some, few, inr early)) =
+    let no = early.3 in refused answer no.0 before after no.1 early.0
+put_grows list w key context value before after old new answer (inr (out, same, still, no)) =
+    refused answer no.0 before after no.1 same
 
 -- so is the session told of what a turn puts
 put_turn : (J : Type 0) (list : Preferred) (key : List ℕ) (context : DotSet) (value : List ℕ)
@@ -92,7 +97,7 @@ get_turn : (J : Type 0) (list : Preferred) (r : ℕ) (key : List ℕ) (context :
     Grows before after (from_bool (is_some context)) 0
 get_turn J list r key None before after same = unchanged before after same
 get_turn J list r key (Some context) before after got =
-    let heard = got.1.1.heard in
+    let heard = got.2.heard in
     (omega (arith, ap (λ (s : SessionPart). length s.gets) heard, length-append before.gets
     (record { since = since_of before; answers = first_answers got.0.seen.items } ∷ [])),
     omega (arith, ap (λ (s : SessionPart). length s.acks) heard))
@@ -105,7 +110,20 @@ pub turn_grows : (J : Type 0) (ring : Tokens) (n r : ℕ) (key value : List ℕ)
 turn_grows J ring n r key value before after turn t =
     let list = list_of ring n key in
     let got = get_turn J list r key t.context before t.between t.gets in
-    let put = put_turn J list key (context_or_empty t.context) value t.between after turn.has_put
+    let put = put_turn J list key (unwrap_or t.context set.empty) value t.between after turn.has_put
         t.puts in
     subst (λ (b : Bool). Grows before after (from_bool b) (from_bool turn.has_put)) (sym t.got)
     (omega (arith, got.0, put.0), omega (arith, got.1, put.1))
+
+-- what a get gives where it is Ok
+pub got_of : (J : Type 0) (list : Preferred) (r : ℕ) (key : List ℕ) (before after : SessionPart)
+    (told : Told J) (answer : Result (GetDone J) GetFault) (got : Option (GetDone J))
+    → got ≡ result_ok answer
+    → IfOk answer (λ done. IsGot list key r (since_of before) told done)
+    → IfOk answer (λ done. after ≡ with_get before (since_of before) (first_answers done.seen.items))
+    → OnErr answer (after ≡ before) → IsGotOf J list r key got before after
+got_of J list r key before after told (Ok done) got is ok heard err =
+    subst (λ (g : Option (GetDone J)). IsGotOf J list r key g before after) (sym is)
+    (record { told = told; got = ok; heard = heard })
+got_of J list r key before after told (Err e) got is ok heard err =
+    subst (λ (g : Option (GetDone J)). IsGotOf J list r key g before after) (sym is) err

@@ -1,5 +1,5 @@
 -- What a client does in one turn.
-use Rattle.std.specs.Prelude.{◌≡◌, ◌⊎◌, ℕ, List, Bool, true, false, Option, Some, None, is_some}
+use Rattle.std.specs.Prelude.{◌≡◌, ◌⊎◌, ℕ, List, Bool, true, false, Option, Some, None, is_some, unwrap_or}
 use Rattle.std.specs.Prelude.{Result, is_ok}
 use Rattle.std.specs.FinSet as set
 use Rattle.dy_dots.specs.Dots.{DotSet}
@@ -53,17 +53,13 @@ IsPutOf J list key context value before after is_acked =
     HasPut J list key context value before after is_acked
     ⊎ ((is_acked ≡ false) × (after ≡ before))
 
--- the context of a get, and an empty one where it was refused
-abbrev pub context_or_empty : Option DotSet → DotSet
-context_or_empty None = set.empty
-context_or_empty (Some context) = context
-
--- a turn gets the key, and then puts it with the context of the get and this value
+-- a turn gets the key, and then puts this value with the context of the get, which is empty where
+-- the get was refused
 pub record IsTurnOf (J : Type 0) (ring : Tokens) (n r : ℕ) (key value : List ℕ)
     (before after : SessionPart) (turn : Turn) : Type 0 where
   pub context : Option DotSet
   pub between : SessionPart
   pub gets : IsGetOf J (list_of ring n key) r key context before between
-  pub puts : IsPutOf J (list_of ring n key) key (context_or_empty context) value between after
-      turn.has_put
+  pub puts : IsPutOf J (list_of ring n key) key (unwrap_or context set.empty) value between
+      after turn.has_put
   pub got : turn.has_got ≡ is_some context

@@ -7,4 +7,4 @@ key_text number = codes "k" ++ decimal number
 
 -- the value that a client puts in a turn
 abbrev pub value_text : ℕ → ℕ → List ℕ
-value_text client turn = codes "t" ++ decimal client ++ codes "-" ++ decimal turn
+value_text client turn = codes "t" ++ (decimal client ++ (codes "-" ++ decimal turn))

@@ -1,4 +1,4 @@
-ghost use Rattle.std.specs.Prelude.{◌≡◌, ◌≤◌, ◌<◌, ◌+◌, ◌*◌, ◌%◌, ◌^◌, [], length, IsSome};
+ghost use Rattle.std.specs.Prelude.{◌≡◌, ◌≤◌, ◌<◌, ◌+◌, ◌-◌, ◌*◌, ◌%◌, ◌^◌, [], length, IsSome};
 ghost use Rattle.rand_pcg.specs.Pcg.{pcg32};
 ghost use Rattle.dy_storm.specs.Seeds.{generator_of};
 
@@ -82,11 +82,10 @@ impl<J: Naming> Client<J> {
             self.number,
             self.made,
         );
-        let got = u64::from(turn.has_got);
-        let acked = u64::from(turn.has_put);
-        self.gets += got;
-        self.acked += acked;
-        self.refused += 2 - got - acked;
+        let counts = turn.counts();
+        self.acked += counts.acked;
+        self.gets += counts.gets;
+        self.refused += counts.refused;
         self.made += 1;
     }
 }

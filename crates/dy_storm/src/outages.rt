@@ -1,6 +1,5 @@
 // What fails in a storm.
-ghost use Rattle.std.specs.Prelude.{◌≡◌, ◌<◌, ◌+◌, ◌%◌, ◌^◌};
-ghost use Rattle.dy_storm.specs.Outages.{drawn_mode};
+ghost use Rattle.std.specs.Prelude.{◌≡◌, ◌+◌, ◌%◌, ◌^◌};
 ghost use Rattle.dy_storm.specs.Seeds.{generator_of};
 
 use crate::plans::Storm;
@@ -53,8 +52,10 @@ fn disturb<J: Naming, R: Wait>(rt: &R, cluster: &Cluster<J>, generator: &mut Lcg
 
 // The mode of this number.
 fn mode_of(number: u32) -> Mode
-    requires { number < 4 }
-    ensures { result ≡ drawn_mode number }
+    ensures plain { number ≡ 0 → result ≡ Mode.Plain }
+    ensures mute { number ≡ 1 → result ≡ Mode.Mute }
+    ensures late { number ≡ 2 → result ≡ Mode.Late }
+    ensures repeat { number ≡ 3 → result ≡ Mode.Repeat }
 {
     match number {
         0 => Mode::Plain,

@@ -1,5 +1,5 @@
 // The cluster of a storm.
-ghost use Rattle.std.specs.Prelude.{◌≡◌, IfOk};
+ghost use Rattle.std.specs.Prelude.{◌≡◌, ◌∷◌, [], IfOk};
 ghost use Rattle.dy_ring.specs.Lists.{IsRingOf};
 ghost use Rattle.dy_storm.specs.Clusters.{five_tokens, storm_options};
 
@@ -8,26 +8,26 @@ use dy_dots::{Fault, MAX_COUNTER};
 use dy_ring::Ring;
 use std::alloc::Global;
 
-/// Where the nodes' tokens lie, one a node.
-const POSITIONS: [u128; 5] = [
-    0x20000000000000000000000000000000,
-    0x60000000000000000000000000000000,
-    0xa0000000000000000000000000000000,
-    0xd0000000000000000000000000000000,
-    0xf0000000000000000000000000000000,
-];
-
 /// The ring of five nodes.
 pub(crate) fn five_nodes(alloc: Global) -> Result<Ring, Fault>
     ensures { IfOk result (λ ring. IsRingOf five_tokens ring) }
 {
     let mut lists = Vec::new(alloc);
-    for position in POSITIONS {
-        let mut list = Vec::new(alloc);
-        list.push(position)?;
-        lists.push(list)?;
-    }
+    lists.push(list_of(alloc, 0x20000000000000000000000000000000)?)?;
+    lists.push(list_of(alloc, 0x60000000000000000000000000000000)?)?;
+    lists.push(list_of(alloc, 0xa0000000000000000000000000000000)?)?;
+    lists.push(list_of(alloc, 0xd0000000000000000000000000000000)?)?;
+    lists.push(list_of(alloc, 0xf0000000000000000000000000000000)?)?;
     Ring::from_tokens(alloc, lists.as_slice())
+}
+
+// The tokens of a node that has one.
+fn list_of(alloc: Global, position: u128) -> Result<Vec<u128>, Fault>
+    ensures { IfOk result (λ list. list.items ≡ position ∷ []) }
+{
+    let mut list = Vec::new(alloc);
+    list.push(position)?;
+    Ok(list)
 }
 
 /// Three homes a key, of which a put and a get need two, and the greatest limits.

@@ -1,5 +1,6 @@
 // What a client does in one turn, over the nodes' workers.
-ghost use Rattle.std.specs.Prelude.{◌≡◌, IfOk, IsOkUnless};
+ghost use Rattle.std.specs.Prelude.{◌≡◌, ◌+◌, length, IfOk, IsOkUnless};
+ghost use Rattle.std.specs.Int.{from_bool};
 ghost use Rattle.dy_reads.specs.Lists.{homes_in};
 ghost use Rattle.dy_repair.specs.Repairs.{IsRepaired};
 ghost use Rattle.dy_transport.specs.Told.{Told};
@@ -7,6 +8,7 @@ ghost use Rattle.dy_cluster.specs.Lists.{list_of};
 ghost use Rattle.dy_storm.specs.Turns.{IsGetOf, IsGotOf, IsPutOf, IsTurnOf};
 ghost use Rattle.dy_storm.specs.Words.{key_text, value_text};
 
+use crate::counts::Counts;
 use crate::words::{key_of, value_of};
 use dy_cluster::{Cluster, Session};
 use dy_coord::GetDone;
@@ -27,6 +29,27 @@ pub(crate) struct Turn {
     pub has_put: bool,
 }
 
+impl Turn {
+    /// What it counts for. Takes no memory.
+    pub fn counts(self) -> Counts
+        ensures acked { result.acked ≡ from_bool self.has_put }
+        ensures gets { result.gets ≡ from_bool self.has_got }
+        ensures all { result.acked + result.gets + result.refused ≡ 2 }
+    {
+        let (acked, gets, refused) = match (self.has_put, self.has_got) {
+            (true, true) => (1, 1, 0),
+            (true, false) => (1, 0, 1),
+            (false, true) => (0, 1, 1),
+            (false, false) => (0, 0, 2),
+        };
+        Counts {
+            acked,
+            gets,
+            refused,
+        }
+    }
+}
+
 /// Gets the key of this number, repairs it, and puts it with the context of the get. May wait for
 /// answers and locks.
 pub(crate) fn play<J: Naming, R: Wait>(
@@ -39,22 +62,42 @@ pub(crate) fn play<J: Naming, R: Wait>(
     client: u8,
     turn: u32,
 ) -> Turn
-    ensures { IsTurnOf J J.ring J.n J.r (key_text number) (value_text client turn)
+    ensures told { IsTurnOf J J.ring J.n J.r (key_text number) (value_text client turn)
         session.old session.new result }
+    ensures gets { length session.new.gets
+        ≡ length session.old.gets + from_bool result.has_got }
+    ensures acks { length session.new.acks
+        ≡ length session.old.acks + from_bool result.has_put }
 {
-    let Ok(key) = key_of(alloc, number) else {
-        return Turn {
-            has_got: false,
-            has_put: false,
-        };
+    let refused = Turn {
+        has_got: false,
+        has_put: false,
     };
-    let got = get_one(rt, cluster, post, session, &key);
+    let Ok(key) = key_of(alloc, number) else {
+        return refused;
+    };
+    let Ok(value) = value_of(alloc, client, turn) else {
+        return refused;
+    };
+    play_with(rt, alloc, cluster, post, session, &key, value)
+}
+
+// The same of this key and this value.
+fn play_with<J: Naming, R: Wait>(
+    rt: &R,
+    alloc: Global,
+    cluster: &Cluster<J>,
+    post: &mut Post<J>,
+    session: &mut Session<J>,
+    key: &Key,
+    value: Value,
+) -> Turn
+    ensures { IsTurnOf J J.ring J.n J.r key.now value session.old session.new result }
+{
+    let got = get_one(rt, cluster, post, session, key);
     let has_got = got.is_some();
     let context = got.unwrap_or(Context::new(alloc));
-    let has_put = match value_of(alloc, client, turn) {
-        Ok(value) => put_one(rt, cluster, post, session, &key, &context, value),
-        Err(_) => false,
-    };
+    let has_put = put_one(rt, cluster, post, session, key, &context, value);
     Turn { has_got, has_put }
 }
 
