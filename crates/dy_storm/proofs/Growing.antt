@@ -4,7 +4,8 @@ use Rattle.std.proofs.Common.{◌≡◌, ◌≢◌, ◌≤◌, ◌<◌, ◌+◌,
 use Rattle.std.proofs.Common.{Bool, true, false, Option, Some, None, Result, Ok, Err, is_ok, is_some}
 use Rattle.std.proofs.Common.{refl, sym, ap, ◌∙◌, arith, inl, inr, subst}
 use Rattle.std.specs.Int.{from_bool}
-use Rattle.std.specs.Prelude.{unwrap_or, result_ok, IfOk, OnErr}
+use Rattle.std.specs.Prelude.{unwrap_or, IfOk, OnErr}
+use Rattle.std.specs.Result.{result_ok}
 use Rattle.std.specs.FinSet as set
 use Rattle.dy_dots.specs.Dots.{DotSet}
 use Rattle.dy_dots.specs.declared.dots.Dot.{Dot}
@@ -60,10 +61,10 @@ ends : (key : List ℕ) (dot : Dot) (w : ℕ) (added : List ReceiptParts) (answe
 ends key dot w added answers before after answer (inl (can, ok)) =
     subst (λ (a : Result PutDone PutFault). GrowsBy a before after) (sym ok.result_is)
     (acked before after ok.at w key dot ok.told)
-ends key dot w added answers before after answer (inr (inl (can, same, no))) =
-    refused answer no.0 before after no.1 same
-ends key dot w added answers before after answer (inr (inr (can, same, no))) =
-    refused answer no.0 before after no.1 same
+ends key dot w added answers before after answer (inr (inl (can, same, why))) =
+    refused answer why.0 before after why.1 same
+ends key dot w added answers before after answer (inr (inr (can, same, why))) =
+    refused answer why.0 before after why.1 same
 
 -- a put tells its session one ack exactly where it is Ok, and no get
 pub put_grows : {J : Type 0} (list : Preferred) (w : ℕ) (key : List ℕ) (context : DotSet)
@@ -75,9 +76,9 @@ put_grows list w key context value before after old new answer (inl (some, few, 
     let put = run.2 in
     ends key run.1.dot w put.added put.answers before after answer put.ends
 put_grows list w key context value before after old new answer (inl (some, few, inr early)) =
-    let no = early.3 in refused answer no.0 before after no.1 early.0
-put_grows list w key context value before after old new answer (inr (out, same, still, no)) =
-    refused answer no.0 before after no.1 same
+    let why = early.3 in refused answer why.0 before after why.1 early.0
+put_grows list w key context value before after old new answer (inr (out, same, still, why)) =
+    refused answer why.0 before after why.1 same
 
 -- so is the session told of what a turn puts
 put_turn : (J : Type 0) (list : Preferred) (key : List ℕ) (context : DotSet) (value : List ℕ)

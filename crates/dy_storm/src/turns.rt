@@ -92,7 +92,11 @@ fn play_with<J: Naming, R: Wait>(
     key: &Key,
     value: Value,
 ) -> Turn
-    ensures { IsTurnOf J J.ring J.n J.r key.now value session.old session.new result }
+    ensures told { IsTurnOf J J.ring J.n J.r key.now value session.old session.new result }
+    ensures gets { length session.new.gets
+        ≡ length session.old.gets + from_bool result.has_got }
+    ensures acks { length session.new.acks
+        ≡ length session.old.acks + from_bool result.has_put }
 {
     let got = get_one(rt, cluster, post, session, key);
     let has_got = got.is_some();
