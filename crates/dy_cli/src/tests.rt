@@ -80,7 +80,12 @@ fn script_of(alloc: Global, ring: &str, members: &str) -> Result<String, Fail> {
 }
 
 /// Runs the program with this word and a file that has this script.
-fn told<R: Threads + Wait + Sync>(rt: &R, alloc: Global, word: &str, script: &str) -> Result<Printout, Fail> {
+fn told<R: Threads + Wait + Sync>(
+    rt: &R,
+    alloc: Global,
+    word: &str,
+    script: &str,
+) -> Result<Printout, Fail> {
     let given = words_of(alloc, &[word, "script.json"])?;
     let Ok(job) = words(alloc, given.as_slice()) else {
         return Err(Fail::from("no job"));

@@ -1,8 +1,8 @@
 -- What a turn tells its session: a get more where it was answered, and an ack more where the put
 -- was acknowledged.
-use Rattle.std.proofs.Common.{◌≡◌, ◌≢◌, ◌≤◌, ◌<◌, ◌+◌, ◌++◌, ◌∷◌, ◌⊎◌, [], List, ℕ, length, length-append}
-use Rattle.std.proofs.Common.{Bool, true, false, Option, Some, None, Result, Ok, Err, is_ok, is_some}
-use Rattle.std.proofs.Common.{refl, sym, ap, ◌∙◌, arith, inl, inr, subst}
+use Rattle.std.proofs.Common.{◌≡◌, ◌+◌, ◌∷◌, [], List, ℕ, length, length-append}
+use Rattle.std.proofs.Common.{Bool, Option, Some, None, Result, Ok, Err, is_ok, is_some}
+use Rattle.std.proofs.Common.{sym, ap, arith, inl, inr, subst}
 use Rattle.std.specs.Int.{from_bool}
 use Rattle.std.specs.Prelude.{unwrap_or, IfOk, OnErr}
 use Rattle.std.specs.Result.{result_ok}
@@ -23,7 +23,7 @@ use Rattle.dy_coord.specs.declared.get_faults.GetFault.{GetFault}
 use Rattle.dy_coord.specs.PutEnds.{EndsAfter, PutEnds}
 use Rattle.dy_coord.specs.declared.put_results.PutDone.{PutDone}
 use Rattle.dy_coord.specs.declared.put_results.PutFault.{PutFault}
-use Rattle.dy_storm.specs.Turns.{HasPut, IsGetOf, IsGotOf, IsPutOf, IsTurnOf}
+use Rattle.dy_storm.specs.Turns.{IsGetOf, IsGotOf, IsPutOf, IsTurnOf}
 use Rattle.dy_storm.specs.declared.turns.Turn.{Turn}
 
 -- the session has so many gets and so many acks more
@@ -33,17 +33,23 @@ Grows before after gets acks =
     × (length after.acks ≡ length before.acks + acks)
 
 unchanged : (before after : SessionPart) → after ≡ before → Grows before after 0 0
-unchanged before after same =
-    (omega (arith, ap (λ (s : SessionPart). length s.gets) same),
-    omega (arith, ap (λ (s : SessionPart). length s.acks) same))
+unchanged before after same = (
+  omega (arith, ap (λ (s : SessionPart). length s.gets) same),
+  omega (arith, ap (λ (s : SessionPart). length s.acks) same),
+)
 
 -- an ack more
 acked : (before after : SessionPart) (at w : ℕ) (key : List ℕ) (dot : Dot)
     → after ≡ with_ack before at (Ack key dot w) → Grows before after 0 1
-acked before after at w key dot is =
-    (omega (arith, ap (λ (s : SessionPart). length s.gets) is),
-    omega (arith, ap (λ (s : SessionPart). length s.acks) is, length-append before.acks
-    (record { at = at; key = key; dot = dot; w = w } ∷ [])))
+acked before after at w key dot is = (
+  omega (arith, ap (λ (s : SessionPart). length s.gets) is),
+  omega (
+    arith,
+    ap (λ (s : SessionPart). length s.acks) is,
+    length-append before.acks
+        (record { at = at; key = key; dot = dot; w = w } ∷ []),
+  ),
+)
 
 -- so many acks more as the answer is Ok
 abbrev pub GrowsBy : Result PutDone PutFault → SessionPart → SessionPart → Type 0
@@ -98,10 +104,15 @@ get_turn : (J : Type 0) (list : Preferred) (r : ℕ) (key : List ℕ) (context :
     Grows before after (from_bool (is_some context)) 0
 get_turn J list r key None before after same = unchanged before after same
 get_turn J list r key (Some context) before after got =
-    let heard = got.2.heard in
-    (omega (arith, ap (λ (s : SessionPart). length s.gets) heard, length-append before.gets
-    (record { since = since_of before; answers = first_answers got.0.seen.items } ∷ [])),
-    omega (arith, ap (λ (s : SessionPart). length s.acks) heard))
+    let heard = got.2.heard in (
+      omega (
+        arith,
+        ap (λ (s : SessionPart). length s.gets) heard,
+        length-append before.gets
+            (record { since = since_of before; answers = first_answers got.0.seen.items } ∷ []),
+      ),
+      omega (arith, ap (λ (s : SessionPart). length s.acks) heard),
+    )
 
 -- a turn tells a get where it was answered, and an ack where the put was acknowledged
 pub turn_grows : (J : Type 0) (ring : Tokens) (n r : ℕ) (key value : List ℕ)
@@ -112,7 +123,7 @@ turn_grows J ring n r key value before after turn t =
     let list = list_of ring n key in
     let got = get_turn J list r key t.context before t.between t.gets in
     let put = put_turn J list key (unwrap_or t.context set.empty) value t.between after turn.has_put
-        t.puts in
+    t.puts in
     subst (λ (b : Bool). Grows before after (from_bool b) (from_bool turn.has_put)) (sym t.got)
     (omega (arith, got.0, put.0), omega (arith, got.1, put.1))
 

@@ -135,7 +135,10 @@ fn run_beside<J: Naming + Send + Sync, R: Threads + Wait + Sync>(
         let mut is_staffed = true;
         let mut number = 0u8;
         for inbox in inboxes {
-            if scope.spawn(move || work(rt, cluster, number, inbox)).is_err() {
+            if scope
+                .spawn(move || work(rt, cluster, number, inbox))
+                .is_err()
+            {
                 is_staffed = false;
             }
             number = number.wrapping_add(1);
@@ -144,9 +147,12 @@ fn run_beside<J: Naming + Send + Sync, R: Threads + Wait + Sync>(
             is_staffed = scope.spawn(move || fall(rt, cluster, plan)).is_ok();
         }
         if is_staffed {
-            for_each_mut(rt, clients, 32, &|_, client| {
-                client.run(rt, alloc, cluster, plan.puts)
-            });
+            for_each_mut(
+                rt,
+                clients,
+                32,
+                &|_, client| { client.run(rt, alloc, cluster, plan.puts) },
+            );
         }
         let_go(clients);
         is_staffed

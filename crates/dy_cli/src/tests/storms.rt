@@ -63,14 +63,7 @@ fn told<R: Threads + Wait + Sync>(
 ) -> Result<(String, u8), Fail> {
     let mut input: &[u8] = b"no script";
     let (mut out, mut err) = (Vec::new(alloc), Vec::new(alloc));
-    let status = perform(
-        rt,
-        alloc,
-        &Job::Storm(plan),
-        &mut input,
-        &mut out,
-        &mut err,
-    );
+    let status = perform(rt, alloc, &Job::Storm(plan), &mut input, &mut out, &mut err);
     Ok((text_of(alloc, out.as_slice())?, status))
 }
 

@@ -1,4 +1,4 @@
-use Rattle.std.proofs.Common.{rules, ◌≡◌, ◌+◌, ◌*◌, ◌++◌, ◌∷◌, [], ◌∙◌, ℕ, ap, arith, length}
+use Rattle.std.proofs.Common.{rules, ◌≡◌, ◌+◌, ◌*◌, ◌∷◌, [], ◌∙◌, ap, arith, length}
 use Rattle.std.proofs.Common.{length-append}
 use Rattle.dy_book.specs.Audits.{count_gets}
 use Rattle.dy_storm.specs.Ends.{count_acks}
@@ -21,13 +21,12 @@ loop-client-preserved-then-is_whole g c =
     let gets : count_gets new ≡ count_gets old + length one.session.gets =
     ap count_gets p.items ∙ gets_more old one.session in
     let all : 2 * one.made ≡ 2 * c.args.puts = search rules in
-    let made : one.acked + one.gets + one.refused ≡ 2 * c.args.puts = one.each ∙ all in
-    (
+    let made : one.acked + one.gets + one.refused ≡ 2 * c.args.puts = one.each ∙ all in (
       omega (arith, i.0, c.in-Some.ensures.len, longer),
       omega (arith, i.1, p.capacity),
       λ w. let told = i.2 w in
-      (omega (arith, told.0, one.told_acks, acks), omega (arith, told.1, one.told_gets, gets)),
+          (omega (arith, told.0, one.told_acks, acks), omega (arith, told.1, one.told_gets, gets)),
       λ w. one_more (length new) (length old) c.args.puts one.acked one.gets one.refused
-      sum.acked sum.gets sum.refused longer (i.3 w) made,
+          sum.acked sum.gets sum.refused longer (i.3 w) made,
       omega (arith, i.4, longer, made, c.ranges.puts.fits),
     )

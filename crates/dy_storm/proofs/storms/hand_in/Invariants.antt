@@ -1,4 +1,4 @@
-use Rattle.std.proofs.Common.{◌≡◌, ◌≤◌, ◌+◌, ◌*◌, ◌^◌, ℕ, true, length, vec_len, vec_capacity}
+use Rattle.std.proofs.Common.{◌≡◌, ◌≤◌, ◌+◌, ◌*◌, ◌^◌, true, length, vec_len, vec_capacity}
 use Rattle.dy_storm.specs.Ends.{CountsAll, CountsTold}
 use Rattle.dy_storm.proofs.storms.hand_in.Given as goal
 
