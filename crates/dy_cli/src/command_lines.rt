@@ -2,7 +2,8 @@ ghost use Rattle.std.specs.Prelude.{◌≤◌, IfErr};
 
 use crate::jobs::Job;
 use clap::error::ErrorKind;
-use clap::{Arg, ArgMatches, Command, Error};
+use clap::{Arg, ArgAction, ArgMatches, Command, Error};
+use dy_storm::Storm;
 use std::alloc::{AllocError, Global};
 use std::io;
 
@@ -15,6 +16,7 @@ Examples:
   dynamo run examples/scripts/put_then_get.json
   dynamo ring examples/scripts/ring_wraps.json
   dynamo run /dev/stdin < script.json
+  dynamo storm 1 8 100 --faults
 
 Status:
   0  done; a command that was refused has \" E\" in its line
@@ -54,14 +56,29 @@ fn job_of(alloc: Global, matches: &ArgMatches) -> Result<Option<Job>, AllocError
     let Some((name, inner)) = matches.subcommand() else {
         return Ok(None);
     };
-    let Some(file) = inner.get_str("file") else {
-        return Ok(None);
-    };
-    let file = String::from_str(alloc, file)?;
     Ok(match name {
-        "run" => Some(Job::Run(file)),
-        "ring" => Some(Job::Ring(file)),
+        "run" => file_of(alloc, inner)?.map(|file| Job::Run(file)),
+        "ring" => file_of(alloc, inner)?.map(|file| Job::Ring(file)),
+        "storm" => storm_of(inner).map(|plan| Job::Storm(plan)),
         _ => None,
+    })
+}
+
+/// The file that the matches name.
+fn file_of(alloc: Global, matches: &ArgMatches) -> Result<Option<String>, AllocError> {
+    match matches.get_str("file") {
+        Some(file) => Ok(Some(String::from_str(alloc, file)?)),
+        None => Ok(None),
+    }
+}
+
+/// The storm that the matches say.
+fn storm_of(matches: &ArgMatches) -> Option<Storm> {
+    Some(Storm {
+        seed: matches.get_one::<u64>("seed")?,
+        threads: matches.get_one::<u8>("threads")?,
+        puts: matches.get_one::<u32>("puts")?,
+        faults: matches.get_flag("faults"),
     })
 }
 
@@ -73,6 +90,7 @@ fn matches_of<'a>(alloc: Global, words: &'a [String]) -> Result<ArgMatches<'a>, 
     let ring = Command::new(alloc, "ring")
         .about("Prints the ring of a script, and the preference lists of its keys")
         .arg(file_arg(alloc))?;
+    let storm = storm_command(alloc)?;
     let dynamo = Command::new(alloc, "dynamo")
         .bin_name("dynamo")?
         .about("An always-writable, replicated key-value store")
@@ -81,7 +99,8 @@ fn matches_of<'a>(alloc: Global, words: &'a [String]) -> Result<ArgMatches<'a>, 
         .no_binary_name(true)
         .subcommand_required(true)
         .subcommand(run)?
-        .subcommand(ring)?;
+        .subcommand(ring)?
+        .subcommand(storm)?;
     dynamo.try_get_matches_from(words)
 }
 
@@ -91,4 +110,34 @@ fn file_arg<'a>(alloc: Global) -> Arg<'a> {
         .required(true)
         .value_name("FILE")
         .help("A script, as docs/FORMATS.md describes it")
+}
+
+/// The command that plays a storm.
+fn storm_command<'a>(alloc: Global) -> Result<Command<'a>, Error> {
+    let seed = Arg::new(alloc, "seed")
+        .required(true)
+        .value_name("SEED")
+        .help("What the keys and the faults are drawn from")
+        .value_parser(clap::value_parser!(u64));
+    let threads = Arg::new(alloc, "threads")
+        .required(true)
+        .value_name("THREADS")
+        .help("How many clients there are, 1 to 32, each in a thread of its own")
+        .value_parser(clap::value_parser!(u8).range(1..=32));
+    let puts = Arg::new(alloc, "puts")
+        .required(true)
+        .value_name("PUTS")
+        .help("How often each client gets and puts, 1 to 1000")
+        .value_parser(clap::value_parser!(u32).range(1..=1000));
+    let faults = Arg::new(alloc, "faults")
+        .long("faults")
+        .help("Nodes go down, return, hand over and lose answers meanwhile")
+        .action(ArgAction::SetTrue);
+    let storm = Command::new(alloc, "storm")
+        .about("Gets and puts from many threads at once, and prints how many were answered")
+        .arg(seed)?
+        .arg(threads)?
+        .arg(puts)?
+        .arg(faults)?;
+    Ok(storm)
 }

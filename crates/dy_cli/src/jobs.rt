@@ -1,3 +1,5 @@
+use dy_storm::Storm;
+
 /// What the command line asks for.
 #[derive(Debug, Drop)]
 pub enum Job {
@@ -5,14 +7,17 @@ pub enum Job {
     Run(String),
     /// To print the ring of the script of this file, and the preference lists of its keys.
     Ring(String),
+    /// To play this storm.
+    Storm(Storm),
 }
 
 impl Job {
-    /// The file that it reads. Takes no memory.
-    pub fn file(&self) -> &str {
+    /// The file that it reads; a storm reads none. Takes no memory.
+    pub fn file(&self) -> Option<&str> {
         match self {
-            Job::Run(file) => file.as_str(),
-            Job::Ring(file) => file.as_str(),
+            Job::Run(file) => Some(file.as_str()),
+            Job::Ring(file) => Some(file.as_str()),
+            Job::Storm(_) => None,
         }
     }
 }

@@ -1,4 +1,5 @@
-//! The program `dynamo`: runs scripts against a replicated key-value store, and prints rings.
+//! The program `dynamo`: runs scripts and storms against a replicated key-value store, and prints
+//! rings.
 #![tactic(auto)]
 
 mod command_lines;
@@ -13,16 +14,18 @@ use std::alloc::Global;
 use std::env::Env;
 use std::fs::File;
 use std::io;
+use std::io::Read;
 use std::process::ExitCode;
 use std::sync::Wait;
+use std::thread::Threads;
 
 fn main(rt: HostRuntime) -> ExitCode {
     ExitCode::from(status_of_words(&rt, &rt))
 }
 
-/// Does what the words after the program's name ask for, and gives the status. The leave to wait
-/// for locks is handed on beside the runtime, which has it in `main` alone.
-fn status_of_words<R: Wait>(rt: &HostRuntime, waits: &R) -> u8 {
+/// Does what the words after the program's name ask for, and gives the status. The leave to start
+/// threads and to wait is handed on beside the runtime, which has it in `main` alone.
+fn status_of_words<R: Threads + Wait + Sync>(rt: &HostRuntime, leave: &R) -> u8 {
     let alloc = rt.alloc();
     let mut err = rt.stderr();
     let words = match given_words(rt, alloc) {
@@ -30,7 +33,7 @@ fn status_of_words<R: Wait>(rt: &HostRuntime, waits: &R) -> u8 {
         Err(error) => return refusing::refuse_words(&mut err, &error),
     };
     match command_lines::words(alloc, words.as_slice()) {
-        Ok(job) => status_of_job(rt, waits, &job),
+        Ok(job) => status_of_job(rt, leave, &job),
         Err(1) => refusing::refuse_for_memory(&mut err),
         Err(status) => {
             if let Err(error) = command_lines::explain(rt, alloc, words.as_slice()) {
@@ -41,16 +44,29 @@ fn status_of_words<R: Wait>(rt: &HostRuntime, waits: &R) -> u8 {
     }
 }
 
-/// Opens the file of the job, does the job, and gives the status.
-fn status_of_job<R: Wait>(rt: &HostRuntime, waits: &R, job: &Job) -> u8 {
+/// Opens the file of the job, where it has one, does the job, and gives the status.
+fn status_of_job<R: Threads + Wait + Sync>(rt: &HostRuntime, leave: &R, job: &Job) -> u8 {
+    let Some(file) = job.file() else {
+        let mut nothing: &[u8] = &[];
+        return status_over(rt, leave, job, &mut nothing);
+    };
+    match File::open(rt, file) {
+        Ok(mut input) => status_over(rt, leave, job, &mut input),
+        Err(error) => refusing::refuse_file(&mut rt.stderr(), file, &error),
+    }
+}
+
+/// Does the job over this input, and gives the status.
+fn status_over<I: Read, R: Threads + Wait + Sync>(
+    rt: &HostRuntime,
+    leave: &R,
+    job: &Job,
+    input: &mut I,
+) -> u8 {
     let alloc = rt.alloc();
     let mut err = rt.stderr();
-    let mut input = match File::open(rt, job.file()) {
-        Ok(input) => input,
-        Err(error) => return refusing::refuse_file(&mut err, job.file(), &error),
-    };
     match io::BufWriter::new(alloc, io::writer(rt)) {
-        Ok(mut out) => performing::perform(waits, alloc, job, &mut input, &mut out, &mut err),
+        Ok(mut out) => performing::perform(leave, alloc, job, input, &mut out, &mut err),
         Err(_) => refusing::refuse_for_memory(&mut err),
     }
 }

@@ -5,14 +5,17 @@ use crate::refusing::refuse_file;
 use dy_dots::Fault;
 use dy_runner::{Stopped, write_ring, write_run};
 use dy_script::read;
+use dy_storm::write_storm;
 use std::alloc::Global;
 use std::io::{Read, Write};
 use std::sync::Wait;
+use std::thread::Threads;
 
-/// Reads the script from the input, does the job, and gives the status: 0 where it was done, 1
-/// where memory or the output failed, 2 where the input can't be read, or the script, its ring, a
-/// limit or its quorum is refused. A refusal is one line on `err`. May wait for locks.
-pub fn perform<I: Read, W: Write, E: Write, R: Wait>(
+/// Reads the script from the input, where the job has one, does the job, and gives the status: 0
+/// where it was done, 1 where memory or the output failed, 2 where the input can't be read, or the
+/// script, its ring, a limit or its quorum is refused. A refusal is one line on `err`. May wait for
+/// locks, and a storm for answers and threads.
+pub fn perform<I: Read, W: Write, E: Write, R: Threads + Wait + Sync>(
     rt: &R,
     alloc: Global,
     job: &Job,
@@ -23,8 +26,10 @@ pub fn perform<I: Read, W: Write, E: Write, R: Wait>(
     ensures { result ≤ 2 }
 {
     let mut bytes = Vec::new(alloc);
-    if let Err(error) = input.read_to_end(&mut bytes) {
-        return refuse_file(err, job.file(), &error);
+    if let Some(file) = job.file() {
+        if let Err(error) = input.read_to_end(&mut bytes) {
+            return refuse_file(err, file, &error);
+        }
     }
     match write_job(rt, alloc, job, bytes.as_slice(), out) {
         Ok(()) => 0,
@@ -36,17 +41,17 @@ pub fn perform<I: Read, W: Write, E: Write, R: Wait>(
 }
 
 /// Writes what the job is asked to write.
-fn write_job<W: Write, R: Wait>(
+fn write_job<W: Write, R: Threads + Wait + Sync>(
     rt: &R,
     alloc: Global,
     job: &Job,
     bytes: &[u8],
     out: &mut W,
 ) -> Result<(), Stopped> {
-    let script = read(alloc, bytes)?;
     match job {
-        Job::Run(_) => write_run(rt, alloc, &script, out)?,
-        Job::Ring(_) => write_ring(alloc, &script, out)?,
+        Job::Run(_) => write_run(rt, alloc, &read(alloc, bytes)?, out)?,
+        Job::Ring(_) => write_ring(alloc, &read(alloc, bytes)?, out)?,
+        Job::Storm(plan) => write_storm(rt, alloc, *plan, out)?,
     }
     out.flush()?;
     Ok(())

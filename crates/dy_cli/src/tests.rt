@@ -8,6 +8,7 @@ mod refusals;
 mod repairs;
 mod rings;
 mod settling;
+mod storms;
 
 use crate::command_lines::words;
 use crate::performing::perform;
@@ -15,6 +16,7 @@ use std::alloc::Global;
 use std::process::Abort;
 use std::sync::Wait;
 use std::test::Fail;
+use std::thread::Threads;
 
 /// Five nodes with a token each, three homes of a key, two for a get, and two for a put.
 const FIVE_NODES: &str = r#""n":3,"r":2,"w":2,"tokens":[["20"],["60"],["a0"],["d0"],["f0"]]"#;
@@ -29,7 +31,7 @@ struct Printout {
 
 /// Checks that the program ends well with this word and the script of these members of the ring and
 /// these others, and prints just this.
-fn prints<R: Abort + Wait>(
+fn prints<R: Abort + Threads + Wait + Sync>(
     rt: &R,
     alloc: Global,
     word: &str,
@@ -47,7 +49,7 @@ fn prints<R: Abort + Wait>(
 
 /// Checks that a run of the script of these members of the ring and these others is refused with
 /// this line.
-fn refuses<R: Abort + Wait>(
+fn refuses<R: Abort + Threads + Wait + Sync>(
     rt: &R,
     alloc: Global,
     ring: &str,
@@ -59,7 +61,7 @@ fn refuses<R: Abort + Wait>(
 }
 
 /// Checks that a run of this text is refused with this line.
-fn refuses_text<R: Abort + Wait>(
+fn refuses_text<R: Abort + Threads + Wait + Sync>(
     rt: &R,
     alloc: Global,
     script: &str,
@@ -78,7 +80,12 @@ fn script_of(alloc: Global, ring: &str, members: &str) -> Result<String, Fail> {
 }
 
 /// Runs the program with this word and a file that has this script.
-fn told<R: Wait>(rt: &R, alloc: Global, word: &str, script: &str) -> Result<Printout, Fail> {
+fn told<R: Threads + Wait + Sync>(
+    rt: &R,
+    alloc: Global,
+    word: &str,
+    script: &str,
+) -> Result<Printout, Fail> {
     let given = words_of(alloc, &[word, "script.json"])?;
     let Ok(job) = words(alloc, given.as_slice()) else {
         return Err(Fail::from("no job"));

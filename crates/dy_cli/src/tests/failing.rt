@@ -11,6 +11,7 @@ use std::io::{ErrorKind, Read, Write};
 use std::process::Abort;
 use std::sync::Wait;
 use std::test::Fail;
+use std::thread::Threads;
 
 const SCRIPT: &str = r#"{"n":1,"r":1,"w":1,"tokens":[["20"]],"run":[{"do":"get","key":"a"}]}"#;
 
@@ -59,7 +60,7 @@ fn job_of(alloc: Global) -> Result<Job, Fail> {
 }
 
 /// Checks the status and the line of a file that fails in this way.
-fn check_torn<R: Abort + Wait>(
+fn check_torn<R: Abort + Threads + Wait + Sync>(
     rt: &R,
     alloc: Global,
     kind: ErrorKind,
@@ -91,7 +92,7 @@ fn a_file_without_memory_is_status_one(rt: HostRuntime) -> Result<(), Fail> {
 }
 
 /// Whether the run stops with status 1 where there is so much room for its output.
-fn stops<R: Wait>(rt: &R, alloc: Global, room: usize) -> Result<bool, Fail> {
+fn stops<R: Threads + Wait + Sync>(rt: &R, alloc: Global, room: usize) -> Result<bool, Fail> {
     let job = job_of(alloc)?;
     let mut input = SCRIPT.as_bytes();
     let mut out = Full { room };
@@ -163,7 +164,7 @@ fn words_that_ask_for_nothing_are_status_two(rt: HostRuntime) -> Result<(), Fail
 fn is_run(alloc: Global, word: &str) -> Result<Option<bool>, Fail> {
     let given = words_of(alloc, &[word, "a.json"])?;
     Ok(match words(alloc, given.as_slice()) {
-        Ok(job) if job.file() == "a.json" => Some(matches!(job, Job::Run(_))),
+        Ok(job) if job.file() == Some("a.json") => Some(matches!(job, Job::Run(_))),
         _ => None,
     })
 }

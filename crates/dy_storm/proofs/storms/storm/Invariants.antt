@@ -1,0 +1,11 @@
+use Rattle.dy_storm.proofs.storms.storm.Given as goal
+
+-- the book has the name of what was just opened
+abbrev pub ghosts-run_named : goal.ghosts-run_named
+ghosts-run_named g a = record {
+  ring = a.opened.ring;
+  n = a.opened.options.n;
+  r = a.opened.options.r;
+  book = a.opened.blank.book;
+  table = a.opened.blank.table;
+}

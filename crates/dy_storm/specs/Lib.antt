@@ -1,0 +1,6 @@
+pub mod Clusters
+pub mod Ends
+pub mod Lines
+pub mod Seeds
+pub mod Turns
+pub mod Words

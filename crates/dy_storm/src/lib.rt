@@ -1,0 +1,17 @@
+//! Storms: clients that get and put beside each other, and nodes that fail beside them.
+#![tactic(auto)]
+
+mod clients;
+mod counts;
+mod outages;
+mod plans;
+mod rings;
+mod storms;
+mod turns;
+mod words;
+mod writing;
+
+pub use counts::Counts;
+pub use plans::Storm;
+pub use storms::{StormDone, storm};
+pub use writing::write_storm;

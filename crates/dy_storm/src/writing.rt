@@ -1,0 +1,35 @@
+ghost use Rattle.std.specs.Prelude.{OnOk};
+ghost use Rattle.std.specs.Io.KnownBytes.{Appends};
+ghost use Rattle.dy_ring.specs.Rings.{Tokens};
+ghost use Rattle.dy_ring.specs.Lists.{IsRingOf};
+ghost use Rattle.dy_runner.specs.RingLines.{line};
+ghost use Rattle.dy_storm.specs.Clusters.{five_tokens};
+ghost use Rattle.dy_storm.specs.Ends.{IsStormed};
+ghost use Rattle.dy_storm.specs.Lines.{counts_text};
+ghost use Rattle.dy_storm.specs.declared.storms.StormDone.{StormDone};
+
+use crate::plans::Storm;
+use crate::storms::storm;
+use dy_runner::Stopped;
+use std::alloc::Global;
+use std::io::Write;
+use std::sync::Wait;
+use std::thread::Threads;
+
+/// Plays the storm, and writes the line of its counts. May wait for locks, answers and threads.
+pub fn write_storm<O: Write, R: Threads + Wait + Sync>(
+    rt: &R,
+    alloc: Global,
+    plan: Storm,
+    out: &mut O,
+) -> Result<(), Stopped>
+    ensures { OnOk result ((ring : Tokens) × IsRingOf five_tokens ring
+        × ((done : StormDone) × IsStormed ring 3 2 plan.threads plan.puts done
+        × Appends (O.contents out.old) (O.contents out.new)
+        (line (counts_text done.counts.acked done.counts.gets done.counts.refused)))) }
+{
+    let done = storm(rt, alloc, plan)?;
+    let counts = done.counts;
+    writeln!(out, "{counts}")?;
+    Ok(())
+}
