@@ -23,7 +23,8 @@ const ASKS: u8 = 32;
 // The ask that the worker has, and those that its mailbox has room for.
 const FULL: u64 = MAILBOX_ROOM as u64 + 1;
 
-// How often the worker looks before it gives up, and how often once the mailbox is full.
+// How often the worker looks before it gives up, for about a second, and how often once the mailbox
+// is full.
 const LOOKS: u32 = 1_000_000_000;
 
 const MORE_LOOKS: u32 = 5_000_000;

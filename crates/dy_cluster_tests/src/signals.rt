@@ -1,7 +1,7 @@
 // What one thread waits for and another one says.
 use std::sync::atomic::{AtomicBool, Ordering};
 
-// How often a thread looks before it gives up: for some seconds.
+// How often a thread looks before it gives up: for about a second, as LLVM builds it.
 const LOOKS: u32 = 1_000_000_000;
 
 // What is said once. A wait for it ends by itself.
