@@ -7,6 +7,14 @@ use dy_dots::{Context, Dot, Fault, NodeId};
 use dy_siblings::{Key, Row};
 use std::alloc::Global;
 
+// A step that is given twice, to the world and to the log.
+#[derive(Drop)]
+pub struct Twice {
+    pub step: Step,
+    pub same: Step,
+    ghost equal: { same ≡ step },
+}
+
 // The node makes a version of the key, which follows those that the context names.
 pub fn making(alloc: Global, node: NodeId, key: &Key, context: &Context) -> Result<Step, Fault>
     ensures { IfOk result (λ step. step ≡ Issue node key.now context.now None) }

@@ -15,7 +15,7 @@ ghost use Rattle.dy_shares.specs.Shares.{
   with_entries,
 };
 
-use crate::steps::{acking, alone, fetching, holding, making, releasing, row_of};
+use crate::steps::{Twice, acking, alone, fetching, holding, making, releasing, row_of};
 use dy_core::{Place, Step, World};
 use dy_dots::{Context, Dot, Fault, NodeId};
 use dy_shares::{Ledger, Naming, NodeShare, Receipt, Seen, SessionShare};
@@ -178,13 +178,12 @@ impl<J: Naming> Watched<J> {
         &mut self,
         alloc: Global,
         share: &mut NodeShare<J>,
-        step: Step,
-        same: Step,
+        twice: Twice,
     ) -> Result<bool, Fault>
-        requires own { node_of step ≡ Some share.old.node }
-        requires same { same ≡ step }
-        requires allowed { MayFollow J.ring J.n self.old.log (step ∷ []) }
+        requires own { node_of twice.step ≡ Some share.old.node }
+        requires allowed { MayFollow J.ring J.n self.old.log (twice.step ∷ []) }
     {
+        let Twice { step, same } = twice;
         let steps = alone(alloc, step)?;
         self.make(alloc, share, steps, same)
     }
@@ -194,14 +193,12 @@ impl<J: Naming> Watched<J> {
         &mut self,
         alloc: Global,
         share: &mut NodeShare<J>,
-        step: Step,
-        same: Step,
+        twice: Twice,
     ) -> Result<bool, Fault>
-        requires own { node_of step ≡ Some share.old.node }
-        requires same { same ≡ step }
+        requires own { node_of twice.step ≡ Some share.old.node }
     {
-        match self.allows(alloc, &step) {
-            Ok(true) => self.make_one(alloc, share, step, same),
+        match self.allows(alloc, &twice.step) {
+            Ok(true) => self.make_one(alloc, share, twice),
             Ok(false) => Ok(false),
             Err(fault) => Err(fault),
         }
@@ -218,7 +215,7 @@ impl<J: Naming> Watched<J> {
         let node = share.node();
         let step = making(alloc, node, key, context)?;
         let same = making(alloc, node, key, context)?;
-        if !self.node_step(alloc, share, step, same)? {
+        if !self.node_step(alloc, share, Twice { step, same })? {
             return Ok(None);
         }
         Ok(Dot::new(node, 1))
@@ -250,7 +247,7 @@ impl<J: Naming> Watched<J> {
         let holder = share.node();
         let step = holding(alloc, Place { holder, home }, row)?;
         let same = holding(alloc, Place { holder, home }, row)?;
-        self.node_step(alloc, share, step, same)
+        self.node_step(alloc, share, Twice { step, same })
     }
 
     // The share's node gives up the dot for the home.
@@ -265,7 +262,7 @@ impl<J: Naming> Watched<J> {
         let holder = share.node();
         let step = releasing(alloc, Place { holder, home }, key, dot)?;
         let same = releasing(alloc, Place { holder, home }, key, dot)?;
-        self.node_step(alloc, share, step, same)
+        self.node_step(alloc, share, Twice { step, same })
     }
 
     // Makes the ack, which is given twice, in the world and in the log.
@@ -273,17 +270,16 @@ impl<J: Naming> Watched<J> {
         &mut self,
         alloc: Global,
         share: &mut SessionShare<J>,
-        step: Step,
-        same: Step,
+        twice: Twice,
     ) -> Result<bool, Fault>
-        requires ack { IsAck step }
-        requires same { same ≡ step }
-        requires allowed { MayFollow J.ring J.n self.old.log (step ∷ []) }
+        requires ack { IsAck twice.step }
+        requires allowed { MayFollow J.ring J.n self.old.log (twice.step ∷ []) }
     {
         if !self.is_whole {
             return Ok(false);
         }
         self.is_whole = false;
+        let Twice { step, same } = twice;
         both_acked(alloc, &mut self.world, &mut self.ledger, share, step, same)?;
         self.is_whole = true;
         Ok(true)
@@ -294,14 +290,12 @@ impl<J: Naming> Watched<J> {
         &mut self,
         alloc: Global,
         share: &mut SessionShare<J>,
-        step: Step,
-        same: Step,
+        twice: Twice,
     ) -> Result<bool, Fault>
-        requires ack { IsAck step }
-        requires same { same ≡ step }
+        requires { IsAck twice.step }
     {
-        match self.allows(alloc, &step) {
-            Ok(true) => self.told_step(alloc, share, step, same),
+        match self.allows(alloc, &twice.step) {
+            Ok(true) => self.told_step(alloc, share, twice),
             Ok(false) => Ok(false),
             Err(fault) => Err(fault),
         }
@@ -318,7 +312,7 @@ impl<J: Naming> Watched<J> {
     ) -> Result<bool, Fault> {
         let step = acking(alloc, key, dot, w)?;
         let same = acking(alloc, key, dot, w)?;
-        self.ack_step(alloc, share, step, same)
+        self.ack_step(alloc, share, Twice { step, same })
     }
 
     // What is answered at the place.
