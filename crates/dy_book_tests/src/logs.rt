@@ -84,7 +84,8 @@ fn last_kept<J: Naming>(
     }
 }
 
-// The holder holds for the home what the third node holds for itself in the world: the last receipt.
+// The holder holds for the home what the third node holds for itself in the world. The last
+// receipt.
 fn own_kept<J: Naming>(
     alloc: Global,
     book: &mut Book<J>,

@@ -14,8 +14,8 @@ use std::sync::atomic::{AtomicU64, Ordering};
 use std::test::Fail;
 use std::thread::Threads;
 
-// One client puts, and once more where memory was wanting. How many puts were acknowledged, how many
-// answers they read, and how many puts wanted memory, or were refused for another reason.
+// One client puts, and once more where memory was wanting. How many puts were acknowledged, how
+// many answers they read, and how many puts wanted memory, or were refused for another reason.
 #[derive(Drop)]
 struct Retry {
     acked: AtomicU64,
