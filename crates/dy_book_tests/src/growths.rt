@@ -1,10 +1,10 @@
 //! A scene whose growths may be refused. Run with each allocation refused in turn, one a run.
-ghost use Rattle.std.specs.Prelude.{◌≡◌, take};
+ghost use Rattle.std.specs.Prelude.{◌≡◌, ◌<◌, take, IfOk, IfSome, vec_capacity, vec_len};
 ghost use Rattle.dy_preference.specs.Preferences.{homes_of};
 
 use crate::refusals::{run, tell};
-use crate::setups::three_nodes;
-use dy_book::{Audit, Book, CloseRefused, Options};
+use crate::setups::{Opened, open_with_session, three_nodes, two_homes};
+use dy_book::{Audit, Book, CloseRefused};
 use dy_dots::Fault;
 use dy_preference::{Preference, preference};
 use dy_ring::Ring;
@@ -43,6 +43,28 @@ fn closed<J: Naming>(
     }
 }
 
+// A new book with a session; None where the opening was refused.
+fn ready<J: Naming>(
+    rt: &HostRuntime,
+    blank: Blank,
+    ring: Ring,
+) -> Result<Option<Opened<J>>, Fail>
+    requires named { blank ≡ record { book = J.book; table = J.table } }
+    requires ring { ring ≡ J.ring }
+    requires n { J.n ≡ 2 }
+    requires r { J.r ≡ 1 }
+    ensures room { IfOk result (λ opened. IfSome opened (λ o.
+        vec_len o.sessions < vec_capacity o.sessions)) }
+{
+    match open_with_session::<J>(rt.alloc(), blank, ring, two_homes(9, 9, 9)) {
+        Ok(opened) => Ok(Some(opened)),
+        Err(fault) => {
+            tell(rt, "Book::open or its list of sessions", fault)?;
+            Ok(None)
+        }
+    }
+}
+
 // Opens a book, runs the scene and closes the book; None where the opening was refused.
 fn play<J: Naming>(
     rt: &HostRuntime,
@@ -57,44 +79,23 @@ fn play<J: Naming>(
     requires r { J.r ≡ 1 }
     requires list { take list.now.n list.now.nodes ≡ homes_of J.ring J.n key.now }
 {
-    let options = Options {
-        n: 2,
-        r: 1,
-        w: 1,
-        counter_limit: 9,
-        versions_limit: 9,
-        steps_limit: 9,
+    let Some(opened) = ready::<J>(rt, blank, ring)? else {
+        return Ok(None);
     };
-    let mut sessions = match Vec::with_capacity(rt.alloc(), 1) {
-        Ok(sessions) => sessions,
-        Err(_refused) => {
-            tell(rt, "the list of sessions", Fault::OutOfMemory)?;
-            return Ok(None);
-        }
-    };
-    let (mut book, mut nodes) = match Book::<J>::open(rt.alloc(), blank, ring, options) {
-        Ok(opened) => opened,
-        Err(fault) => {
-            sessions.destroy_empty();
-            tell(rt, "Book::open", fault)?;
-            return Ok(None);
-        }
-    };
-    let mut session = match book.session() {
-        Ok(session) => session,
-        Err(_fault) => {
-            book.abandon(nodes, sessions);
-            return Err(Fail::new("a session"));
-        }
-    };
-    match run(rt, &mut book, nodes.as_mut_slice(), &mut session, list, key) {
+    let Opened {
+        mut book,
+        mut nodes,
+        mut session,
+        mut sessions,
+    } = opened;
+    let ran = run(rt, &mut book, nodes.as_mut_slice(), &mut session, list, key);
+    sessions.push_reserved(session);
+    match ran {
         Ok(()) => {
-            sessions.push_reserved(session);
             let audit = closed(rt, book, nodes, sessions)?;
             Ok(Some(audit))
         }
         Err(fail) => {
-            sessions.push_reserved(session);
             book.abandon(nodes, sessions);
             Err(fail)
         }

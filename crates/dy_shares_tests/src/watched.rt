@@ -151,6 +151,19 @@ impl<J: Naming> Watched<J> {
         self.world.allows(alloc, step)
     }
 
+    // The step, where it is allowed now.
+    fn checked(&self, alloc: Global, twice: Twice) -> Result<Option<Twice>, Fault>
+        ensures same { IfOk result (λ found. IfSome found (λ t. t.step ≡ twice.step)) }
+        ensures allowed { IfOk result (λ found. IfSome found
+            (λ t. MayFollow J.ring J.n self.now.log (t.step ∷ []))) }
+    {
+        match self.allows(alloc, &twice.step) {
+            Ok(true) => Ok(Some(twice)),
+            Ok(false) => Ok(None),
+            Err(fault) => Err(fault),
+        }
+    }
+
     // Makes the step, which is given twice, in the world and in the log.
     fn make(
         &mut self,
@@ -294,9 +307,9 @@ impl<J: Naming> Watched<J> {
     ) -> Result<bool, Fault>
         requires { IsAck twice.step }
     {
-        match self.allows(alloc, &twice.step) {
-            Ok(true) => self.told_step(alloc, share, twice),
-            Ok(false) => Ok(false),
+        match self.checked(alloc, twice) {
+            Ok(Some(twice)) => self.told_step(alloc, share, twice),
+            Ok(None) => Ok(false),
             Err(fault) => Err(fault),
         }
     }
