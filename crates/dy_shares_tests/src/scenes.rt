@@ -194,8 +194,8 @@ fn first_put<J: Naming>(
     }
 }
 
-// The put of the stand-in's receipt is acknowledged, and its hint goes to its home. It says what the
-// receipt is worth then.
+// The put of the stand-in's receipt is acknowledged, and its hint goes to its home. It says what
+// the receipt is worth then.
 fn stand_in_of<J: Naming>(
     alloc: Global,
     watched: &mut Watched<J>,
