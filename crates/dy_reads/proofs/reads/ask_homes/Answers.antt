@@ -1,6 +1,7 @@
 -- One home more: it is asked for itself where it isn't the one that the coordinator holds for.
 use Rattle.std.proofs.Common.{◌≡◌, ◌<◌, ◌+◌, ◌++◌, ◌∷◌, ◌==◌, [], not, ℕ, List, true, false}
-use Rattle.std.proofs.Common.{length, map, take, get_or, refl, sym, ◌∙◌, ap, arith, subst, append_assoc}
+use Rattle.std.proofs.Common.{length, map, take, get_or, refl}
+use Rattle.std.proofs.Common.{sym, ◌∙◌, ap, arith, subst, append_assoc}
 use Rattle.std.proofs.Common.{length-append}
 use Rattle.std.proofs.lemmas.List.{append-nil, map-append, take_more}
 use Rattle.std.proofs.lemmas.List.Elements.{filter-append}
