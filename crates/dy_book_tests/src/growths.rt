@@ -44,11 +44,7 @@ fn closed<J: Naming>(
 }
 
 // A new book with a session; None where the opening was refused.
-fn ready<J: Naming>(
-    rt: &HostRuntime,
-    blank: Blank,
-    ring: Ring,
-) -> Result<Option<Opened<J>>, Fail>
+fn ready<J: Naming>(rt: &HostRuntime, blank: Blank, ring: Ring) -> Result<Option<Opened<J>>, Fail>
     requires named { blank ≡ record { book = J.book; table = J.table } }
     requires ring { ring ≡ J.ring }
     requires n { J.n ≡ 2 }
