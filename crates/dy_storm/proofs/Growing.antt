@@ -132,7 +132,8 @@ pub got_of : (J : Type 0) (list : Preferred) (r : ℕ) (key : List ℕ) (before 
     (told : Told J) (answer : Result (GetDone J) GetFault) (got : Option (GetDone J))
     → got ≡ result_ok answer
     → IfOk answer (λ done. IsGot list key r (since_of before) told done)
-    → IfOk answer (λ done. after ≡ with_get before (since_of before) (first_answers done.seen.items))
+    → IfOk answer (λ done. after
+    ≡ with_get before (since_of before) (first_answers done.seen.items))
     → OnErr answer (after ≡ before) → IsGotOf J list r key got before after
 got_of J list r key before after told (Ok done) got is ok heard err =
     subst (λ (g : Option (GetDone J)). IsGotOf J list r key g before after) (sym is)

@@ -1,6 +1,6 @@
 -- What a client does in one turn.
-use Rattle.std.specs.Prelude.{◌≡◌, ◌⊎◌, ℕ, List, Bool, false, Option, Some, None, is_some, unwrap_or}
-use Rattle.std.specs.Prelude.{Result, is_ok}
+use Rattle.std.specs.Prelude.{◌≡◌, ◌⊎◌, ℕ, List, Bool, false, Option, Some, None, is_some}
+use Rattle.std.specs.Prelude.{Result, is_ok, unwrap_or}
 use Rattle.std.specs.FinSet as set
 use Rattle.dy_dots.specs.Dots.{DotSet}
 use Rattle.dy_dots.specs.declared.nodes.TheConstants.{MAX_NODES}
