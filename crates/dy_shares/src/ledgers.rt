@@ -1,12 +1,12 @@
-ghost use Rattle.std.specs.Prelude.{◌≡◌, ◌≢◌, ℕ, ◌+◌, ◌<◌, ◌≤◌, ◌++◌, ◌∷◌, ◌↔◌, Option, Some, None};
-ghost use Rattle.std.specs.Prelude.{[], map, length, vec_len, vec_capacity, IfOk, IfErr, OnOk};
-ghost use Rattle.std.specs.Prelude.{OnErr, IsErrOf, IsOkUnless, MatchBool};
+ghost use Rattle.std.specs.Prelude.{◌≡◌, ◌≢◌, ℕ, ◌+◌, ◌<◌, ◌≤◌, ◌∷◌, ◌↔◌, Option, Some, None, []};
+ghost use Rattle.std.specs.Prelude.{map, length, IfOk, IfErr, OnOk, OnErr, IsErrOf, IsOkUnless};
+ghost use Rattle.std.specs.Prelude.{MatchBool};
 ghost use Rattle.std.specs.List.{All};
 ghost use mathlib.Core.List.{IsPrefix};
 ghost use Rattle.dy_dots.specs.declared.nodes.TheConstants.{MAX_NODES};
 ghost use Rattle.dy_core.specs.Worlds.{layout_of};
 ghost use Rattle.dy_core.specs.Logs.{IsAnswer, IsLegal};
-ghost use Rattle.dy_shares.specs.inside.Parts.{AreOf, IsPartOf, IsRollOf, entries_of, with_done};
+ghost use Rattle.dy_shares.specs.inside.Parts.{AreOf, IsPartOf, entries_of, with_done};
 ghost use Rattle.dy_shares.specs.Shares.{AreAll, HasAll, AreOwned, BelongsTo, IsAck, IsFetch};
 ghost use Rattle.dy_shares.specs.Shares.{IsMissing, IsReceipt, MayFollow, NodeStays};
 ghost use Rattle.dy_shares.specs.Shares.{SessionBelongsTo, SessionStays, answer_of, empty_account};
@@ -19,9 +19,9 @@ use crate::chronicles::{Chronicle, Front};
 use crate::endings::{
     EndRefused, drop_nodes, drop_sessions, end_nodes, end_sessions, missing_node, missing_session,
 };
-use crate::entries::Batch;
+use crate::entries::{Batch, alone, move_all};
 use crate::names::{Blank, Naming};
-use crate::node_shares::NodeShare;
+use crate::node_shares::{NodeShare, open_nodes};
 use crate::parts::{Roll, Share};
 use crate::receipts::Receipt;
 use crate::seens::Seen;
@@ -30,7 +30,7 @@ use crate::sinces::Since;
 use dy_core::{Place, Step};
 use dy_dots::{Dot, Fault, NodeId};
 use dy_siblings::{Key, Row};
-use std::alloc::{AllocError, Global};
+use std::alloc::Global;
 use std::marker::Model;
 
 /// How many sessions a ledger opens at most.
@@ -387,38 +387,4 @@ impl<J: Naming> Ledger<J> {
         drop_nodes(nodes);
         drop_sessions(sessions);
     }
-}
-
-// Opens a seat of the roll for each node, and gives its share.
-fn open_nodes<J: Naming>(roll: &mut Roll<J>, shares: &mut Vec<NodeShare<J>>, nodes: usize)
-    requires roll { roll.old ≡ [] }
-    requires shares { shares.old.items ≡ [] }
-    requires room { vec_len shares.old + nodes ≤ vec_capacity shares.old }
-    requires nodes { nodes ≡ J.ring.nodes }
-    requires small { nodes ≤ MAX_NODES }
-    ensures roll { IsRollOf J.ring.nodes [] J.ring.nodes roll.new }
-    ensures shares { shares.new.items ≡ first_parts J.ring.nodes }
-{
-    for number in 0..nodes {
-        let share = roll.open(number);
-        shares.push_reserved(NodeShare::new(NodeId::nth(number), share));
-    }
-}
-
-// The one step.
-fn alone(alloc: Global, step: Step) -> Result<Vec<Step>, AllocError>
-    ensures { IfOk result (λ steps. steps.items ≡ step ∷ []) }
-{
-    let mut steps = Vec::with_capacity(alloc, 1)?;
-    steps.push_reserved(step);
-    Ok(steps)
-}
-
-// Moves the steps to the end. There is room for them.
-fn move_all(to: &mut Vec<Step>, mut steps: Vec<Step>)
-    requires { vec_len to.old + vec_len steps ≤ vec_capacity to.old }
-    ensures { to.new.items ≡ to.old.items ++ steps.items }
-{
-    let moved = to.append(&mut steps);
-    prove!(moved.is_ok());
 }

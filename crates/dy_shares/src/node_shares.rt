@@ -1,5 +1,7 @@
-ghost use Rattle.std.specs.Prelude.{◌≡◌, ◌<◌};
-ghost use Rattle.dy_shares.specs.inside.Parts.{AgreesAsNode, done_steps};
+ghost use Rattle.std.specs.Prelude.{◌≡◌, ◌<◌, ◌≤◌, ◌+◌, [], vec_len, vec_capacity};
+ghost use Rattle.dy_dots.specs.declared.nodes.TheConstants.{MAX_NODES};
+ghost use Rattle.dy_shares.specs.inside.Parts.{AgreesAsNode, IsRollOf, done_steps};
+ghost use Rattle.dy_shares.specs.Shares.{first_parts};
 
 use crate::names::Naming;
 use crate::parts::{Roll, Share};
@@ -59,5 +61,25 @@ impl<J: Naming> NodeShare<J> {
     pub(crate) fn abandon(self) {
         let NodeShare { node: _, share } = self;
         share.abandon();
+    }
+}
+
+// Opens a seat of the roll for each node, and gives its share.
+pub(crate) fn open_nodes<J: Naming>(
+    roll: &mut Roll<J>,
+    shares: &mut Vec<NodeShare<J>>,
+    nodes: usize,
+)
+    requires roll { roll.old ≡ [] }
+    requires shares { shares.old.items ≡ [] }
+    requires room { vec_len shares.old + nodes ≤ vec_capacity shares.old }
+    requires nodes { nodes ≡ J.ring.nodes }
+    requires small { nodes ≤ MAX_NODES }
+    ensures roll { IsRollOf J.ring.nodes [] J.ring.nodes roll.new }
+    ensures shares { shares.new.items ≡ first_parts J.ring.nodes }
+{
+    for number in 0..nodes {
+        let share = roll.open(number);
+        shares.push_reserved(NodeShare::new(NodeId::nth(number), share));
     }
 }

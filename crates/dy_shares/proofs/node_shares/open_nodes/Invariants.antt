@@ -1,7 +1,7 @@
 use Rattle.std.proofs.Common.{◌≡◌, ◌+◌, [], vec_len, vec_capacity}
 use Rattle.dy_shares.specs.inside.Parts.{IsRollOf}
 use Rattle.dy_shares.specs.Shares.{first_parts}
-use Rattle.dy_shares.proofs.ledgers.open_nodes.Given as goal
+use Rattle.dy_shares.proofs.node_shares.open_nodes.Given as goal
 
 -- the roll has a seat for each node so far, and there is room for the shares of the others
 abbrev pub invariant-loop-number : goal.invariant-loop-number

@@ -4,7 +4,7 @@ use Rattle.dy_shares.specs.inside.Parts.{IsRollOf}
 use Rattle.dy_shares.specs.Shares.{first_parts}
 use Rattle.dy_shares.proofs.Accounts.{first_more}
 use Rattle.dy_shares.proofs.Rolls.{roll_opened}
-use Rattle.dy_shares.proofs.ledgers.open_nodes.Goals as goal
+use Rattle.dy_shares.proofs.node_shares.open_nodes.Goals as goal
 
 -- the roll has a seat more, and the shares have its node's
 pub loop-number-preserved : goal.loop-number-preserved
