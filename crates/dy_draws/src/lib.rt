@@ -1,3 +1,6 @@
+//! Numbers below a bound, drawn from the generator of storms.
+#![tactic(auto)]
+
 ghost use Rattle.std.specs.Prelude.{◌≡◌, ◌<◌, ◌%◌};
 ghost use Rattle.rand_pcg.specs.Pcg.{pcg32};
 

@@ -1,4 +1,4 @@
--- The texts of bytes, positions and nodes.
+-- The texts of bytes, positions and nodes, and the end of a line.
 use Rattle.std.specs.Prelude.{ℕ, ◌/◌, ◌%◌, List, ◌++◌, codes, decimal, false}
 use Rattle.std.specs.Fmt.{digits}
 use Rattle.std.specs.List.{flat_map}
@@ -19,3 +19,7 @@ position_text position = hex_text (to_be_bytes w128 position)
 -- nodes stand each behind a blank
 abbrev pub nodes_text : List ℕ → List ℕ
 nodes_text nodes = flat_map (λ node. codes " " ++ decimal node) nodes
+
+-- a text with the end of its line
+abbrev pub line : List ℕ → List ℕ
+line text = text ++ codes "\n"

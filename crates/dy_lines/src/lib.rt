@@ -8,6 +8,7 @@ mod places;
 mod printed;
 mod refusals;
 mod rings;
+mod stops;
 
 pub use audits::{AckedLine, EndLine, HeldLine, SettledLine};
 pub use keeping::Kept;
@@ -16,3 +17,4 @@ pub use places::{Answers, At, Places};
 pub use printed::{Hex, Nodes, Position};
 pub use refusals::Refusal;
 pub use rings::{KeyLine, TokenLine};
+pub use stops::Stopped;

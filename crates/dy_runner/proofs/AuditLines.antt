@@ -12,7 +12,7 @@ use Rattle.dy_core.specs.declared.places.Place.{Place}
 use Rattle.dy_book.specs.declared.audits.AckedAt.{AckedAt}
 use Rattle.dy_lines.specs.Audits.{held_text, acked_text, own_w_of}
 use Rattle.dy_runner.specs.AuditLines.{held_line, acked_line}
-use Rattle.dy_runner.specs.RingLines.{line}
+use Rattle.dy_lines.specs.Texts.{line}
 
 -- the next one's line comes behind those before it
 pub flat_map-next : {X : Type 0} (f : X → List ℕ) (xs : List X) (i : ℕ) (x : X)

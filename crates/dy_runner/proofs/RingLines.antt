@@ -5,7 +5,8 @@ use Rattle.std.proofs.lemmas.List.{take_more}
 use Rattle.dy_ring.specs.Rings.{Tokens, position_of}
 use Rattle.dy_preference.specs.Preferences.{preference_of}
 use Rattle.dy_lines.specs.Audits.{token_text, key_text}
-use Rattle.dy_runner.specs.RingLines.{line, token_lines, key_lines}
+use Rattle.dy_lines.specs.Texts.{line}
+use Rattle.dy_runner.specs.RingLines.{token_lines, key_lines}
 
 token_lines-last : (ts : List (ℕ × ℕ)) (t : ℕ × ℕ) →
     token_lines (ts ++ t ∷ []) ≡ token_lines ts ++ line (token_text t.0 t.1)

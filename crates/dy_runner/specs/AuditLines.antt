@@ -6,7 +6,7 @@ use Rattle.dy_core.specs.declared.holdings.Holding.{Holding}
 use Rattle.dy_book.specs.declared.audits.AckedAt.{AckedAt}
 use Rattle.dy_book.specs.declared.audits.Audit.{Audit}
 use Rattle.dy_lines.specs.Audits.{held_text, acked_text, own_w_of, settled_text, end_text}
-use Rattle.dy_runner.specs.RingLines.{line}
+use Rattle.dy_lines.specs.Texts.{line}
 
 -- what a place holds of a key
 abbrev pub held_line : Holding → List ℕ

@@ -1,8 +1,9 @@
 -- What `dynamo ring` prints: the tokens of the script's ring, and the preference list of each key.
-use Rattle.std.specs.Prelude.{ℕ, List, [], ◌∷◌, ◌++◌, codes}
+use Rattle.std.specs.Prelude.{ℕ, List, [], ◌∷◌, ◌++◌}
 use Rattle.dy_ring.specs.Rings.{Tokens, position_of}
 use Rattle.dy_ring.specs.Lists.{IsRingOf, derived_lists}
 use Rattle.dy_preference.specs.Preferences.{preference_of}
+use Rattle.dy_lines.specs.Texts.{line}
 use Rattle.dy_lines.specs.Audits.{token_text, key_text}
 use Rattle.dy_script.specs.Reading.{LayoutParts, given, derived}
 
@@ -10,10 +11,6 @@ use Rattle.dy_script.specs.Reading.{LayoutParts, given, derived}
 abbrev pub IsLaidOut : LayoutParts → Tokens → Type 0
 IsLaidOut (given lists) ring = IsRingOf lists ring
 IsLaidOut (derived nodes per_node) ring = IsRingOf (derived_lists nodes per_node) ring
-
--- a text with the end of its line
-abbrev pub line : List ℕ → List ℕ
-line text = text ++ codes "\n"
 
 -- a line for each token
 abbrev pub token_lines : List (ℕ × ℕ) → List ℕ

@@ -1,4 +1,4 @@
-ghost use Rattle.std.specs.Prelude.{◌≡◌, ◌+◌, ◌⊎◌, length, IfOk, IsOkUnless};
+ghost use Rattle.std.specs.Prelude.{◌≡◌, ◌⊎◌, length, IfOk, IsOkUnless};
 ghost use Rattle.dy_reads.specs.Lists.{homes_in};
 ghost use Rattle.dy_repair.specs.Repairs.{IsRepaired};
 ghost use Rattle.dy_transport.specs.Told.{Told};
@@ -29,12 +29,9 @@ pub(crate) fn run_get<J: Naming, R: Wait>(
     number: u8,
     key: &str,
 ) -> Outcome
-    requires together { seats.old.base + length seats.old.numbers.items
-        ≡ length sessions.old.items }
-    ensures together { seats.new.base + length seats.new.numbers.items
-        ≡ length sessions.new.items }
-    ensures base { seats.new.base ≡ seats.old.base }
-    ensures told { IsToldAt (seats.new.base + seat_of number seats.new.numbers.items)
+    requires together { length seats.old.numbers.items ≡ length sessions.old.items }
+    ensures together { length seats.new.numbers.items ≡ length sessions.new.items }
+    ensures told { IsToldAt (seat_of number seats.new.numbers.items)
         sessions.old.items sessions.new.items (IsRead J J.ring J.n J.r key.now result)
         ⊎ IsUnseated word.Get result sessions.old.items sessions.new.items }
 {

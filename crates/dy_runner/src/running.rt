@@ -1,4 +1,4 @@
-ghost use Rattle.std.specs.Prelude.{◌≡◌, ◌+◌, length};
+ghost use Rattle.std.specs.Prelude.{◌≡◌, [], length};
 
 use crate::gets::run_get;
 use crate::outages::{run_deliver, run_handoff, run_set_mode, run_set_up, run_show};
@@ -45,8 +45,10 @@ fn run_all<J: Naming, O: Write, R: Wait>(
     sessions: &mut Vec<Session<J>>,
     script: &Script,
     out: &mut O,
-) -> io::Result<()> {
-    let mut seats = Seats::new(alloc, sessions.len());
+) -> io::Result<()>
+    requires none { sessions.old.items ≡ [] }
+{
+    let mut seats = Seats::new(alloc);
     let mut number = 0u32;
     for command in &script.run {
         number = number.saturating_add(1);
@@ -70,11 +72,8 @@ fn run_command<J: Naming, R: Wait>(
     w: u8,
     command: &Command,
 ) -> Outcome
-    requires together { seats.old.base + length seats.old.numbers.items
-        ≡ length sessions.old.items }
-    ensures together { seats.new.base + length seats.new.numbers.items
-        ≡ length sessions.new.items }
-    ensures base { seats.new.base ≡ seats.old.base }
+    requires together { length seats.old.numbers.items ≡ length sessions.old.items }
+    ensures together { length seats.new.numbers.items ≡ length sessions.new.items }
 {
     match command {
         Command::Put { write, value } => run_put(

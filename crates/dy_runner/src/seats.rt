@@ -1,4 +1,4 @@
-ghost use Rattle.std.specs.Prelude.{◌≡◌, ◌<◌, ◌≤◌, ◌+◌, length, IfOk, OnErr};
+ghost use Rattle.std.specs.Prelude.{◌≡◌, ◌<◌, ◌≤◌, length, IfOk, OnErr};
 ghost use Rattle.dy_runner.specs.Seats.{IsSeated, seat_of};
 
 use dy_cluster::{Cluster, Session};
@@ -10,20 +10,16 @@ use std::sync::Wait;
 /// Which session of the script lies where among those that the cluster opened.
 #[derive(Drop)]
 pub(crate) struct Seats {
-    // How many were opened before the script's first.
-    pub base: usize,
     // The number of each, in the order in which they were opened.
     pub numbers: Vec<u8>,
 }
 
 impl Seats {
     /// No session of the script is opened yet. Takes no memory.
-    pub(crate) fn new(alloc: Global, base: usize) -> Seats
-        ensures base { result.base ≡ base }
+    pub(crate) fn new(alloc: Global) -> Seats
         ensures none { length result.numbers.items ≡ 0 }
     {
         Seats {
-            base,
             numbers: Vec::new(alloc),
         }
     }
@@ -37,20 +33,16 @@ impl Seats {
         sessions: &mut Vec<Session<J>>,
         number: u8,
     ) -> Result<usize, Fault>
-        requires together { self.old.base + length self.old.numbers.items
-            ≡ length sessions.old.items }
-        ensures together { self.new.base + length self.new.numbers.items
-            ≡ length sessions.new.items }
-        ensures base { self.new.base ≡ self.old.base }
-        ensures place { IfOk result (λ place.
-            place ≡ self.new.base + seat_of number self.new.numbers.items) }
+        requires together { length self.old.numbers.items ≡ length sessions.old.items }
+        ensures together { length self.new.numbers.items ≡ length sessions.new.items }
+        ensures place { IfOk result (λ place. place ≡ seat_of number self.new.numbers.items) }
         ensures there { IfOk result (λ place. place < length sessions.new.items) }
         ensures seated { IsSeated sessions.old.items sessions.new.items }
         ensures err { OnErr result (sessions.new.items ≡ sessions.old.items) }
     {
         let index = index_of(self.numbers.as_slice(), number);
         if index < self.numbers.len() {
-            return Ok(self.base + index);
+            return Ok(index);
         }
         self.numbers.reserve(1)?;
         let place = cluster.seat(rt, sessions)?;

@@ -1,4 +1,4 @@
-ghost use Rattle.std.specs.Prelude.{◌≡◌, ◌+◌, None, Result, length, option_map, string_bytes};
+ghost use Rattle.std.specs.Prelude.{◌≡◌, None, Result, length, option_map, string_bytes};
 ghost use Rattle.dy_dots.specs.declared.faults.Fault.{Fault as FaultParts};
 ghost use Rattle.dy_lines.specs.declared.outcomes.Word.TheVariants as word;
 ghost use Rattle.dy_runner.specs.Answers.{TellsPut};
@@ -30,16 +30,13 @@ pub(crate) fn run_put<J: Naming, R: Wait>(
     write: &Write,
     value: &[u8],
 ) -> Outcome
-    requires together { seats.old.base + length seats.old.numbers.items
-        ≡ length sessions.old.items }
-    ensures together { seats.new.base + length seats.new.numbers.items
-        ≡ length sessions.new.items }
-    ensures base { seats.new.base ≡ seats.old.base }
+    requires together { length seats.old.numbers.items ≡ length sessions.old.items }
+    ensures together { length seats.new.numbers.items ≡ length sessions.new.items }
     ensures told { (judged : Result GivenParts FaultParts)
         × IsPutJudged (string_bytes write.now.key)
         (option_map string_bytes write.now.context) value.now judged
         × RunsJudged J J.ring J.n
-        (seats.new.base + seat_of write.now.session seats.new.numbers.items)
+        (seat_of write.now.session seats.new.numbers.items)
         (given_or w write.now.w) word.Put result
         sessions.old.items sessions.new.items judged }
 {
@@ -71,16 +68,13 @@ pub(crate) fn run_delete<J: Naming, R: Wait>(
     w: u8,
     write: &Write,
 ) -> Outcome
-    requires together { seats.old.base + length seats.old.numbers.items
-        ≡ length sessions.old.items }
-    ensures together { seats.new.base + length seats.new.numbers.items
-        ≡ length sessions.new.items }
-    ensures base { seats.new.base ≡ seats.old.base }
+    requires together { length seats.old.numbers.items ≡ length sessions.old.items }
+    ensures together { length seats.new.numbers.items ≡ length sessions.new.items }
     ensures told { (judged : Result GivenParts FaultParts)
         × IsDeleteJudged (string_bytes write.now.key)
         (option_map string_bytes write.now.context) judged
         × RunsJudged J J.ring J.n
-        (seats.new.base + seat_of write.now.session seats.new.numbers.items)
+        (seat_of write.now.session seats.new.numbers.items)
         (given_or w write.now.w) word.Delete result
         sessions.old.items sessions.new.items judged }
 {
@@ -113,12 +107,9 @@ fn run_write<J: Naming, R: Wait>(
     word: Word,
     given: Given,
 ) -> Outcome
-    requires together { seats.old.base + length seats.old.numbers.items
-        ≡ length sessions.old.items }
-    ensures together { seats.new.base + length seats.new.numbers.items
-        ≡ length sessions.new.items }
-    ensures base { seats.new.base ≡ seats.old.base }
-    ensures told { WritesAt J J.ring J.n (seats.new.base + seat_of number seats.new.numbers.items)
+    requires together { length seats.old.numbers.items ≡ length sessions.old.items }
+    ensures together { length seats.new.numbers.items ≡ length sessions.new.items }
+    ensures told { WritesAt J J.ring J.n (seat_of number seats.new.numbers.items)
         w given word result sessions.old.items sessions.new.items }
 {
     let place = match seats.place_of(rt, cluster, sessions, number) {

@@ -14,12 +14,11 @@ ghost use Rattle.dy_runner.specs.RingLines.{IsLaidOut, key_lines, ring_lines, to
 
 use crate::options::{options_of, ring_of};
 use crate::running::Run;
-use crate::stops::Stopped;
 use dy_book::{AckedAt, Audit};
 use dy_cluster::with_cluster;
 use dy_core::Holding;
 use dy_dots::NodeId;
-use dy_lines::{AckedLine, EndLine, HeldLine, KeyLine, SettledLine, TokenLine};
+use dy_lines::{AckedLine, EndLine, HeldLine, KeyLine, SettledLine, Stopped, TokenLine};
 use dy_preference::preference;
 use dy_ring::Ring;
 use dy_script::Script;

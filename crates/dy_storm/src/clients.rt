@@ -4,8 +4,8 @@ ghost use Rattle.dy_storm.specs.Seeds.{generator_of};
 
 use crate::turns::play;
 use dy_cluster::{Cluster, Session};
+use dy_draws::draw;
 use dy_mailboxes::Post;
-use dy_runner::draw;
 use dy_shares::Naming;
 use rand_pcg::Lcg64Xsh32;
 use rand_pcg::rand_core::SeedableRng;

@@ -2,7 +2,7 @@ ghost use Rattle.std.specs.Prelude.{OnOk};
 ghost use Rattle.std.specs.Io.KnownBytes.{Appends};
 ghost use Rattle.dy_ring.specs.Rings.{Tokens};
 ghost use Rattle.dy_ring.specs.Lists.{IsRingOf};
-ghost use Rattle.dy_runner.specs.RingLines.{line};
+ghost use Rattle.dy_lines.specs.Texts.{line};
 ghost use Rattle.dy_storm.specs.Clusters.{five_tokens};
 ghost use Rattle.dy_storm.specs.Ends.{IsStormed};
 ghost use Rattle.dy_storm.specs.Lines.{counts_text};
@@ -10,7 +10,7 @@ ghost use Rattle.dy_storm.specs.declared.storms.StormDone.{StormDone};
 
 use crate::plans::Storm;
 use crate::storms::storm;
-use dy_runner::Stopped;
+use dy_lines::Stopped;
 use std::alloc::Global;
 use std::io::Write;
 use std::sync::Wait;

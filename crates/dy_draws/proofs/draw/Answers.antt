@@ -1,5 +1,5 @@
 use Rattle.std.proofs.Common.{ap, ◌%◌}
-use Rattle.dy_runner.proofs.draws.draw.Goals as goal
+use Rattle.dy_draws.proofs.draw.Goals as goal
 
 -- both are the parts of the generator's step
 pub returns-clause-value : goal.returns-clause-value
