@@ -5,7 +5,7 @@ ghost use Rattle.dy_cluster.specs.Ends.{IsClosed};
 ghost use Rattle.dy_cluster.specs.Named.{NamesBook};
 
 use crate::clusters::Cluster;
-use crate::embedding::seat_clients;
+use crate::embedding::{MOST_CLIENTS, seat_clients};
 use crate::openings::Opened;
 use crate::restings::Closed;
 use crate::seats::{Seat, let_go, rise_all, seat_all};
@@ -169,7 +169,7 @@ fn run_all<
             for_each_mut(
                 rt,
                 seats,
-                32,
+                MOST_CLIENTS,
                 &|number, seat| { seat.run(rt, alloc, cluster, number, client) },
             );
         }

@@ -15,6 +15,9 @@ use std::marker::Brand;
 use std::sync::Wait;
 use std::thread::{Threads, for_each_mut};
 
+// How many clients there may be. So each may have a thread of its own.
+pub(crate) const MOST_CLIENTS: usize = 255;
+
 /// What is done with a cluster while it is open, whatever the name of its book.
 pub trait Work {
     // What a work that is done says of what its sessions were told; nothing, where it is left out.
@@ -159,7 +162,7 @@ fn run_beside<J: Naming + Send + Sync, C: Client + Sync, R: Threads + Wait + Syn
     for_each_mut(
         rt,
         sessions,
-        32,
+        MOST_CLIENTS,
         &|number, session| { client.run(rt, alloc, cluster, number, session) },
     );
 }

@@ -1,5 +1,6 @@
 // What the clients of a run do.
 use dy_cluster::{Client, Cluster, Session};
+use dy_coord::{GetDone, GetFault};
 use dy_dots::{Context, Fault, NodeId};
 use dy_shares::Naming;
 use dy_siblings::{Key, Value};
@@ -99,6 +100,27 @@ fn turn_at<J: Naming, R: Wait>(
     Ok(())
 }
 
+// Repairs what the get found stale.
+fn mend<J: Naming, R: Wait>(rt: &R, cluster: &Cluster<J>, done: &GetDone<J>) -> Result<(), Fault> {
+    let mut direct = cluster.direct()?;
+    cluster.repair(rt, &mut direct, done.seen.as_slice(), &done.row)
+}
+
+// The context of the get, where it was answered, once what it found stale is repaired.
+fn mended<J: Naming, R: Wait>(
+    rt: &R,
+    cluster: &Cluster<J>,
+    get: Result<GetDone<J>, GetFault>,
+) -> Option<Context> {
+    match get {
+        Ok(done) => {
+            let _ = mend(rt, cluster, &done);
+            Some(done.context)
+        }
+        Err(_) => None,
+    }
+}
+
 // The context of the get, where it was answered.
 fn get_and_mend<J: Naming, R: Wait>(
     rt: &R,
@@ -107,14 +129,7 @@ fn get_and_mend<J: Naming, R: Wait>(
     key: &Key,
 ) -> Result<Option<Context>, Fault> {
     let mut direct = cluster.direct()?;
-    match cluster.get(rt, &mut direct, session, key) {
-        Ok(done) => {
-            let mut direct = cluster.direct()?;
-            let _ = cluster.repair(rt, &mut direct, done.seen.as_slice(), &done.row);
-            Ok(Some(done.context))
-        }
-        Err(_) => Ok(None),
-    }
+    Ok(mended(rt, cluster, cluster.get(rt, &mut direct, session, key)))
 }
 
 // Whether the put was acknowledged.

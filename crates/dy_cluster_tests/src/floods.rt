@@ -1,8 +1,8 @@
 // More asks than a mailbox has room for.
 ghost use Rattle.std.specs.Prelude.{◌≡◌, ◌≤◌, []};
 
-use crate::teams::{Player, Team, with_team};
-use dy_cluster::{Cluster, Session};
+use crate::workers::with_five_workers;
+use dy_cluster::{Cluster, Correspondent, Session};
 use dy_dots::{Fault, NodeId};
 use dy_mailboxes::{Gate, MAILBOX_ROOM, Mailboxes, Post};
 use dy_node::Ask;
@@ -117,31 +117,43 @@ fn count_rows<J: Naming, R: Wait>(rt: &R, mailboxes: &mut Mailboxes<'_, J>, rows
 // Asks node 1, and then reads the answers.
 fn ask_and_read<J: Naming, R: Wait>(
     rt: &R,
-    alloc: Global,
     cluster: &Cluster<J>,
     flood: &Flood,
     post: &mut Post<J>,
-    session: &Session<J>,
+    key: &Key,
+    since: &Since<J>,
 ) -> Result<(), Fault> {
-    let key = Key::new(alloc, b"a")?;
-    let since = session.since();
     let mut mailboxes = cluster.mailboxes(post)?;
-    ask_all(rt, &mut mailboxes, &key, &since, &flood.sent);
+    ask_all(rt, &mut mailboxes, key, since, &flood.sent);
     count_rows(rt, &mut mailboxes, &flood.rows);
     Ok(())
 }
 
-impl Player for Flood {
-    fn play<J: Naming, R: Wait>(
+// The same of the key `a`.
+fn flood_with_a<J: Naming, R: Wait>(
+    rt: &R,
+    alloc: Global,
+    cluster: &Cluster<J>,
+    flood: &Flood,
+    post: &mut Post<J>,
+    since: &Since<J>,
+) -> Result<(), Fault> {
+    let key = Key::new(alloc, b"a")?;
+    ask_and_read(rt, cluster, flood, post, &key, since)
+}
+
+impl Correspondent for Flood {
+    fn run<J: Naming, R: Wait>(
         &self,
         rt: &R,
         alloc: Global,
         cluster: &Cluster<J>,
         _number: usize,
-        mut post: Post<J>,
         session: &mut Session<J>,
+        post: &mut Post<J>,
     ) {
-        let _ = ask_and_read(rt, alloc, cluster, self, &mut post, session);
+        let since = session.since();
+        let _ = flood_with_a(rt, alloc, cluster, self, post, &since);
     }
 }
 
@@ -150,11 +162,7 @@ impl Player for Flood {
 #[test]
 fn who_sends_to_a_full_mailbox_waits(rt: HostRuntime) -> Result<(), Fail> {
     let flood = Flood::new();
-    let team = Team {
-        clients: CLIENTS,
-        closed: None,
-    };
-    let closed = with_team(&rt, rt.alloc(), team, &flood, &flood)?;
+    let closed = with_five_workers(&rt, rt.alloc(), CLIENTS, &flood, &flood)?;
     assert!(rt; flood.sent_at.load(Ordering::SeqCst) == 1025);
     assert!(rt; flood.sent.load(Ordering::SeqCst) == 1280);
     assert!(rt; flood.rows.load(Ordering::SeqCst) == 1280);

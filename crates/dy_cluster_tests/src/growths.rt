@@ -3,8 +3,8 @@
 
 use crate::crowds::are_covered;
 use crate::posted::put_over;
-use crate::teams::{Player, Team, with_team};
-use dy_cluster::{Closed, Cluster, Session};
+use crate::workers::with_five_workers;
+use dy_cluster::{Closed, Cluster, Correspondent, Session};
 use dy_dots::{Context, Fault};
 use dy_mailboxes::{Open, Post};
 use dy_shares::Naming;
@@ -63,18 +63,18 @@ impl Retry {
     }
 }
 
-impl Player for Retry {
-    fn play<J: Naming, R: Wait>(
+impl Correspondent for Retry {
+    fn run<J: Naming, R: Wait>(
         &self,
         rt: &R,
         alloc: Global,
         cluster: &Cluster<J>,
         _number: usize,
-        mut post: Post<J>,
         session: &mut Session<J>,
+        post: &mut Post<J>,
     ) {
-        if self.is_wanting(rt, alloc, cluster, &mut post, session) {
-            let _ = self.is_wanting(rt, alloc, cluster, &mut post, session);
+        if self.is_wanting(rt, alloc, cluster, post, session) {
+            let _ = self.is_wanting(rt, alloc, cluster, post, session);
         }
     }
 }
@@ -85,16 +85,12 @@ fn closed_or_again<R: Threads + Wait + Sync>(
     rt: &R,
     alloc: Global,
 ) -> Result<(Retry, Closed, bool), Fault> {
-    let team = Team {
-        clients: 1,
-        closed: None,
-    };
     let retry = Retry::new();
-    match with_team(rt, alloc, team, &retry, &Open) {
+    match with_five_workers(rt, alloc, 1, &retry, &Open) {
         Ok(closed) => Ok((retry, closed, false)),
         Err(Fault::OutOfMemory) => {
             let retry = Retry::new();
-            let closed = with_team(rt, alloc, team, &retry, &Open)?;
+            let closed = with_five_workers(rt, alloc, 1, &retry, &Open)?;
             Ok((retry, closed, true))
         }
         Err(fault) => Err(fault),

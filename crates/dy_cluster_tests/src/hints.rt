@@ -2,8 +2,8 @@
 use crate::crowds::are_covered;
 use crate::posted::{get_over, put_over};
 use crate::signals::Signal;
-use crate::teams::{Player, Team, with_team};
-use dy_cluster::{Cluster, Session};
+use crate::workers::with_five_workers;
+use dy_cluster::{Cluster, Correspondent, Session};
 use dy_dots::{Context, Fault, NodeId};
 use dy_mailboxes::{Open, Post};
 use dy_shares::Naming;
@@ -103,23 +103,23 @@ impl Hinted {
     }
 }
 
-impl Player for Hinted {
+impl Correspondent for Hinted {
     // One client leaves the hint and makes the passes, and the others get and put meanwhile.
-    fn play<J: Naming, R: Wait>(
+    fn run<J: Naming, R: Wait>(
         &self,
         rt: &R,
         alloc: Global,
         cluster: &Cluster<J>,
         number: usize,
-        mut post: Post<J>,
         session: &mut Session<J>,
+        post: &mut Post<J>,
     ) {
         if number == 0 {
-            self.leave_hint(rt, alloc, cluster, &mut post, session);
+            self.leave_hint(rt, alloc, cluster, post, session);
             self.hand_over(rt, cluster);
         } else if self.is_hinted.wait() {
             for _ in 0..TURNS {
-                let _ = self.turn(rt, alloc, cluster, &mut post, session);
+                let _ = self.turn(rt, alloc, cluster, post, session);
             }
         }
     }
@@ -130,11 +130,7 @@ impl Player for Hinted {
 #[test]
 fn a_hinted_key_is_put_beside_its_passes(rt: HostRuntime) -> Result<(), Fail> {
     let hinted = Hinted::new();
-    let team = Team {
-        clients: 4,
-        closed: None,
-    };
-    let closed = with_team(&rt, rt.alloc(), team, &hinted, &Open)?;
+    let closed = with_five_workers(&rt, rt.alloc(), 4, &hinted, &Open)?;
     assert!(rt; !hinted.is_hinted.gave_up());
     assert!(rt; hinted.offers.load(Ordering::SeqCst) == 1);
     assert!(rt; hinted.released.load(Ordering::SeqCst) == 2);

@@ -1,12 +1,13 @@
 // A worker that is held while the others work.
 use crate::posted::{get_over, is_told, put_told, text_of};
 use crate::signals::Signal;
-use crate::teams::{Player, Team, with_team};
-use dy_cluster::{Cluster, Session};
+use crate::workers::with_five_workers;
+use dy_cluster::{Cluster, Correspondent, Session};
 use dy_dots::{Fault, NodeId};
 use dy_mailboxes::{Gate, Post};
 use dy_node::Ask;
 use dy_shares::Naming;
+use dy_transport::AnswerRead;
 use std::alloc::Global;
 use std::sync::{Mutex, Wait};
 use std::test::Fail;
@@ -43,6 +44,12 @@ impl Gate for Hold {
     }
 }
 
+// How many versions there are, and the answers.
+fn told_of(alloc: Global, versions: usize, answers: &[AnswerRead]) -> Result<String, Fault> {
+    let text = text_of(alloc, answers)?;
+    Ok(format!(in alloc; "{versions}{}", text.as_str())?)
+}
+
 // A get, and how many versions it gave.
 fn get_versions<J: Naming, R: Wait>(
     rt: &R,
@@ -52,29 +59,26 @@ fn get_versions<J: Naming, R: Wait>(
     session: &mut Session<J>,
 ) -> Result<String, Fault> {
     let got = get_over(rt, alloc, cluster, post, session)?;
-    let versions = got.versions;
-    let mut text = format!(in alloc; "{versions}")?;
-    text.push_str(text_of(alloc, got.answers.as_slice())?.as_str())?;
-    Ok(text)
+    told_of(alloc, got.versions, got.answers.as_slice())
 }
 
-impl Player for Hold {
+impl Correspondent for Hold {
     // One client puts. The other one gets while the put waits for node 1, and then lets it go on.
-    fn play<J: Naming, R: Wait>(
+    fn run<J: Naming, R: Wait>(
         &self,
         rt: &R,
         alloc: Global,
         cluster: &Cluster<J>,
         number: usize,
-        mut post: Post<J>,
         session: &mut Session<J>,
+        post: &mut Post<J>,
     ) {
         if number == 0 {
-            let told = put_told(rt, alloc, cluster, &mut post, session);
+            let told = put_told(rt, alloc, cluster, post, session);
             self.is_put.say();
             *self.put.lock(rt) = told.ok();
         } else if self.is_held.wait() {
-            let told = get_versions(rt, alloc, cluster, &mut post, session);
+            let told = get_versions(rt, alloc, cluster, post, session);
             if !self.is_put.is_said() {
                 *self.got.lock(rt) = told.ok();
             }
@@ -89,11 +93,7 @@ impl Player for Hold {
 #[test]
 fn the_others_answer_while_a_worker_is_held(rt: HostRuntime) -> Result<(), Fail> {
     let hold = Hold::new();
-    let team = Team {
-        clients: 2,
-        closed: None,
-    };
-    let closed = with_team(&rt, rt.alloc(), team, &hold, &hold)?;
+    let closed = with_five_workers(&rt, rt.alloc(), 2, &hold, &hold)?;
     assert!(rt; !hold.is_held.gave_up() && !hold.is_got.gave_up());
     assert!(rt; is_told(&rt, &hold.got, "1 0/0=rows 2/2=rows"));
     assert!(rt; is_told(&rt, &hold.put, " 0/0=stored 1/1=stored 2/2=stored"));

@@ -16,6 +16,8 @@ mod hints;
 #[cfg(test)]
 mod holds;
 #[cfg(test)]
+mod lates;
+#[cfg(test)]
 mod leaves;
 #[cfg(test)]
 mod posted;
@@ -25,3 +27,5 @@ mod rings;
 mod signals;
 #[cfg(test)]
 mod teams;
+#[cfg(test)]
+mod workers;

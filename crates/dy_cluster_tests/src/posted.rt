@@ -1,5 +1,6 @@
 // Puts and gets of the key `a` over the nodes' mailboxes, and their answers as texts.
 use dy_cluster::{Cluster, Session};
+use dy_coord::{GetDone, GetFault, PutDone, PutFault};
 use dy_dots::{Context, Fault};
 use dy_mailboxes::Post;
 use dy_shares::Naming;
@@ -16,6 +17,28 @@ pub struct Got {
     pub answers: Vec<AnswerRead>,
 }
 
+// The answers of a put.
+fn answers_of(put: Result<PutDone, PutFault>) -> Result<Vec<AnswerRead>, Fault> {
+    match put {
+        Ok(done) => Ok(done.answers),
+        Err(refused) => Err(refused.fault),
+    }
+}
+
+fn put_at<J: Naming, R: Wait>(
+    rt: &R,
+    cluster: &Cluster<J>,
+    post: &mut Post<J>,
+    w: u8,
+    session: &mut Session<J>,
+    key: &Key,
+    context: &Context,
+    value: Value,
+) -> Result<Vec<AnswerRead>, Fault> {
+    let mut mailboxes = cluster.mailboxes(post)?;
+    answers_of(cluster.put(rt, &mut mailboxes, w, session, key, context, Some(value)))
+}
+
 // The answers of a put that names so many homes.
 pub fn put_over<J: Naming, R: Wait>(
     rt: &R,
@@ -28,11 +51,30 @@ pub fn put_over<J: Naming, R: Wait>(
 ) -> Result<Vec<AnswerRead>, Fault> {
     let key = Key::new(alloc, b"a")?;
     let value = Value::new(alloc, b"x".as_slice())?;
-    let mut mailboxes = cluster.mailboxes(post)?;
-    match cluster.put(rt, &mut mailboxes, w, session, &key, context, Some(value)) {
-        Ok(done) => Ok(done.answers),
+    put_at(rt, cluster, post, w, session, &key, context, value)
+}
+
+// What a get gave.
+fn got_of<J: Naming>(get: Result<GetDone<J>, GetFault>) -> Result<Got, Fault> {
+    match get {
+        Ok(done) => Ok(Got {
+            versions: done.row.versions().len(),
+            context: done.context,
+            answers: done.answers,
+        }),
         Err(refused) => Err(refused.fault),
     }
+}
+
+fn get_at<J: Naming, R: Wait>(
+    rt: &R,
+    cluster: &Cluster<J>,
+    post: &mut Post<J>,
+    session: &mut Session<J>,
+    key: &Key,
+) -> Result<Got, Fault> {
+    let mut mailboxes = cluster.mailboxes(post)?;
+    got_of(cluster.get(rt, &mut mailboxes, session, key))
 }
 
 // A get.
@@ -44,19 +86,11 @@ pub fn get_over<J: Naming, R: Wait>(
     session: &mut Session<J>,
 ) -> Result<Got, Fault> {
     let key = Key::new(alloc, b"a")?;
-    let mut mailboxes = cluster.mailboxes(post)?;
-    match cluster.get(rt, &mut mailboxes, session, &key) {
-        Ok(done) => Ok(Got {
-            versions: done.row.versions().len(),
-            context: done.context,
-            answers: done.answers,
-        }),
-        Err(refused) => Err(refused.fault),
-    }
+    get_at(rt, cluster, post, session, &key)
 }
 
-// The answers as `3/1=stored`, node 3 for home 1, in the order of their texts.
-pub fn text_of(alloc: Global, answers: &[AnswerRead]) -> Result<String, Fault> {
+// The answers' texts, in their order.
+fn lines_of(alloc: Global, answers: &[AnswerRead]) -> Result<Vec<String>, Fault> {
     let mut lines = Vec::new(alloc);
     for answer in answers {
         let place = answer.place;
@@ -64,11 +98,21 @@ pub fn text_of(alloc: Global, answers: &[AnswerRead]) -> Result<String, Fault> {
         lines.push(line)?;
     }
     lines.sort()?;
+    Ok(lines)
+}
+
+fn joined(alloc: Global, lines: &[String]) -> Result<String, Fault> {
     let mut text = String::new(alloc);
-    for line in lines.iter() {
+    for line in lines {
         text.push_str(line.as_str())?;
     }
     Ok(text)
+}
+
+// The answers as `3/1=stored`, node 3 for home 1, in the order of their texts.
+pub fn text_of(alloc: Global, answers: &[AnswerRead]) -> Result<String, Fault> {
+    let lines = lines_of(alloc, answers)?;
+    joined(alloc, lines.as_slice())
 }
 
 // The answers of a put of three homes, as a text.

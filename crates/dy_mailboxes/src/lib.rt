@@ -16,6 +16,3 @@ pub use parcels::Posted;
 pub use posts::{MAILBOX_ROOM, Post};
 pub use transports::Mailboxes;
 pub use workers::serve;
-
-#[cfg(test)]
-mod tests;

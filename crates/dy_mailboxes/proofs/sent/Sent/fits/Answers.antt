@@ -1,4 +1,4 @@
-use Rattle.std.proofs.Common.{Option, None, subst, sym}
+use Rattle.std.proofs.Common.{Option, subst, sym}
 use Rattle.dy_mailboxes.specs.inside.Sheets.{FitsKept}
 use Rattle.dy_mailboxes.specs.declared.parcels.Parcel.{Parcel}
 use Rattle.dy_mailboxes.proofs.sent.Sent.fits.Goals as goal
