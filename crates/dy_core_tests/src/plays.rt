@@ -33,12 +33,17 @@ pub(crate) fn empty_world(alloc: Global) -> Result<World, Fail> {
     Ok(World::new(alloc, ring, 3)?)
 }
 
+fn apply(alloc: Global, world: &mut World, step: Step) -> Result<(), Fault> {
+    let _answer = world.apply(alloc, step)?;
+    Ok(())
+}
+
 // Makes the step, where it is allowed.
 pub(crate) fn made(alloc: Global, world: &mut World, step: Step) -> Result<bool, Fault> {
     if !world.allows(alloc, &step)? {
         return Ok(false);
     }
-    let _answer = world.apply(alloc, step)?;
+    apply(alloc, world, step)?;
     Ok(true)
 }
 
@@ -89,10 +94,19 @@ pub(crate) fn count_covers(alloc: Global, scenes: &[Scene]) -> Result<usize, Fai
     covering_first(alloc, &world)
 }
 
+// The step of the scene on the key `a`.
+fn step_on_a(alloc: Global, world: &World, scene: Scene) -> Result<Step, Fail> {
+    step(alloc, world, key(alloc, b"a")?, scene)
+}
+
+// Whether the world allows the step of the scene on the key `a`.
+fn is_next(alloc: Global, world: &World, scene: Scene) -> Result<bool, Fail> {
+    let step = step_on_a(alloc, world, scene)?;
+    Ok(world.allows(alloc, &step)?)
+}
+
 // Whether the step on the key `a` is allowed after these.
 pub(crate) fn allows(alloc: Global, scenes: &[Scene], scene: Scene) -> Result<bool, Fail> {
     let world = world_of(alloc, scenes)?;
-    let step = step(alloc, &world, key(alloc, b"a")?, scene)?;
-    let yes = world.allows(alloc, &step)?;
-    Ok(yes)
+    is_next(alloc, &world, scene)
 }

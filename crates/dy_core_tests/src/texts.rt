@@ -55,14 +55,24 @@ pub(crate) fn acked_lines(alloc: Global, world: &World) -> Result<String, Fail> 
     Ok(out)
 }
 
+// How many keys are settled.
+fn count_settled(alloc: Global, world: &World) -> Result<usize, Fail> {
+    let settled = world.settled(alloc)?;
+    Ok(settled.len())
+}
+
 // All that the readers list.
 pub(crate) fn audit(alloc: Global, world: &World) -> Result<String, Fail> {
-    let mut out = format!(in alloc; "steps {}\n", world.steps())?;
-    out.push_str(held_lines(alloc, world)?.as_str())?;
-    out.push_str(acked_lines(alloc, world)?.as_str())?;
-    let settled = world.settled(alloc)?;
-    out.push_str(format!(in alloc; "settled {}\n", settled.len())?.as_str())?;
-    Ok(out)
+    let steps = world.steps();
+    let settled = count_settled(alloc, world)?;
+    let held = held_lines(alloc, world)?;
+    let acked = acked_lines(alloc, world)?;
+    let text = format!(in alloc;
+        "steps {steps}\n{}{}settled {settled}\n",
+        held.as_str(),
+        acked.as_str()
+    )?;
+    Ok(text)
 }
 
 // All that the readers list after these steps on the key `a`, and then these on another key.
@@ -85,10 +95,19 @@ pub(crate) fn nodes_text(alloc: Global, nodes: &[NodeId]) -> Result<String, Fail
     Ok(text)
 }
 
-// The nodes of the key `abc`, in their order.
+// The nodes of the key, in their order.
+fn nodes_of(alloc: Global, world: &World, key: &Key) -> Result<String, Fail> {
+    let list = preference(alloc, world.ring(), key, world.n())?;
+    nodes_text(alloc, list.nodes())
+}
+
+fn nodes_of_bytes(alloc: Global, world: &World, bytes: &[u8]) -> Result<String, Fail> {
+    let key = key(alloc, bytes)?;
+    nodes_of(alloc, world, &key)
+}
+
+// The nodes of the key `abc`.
 pub(crate) fn nodes_of_abc(alloc: Global) -> Result<String, Fail> {
     let world = empty_world(alloc)?;
-    let key = key(alloc, b"abc")?;
-    let list = preference(alloc, world.ring(), &key, world.n())?;
-    nodes_text(alloc, list.nodes())
+    nodes_of_bytes(alloc, &world, b"abc")
 }
