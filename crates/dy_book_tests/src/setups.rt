@@ -51,6 +51,31 @@ pub struct Opened<J: Naming> {
     pub sessions: Vec<SessionShare<J>>,
 }
 
+// The book with a session.
+fn with_session<J: Naming>(
+    mut book: Book<J>,
+    nodes: Vec<NodeShare<J>>,
+    sessions: Vec<SessionShare<J>>,
+) -> Result<Opened<J>, Fault>
+    requires { vec_len sessions < vec_capacity sessions }
+    ensures session { IfOk result (λ opened. 0 < opened.book.sessions) }
+    ensures room { IfOk result (λ opened.
+        vec_len opened.sessions < vec_capacity opened.sessions) }
+{
+    match book.session() {
+        Ok(session) => Ok(Opened {
+            book,
+            nodes,
+            session,
+            sessions,
+        }),
+        Err(fault) => {
+            book.abandon(nodes, sessions);
+            Err(fault)
+        }
+    }
+}
+
 // Opens a book and a session.
 pub fn open_with_session<J: Naming>(
     alloc: Global,
@@ -67,22 +92,10 @@ pub fn open_with_session<J: Naming>(
         vec_len opened.sessions < vec_capacity opened.sessions) }
 {
     let sessions = Vec::with_capacity(alloc, 1)?;
-    let (mut book, nodes) = match Book::<J>::open(alloc, blank, ring, options) {
-        Ok(opened) => opened,
+    match Book::<J>::open(alloc, blank, ring, options) {
+        Ok((book, nodes)) => with_session(book, nodes, sessions),
         Err(fault) => {
             sessions.destroy_empty();
-            return Err(fault);
-        }
-    };
-    match book.session() {
-        Ok(session) => Ok(Opened {
-            book,
-            nodes,
-            session,
-            sessions,
-        }),
-        Err(fault) => {
-            book.abandon(nodes, sessions);
             Err(fault)
         }
     }

@@ -3,6 +3,7 @@ ghost use Rattle.std.specs.Prelude.{◌≤◌};
 use crate::jobs::Job;
 use crate::refusing::refuse_file;
 use dy_dots::Fault;
+use dy_lines::Stopped;
 use dy_runner::{write_ring, write_run};
 use dy_script::read;
 use dy_storm::write_storm;

@@ -230,6 +230,43 @@ fn is_done<J: Naming>(
     }
 }
 
+// Makes each call in turn, by what those before gave: whether all answer as they should.
+fn each_is_done<J: Naming>(
+    rt: &HostRuntime,
+    book: &mut Book<J>,
+    nodes: &mut Members<J>,
+    list: &Preference,
+    key: &Key,
+    found: &mut Found<J>,
+) -> bool
+    requires { take list.now.n list.now.nodes ≡ homes_of J.ring J.n key.now }
+{
+    for turn in [
+        (Call::Begin, (0, 0, 0, 0)),
+        (Call::StoreHint, (0, 1, 0, 2)),
+        (Call::Store, (0, 1, 1, 3)),
+        (Call::Begin, (1, 1, 1, 4)),
+        (Call::StoreHint, (1, 2, 1, 6)),
+        (Call::Offer, (1, 2, 2, 7)),
+        (Call::Settle, (1, 2, 2, 7)),
+        (Call::Fetch, (1, 2, 1, 8)),
+        (Call::Defer, (1, 2, 1, 9)),
+        (Call::Deliver, (1, 2, 1, 9)),
+    ] {
+        if !is_done(rt, book, nodes, list, key, found, turn) {
+            return false;
+        }
+    }
+    true
+}
+
+// Whether the calls have left what they should.
+fn ends_so<J: Naming>(book: &Book<J>, nodes: &Members<J>, key: &Key) -> bool {
+    // (Counting may be refused, too.)
+    let at_last = Ok((2, 2, 1, 10));
+    counted(book, nodes, key) == at_last || counted(book, nodes, key) == at_last
+}
+
 // Makes each call in turn: whether all answer as they should.
 pub fn all_are_done<J: Naming>(
     rt: &HostRuntime,
@@ -244,25 +281,7 @@ pub fn all_are_done<J: Naming>(
         row: None,
         receipts: Vec::new(rt.alloc()),
     };
-    for turn in [
-        (Call::Begin, (0, 0, 0, 0)),
-        (Call::StoreHint, (0, 1, 0, 2)),
-        (Call::Store, (0, 1, 1, 3)),
-        (Call::Begin, (1, 1, 1, 4)),
-        (Call::StoreHint, (1, 2, 1, 6)),
-        (Call::Offer, (1, 2, 2, 7)),
-        (Call::Settle, (1, 2, 2, 7)),
-        (Call::Fetch, (1, 2, 1, 8)),
-        (Call::Defer, (1, 2, 1, 9)),
-        (Call::Deliver, (1, 2, 1, 9)),
-    ] {
-        if !is_done(rt, book, nodes, list, key, &mut found, turn) {
-            return false;
-        }
-    }
-    // (Counting may be refused, too.)
-    let at_last = Ok((2, 2, 1, 10));
-    counted(book, nodes, key) == at_last || counted(book, nodes, key) == at_last
+    each_is_done(rt, book, nodes, list, key, &mut found) && ends_so(book, nodes, key)
 }
 
 #[test]

@@ -75,6 +75,31 @@ fn awaited_of(mode: Mode, is_up: bool) -> (Words, Words) {
     }
 }
 
+// Whether node 0 answers as it should to the row.
+fn answers_store<J: Naming>(
+    node: &mut Node<J>,
+    book: &mut Book<J>,
+    list: &Preference,
+    row: &Row,
+    words: Words,
+) -> Result<bool, Fault>
+    requires { take list.now.n list.now.nodes ≡ homes_of J.ring J.n row.now.key }
+{
+    let stored = ask_store(node, book, list, NodeId::nth(0), row)?;
+    Ok(are(&stored, words))
+}
+
+// Whether node 0 answers as it should to a look.
+fn answers_look<J: Naming>(
+    node: &mut Node<J>,
+    book: &mut Book<J>,
+    key: &Key,
+    words: Words,
+) -> bool {
+    let fetched = ask_fetch(node, book, NodeId::nth(0), key);
+    are(&fetched, words)
+}
+
 // Whether node 0 answers as it should to the row, and then to a look.
 fn answers<J: Naming>(
     node: &mut Node<J>,
@@ -85,10 +110,9 @@ fn answers<J: Naming>(
 ) -> Result<bool, Fault>
     requires { take list.now.n list.now.nodes ≡ homes_of J.ring J.n row.now.key }
 {
-    let home = NodeId::nth(0);
-    let stored = ask_store(node, book, list, home, row)?;
-    let fetched = ask_fetch(node, book, home, row.key());
-    Ok(are(&stored, awaited.0) && are(&fetched, awaited.1))
+    let stored = answers_store(node, book, list, row, awaited.0)?;
+    let fetched = answers_look(node, book, row.key(), awaited.1);
+    Ok(stored && fetched)
 }
 
 // Node 1 makes n1:1; node 0 is asked to store it, and then what it keeps.

@@ -27,13 +27,18 @@ fn has_counters(row: &Row, counters: &[u32]) -> bool {
     others.is_empty()
 }
 
+// Whether this is one row, for node 0, with versions of these counters alone.
+fn is_alone(rows: &[(NodeId, &Row)], counters: &[u32]) -> bool {
+    let Some((kept_for, row)) = rows.first() else {
+        return false;
+    };
+    rows.len() == 1 && *kept_for == NodeId::nth(0) && has_counters(row, counters)
+}
+
 // Whether the node keeps of the key one row, for node 0, with versions of these counters alone.
 fn keeps_alone<J: Naming>(node: &Node<J>, key: &Key, counters: &[u32]) -> Result<bool, Fault> {
     let rows = node.rows(key)?;
-    let Some((kept_for, row)) = rows.first() else {
-        return Ok(false);
-    };
-    Ok(rows.len() == 1 && *kept_for == NodeId::nth(0) && has_counters(row, counters))
+    Ok(is_alone(rows.as_slice(), counters))
 }
 
 // The row of a begin.
@@ -88,9 +93,8 @@ fn to_the_hint<J: Naming>(
     Ok(made)
 }
 
-// The one row that the node offers, where it is this one and is for home 0.
-fn offer_of<J: Naming>(node: &mut Node<J>, book: &mut Book<J>, row: &Row) -> Result<Row, Fault> {
-    let mut hints = node.offer(book)?;
+// The row of the one hint, where it is this one and is for home 0.
+fn one_of(hints: &mut Vec<(NodeId, Row)>, row: &Row) -> Result<Row, Fault> {
     let Some((home, offered)) = hints.pop() else {
         return Err(Fault::NotEnough);
     };
@@ -98,6 +102,40 @@ fn offer_of<J: Naming>(node: &mut Node<J>, book: &mut Book<J>, row: &Row) -> Res
         return Ok(offered);
     }
     Err(Fault::NotEnough)
+}
+
+// The one row that the node offers, where it is this one and is for home 0.
+fn offer_of<J: Naming>(node: &mut Node<J>, book: &mut Book<J>, row: &Row) -> Result<Row, Fault> {
+    let mut hints = node.offer(book)?;
+    one_of(&mut hints, row)
+}
+
+// Node 3 holds n1:1 for home 0 and offers it: the row of the offer.
+fn first_offered<J: Naming>(
+    alloc: Global,
+    book: &mut Book<J>,
+    nodes: &mut Members<J>,
+    list: &Preference,
+    key: &Key,
+) -> Result<Row, Fault>
+    requires { take list.now.n list.now.nodes ≡ homes_of J.ring J.n key.now }
+{
+    let first = to_the_hint(alloc, book, nodes, list, key)?;
+    offer_of(&mut nodes.three, book, &first)
+}
+
+// n1:2 joins the hint.
+fn joins_the_hint<J: Naming>(
+    alloc: Global,
+    book: &mut Book<J>,
+    nodes: &mut Members<J>,
+    list: &Preference,
+    key: &Key,
+) -> Result<(), Fault>
+    requires { take list.now.n list.now.nodes ≡ homes_of J.ring J.n key.now }
+{
+    let _both = to_the_hint(alloc, book, nodes, list, key)?;
+    Ok(())
 }
 
 // Node 3 holds n1:1 for home 0 and offers it, and then n1:2 joins the hint: the row of the offer.
@@ -110,9 +148,8 @@ fn offered<J: Naming>(
 ) -> Result<Row, Fault>
     requires { take list.now.n list.now.nodes ≡ homes_of J.ring J.n key.now }
 {
-    let first = to_the_hint(alloc, book, nodes, list, key)?;
-    let row = offer_of(&mut nodes.three, book, &first)?;
-    let _both = to_the_hint(alloc, book, nodes, list, key)?;
+    let row = first_offered(alloc, book, nodes, list, key)?;
+    joins_the_hint(alloc, book, nodes, list, key)?;
     Ok(row)
 }
 
@@ -145,6 +182,25 @@ fn ends_with_one_each<J: Naming>(
     Ok(left && kept)
 }
 
+// Home 0 stores what was offered, and its one receipt settles n1:1 alone.
+fn settles_the_first<J: Naming>(
+    book: &mut Book<J>,
+    nodes: &mut Members<J>,
+    list: &Preference,
+    key: &Key,
+    row: &Row,
+) -> Result<bool, Fault>
+    requires { take list.now.n list.now.nodes ≡ homes_of J.ring J.n key.now }
+{
+    if row.key() != key || !keeps_alone(&nodes.three, key, &[1, 2])? {
+        return Ok(false);
+    }
+    if handed_over(book, nodes, list, row)? != (1, 1) {
+        return Ok(false);
+    }
+    ends_with_one_each(book, nodes, key)
+}
+
 // Home 0 stores what was offered before the hint grew, and its one receipt settles n1:1 alone.
 pub fn a_handoff<J: Naming>(
     alloc: Global,
@@ -156,13 +212,7 @@ pub fn a_handoff<J: Naming>(
     requires { take list.now.n list.now.nodes ≡ homes_of J.ring J.n key.now }
 {
     let row = offered(alloc, book, nodes, list, key)?;
-    if row.key() != key || !keeps_alone(&nodes.three, key, &[1, 2])? {
-        return Ok(false);
-    }
-    if handed_over(book, nodes, list, &row)? != (1, 1) {
-        return Ok(false);
-    }
-    ends_with_one_each(book, nodes, key)
+    settles_the_first(book, nodes, list, key, &row)
 }
 
 // The node makes a version of the key for itself, which follows those of the row.
@@ -183,6 +233,23 @@ fn newer<J: Naming>(
     Ok(row_of(begun))
 }
 
+// Home 0 keeps the row for later, and node 1 makes a version which follows it.
+fn put_by_then_newer<J: Naming>(
+    alloc: Global,
+    book: &mut Book<J>,
+    nodes: &mut Members<J>,
+    list: &Preference,
+    key: &Key,
+    row: &Row,
+) -> Result<Row, Fault>
+    requires list { take list.now.n list.now.nodes ≡ homes_of J.ring J.n key.now }
+    requires row { row.now.key ≡ key.now }
+    ensures { IfOk result (λ row. row.key ≡ key.now) }
+{
+    put_by(&mut nodes.zero, list, NodeId::nth(0), row)?;
+    newer(alloc, &mut nodes.one, book, list, key, row)
+}
+
 // Node 1 makes n1:1, which home 0 keeps for later, and n1:2, which follows it: the row of n1:2.
 fn followed<J: Naming>(
     alloc: Global,
@@ -195,8 +262,7 @@ fn followed<J: Naming>(
     ensures { IfOk result (λ row. row.key ≡ key.now) }
 {
     let first = blind(alloc, &mut nodes.one, book, list, key)?;
-    put_by(&mut nodes.zero, list, NodeId::nth(0), &first)?;
-    newer(alloc, &mut nodes.one, book, list, key, &first)
+    put_by_then_newer(alloc, book, nodes, list, key, &first)
 }
 
 // Whether the node keeps n1:2 alone before and after it stores the one message that waits.

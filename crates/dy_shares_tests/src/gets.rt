@@ -120,6 +120,24 @@ fn merged<J: Naming>(alloc: Global, one: Seen<J>, other: Seen<J>) -> Result<Row,
     merge_all(alloc, seens.as_slice())
 }
 
+// How many versions two answers make together.
+fn merged_count<J: Naming>(alloc: Global, one: Seen<J>, other: Seen<J>) -> Result<usize, Fault>
+    requires { one.key ≡ other.key }
+{
+    let row = merged(alloc, one, other)?;
+    Ok(row.versions().len())
+}
+
+// How many versions this answer and the other, where there is one, make together.
+fn count_of<J: Naming>(alloc: Global, one: Seen<J>, other: Option<Seen<J>>) -> Result<usize, Fault>
+    requires { IfSome other (λ other. one.key ≡ other.key) }
+{
+    match other {
+        Some(other) => merged_count(alloc, one, other),
+        None => Ok(9),
+    }
+}
+
 // Node 0 makes a version and holds it.
 fn make<J: Naming>(
     alloc: Global,
@@ -145,10 +163,8 @@ fn count_with<J: Naming>(
 ) -> Result<usize, Fault>
     requires { one.key ≡ key.now }
 {
-    match watched.fetch(alloc, Place::own(NodeId::nth(0)), key)? {
-        Some(other) => Ok(merged(alloc, one, other)?.versions().len()),
-        None => Ok(9),
-    }
+    let other = watched.fetch(alloc, Place::own(NodeId::nth(0)), key)?;
+    count_of(alloc, one, other)
 }
 
 // How many versions the answers of nodes 1 and 0 make together.

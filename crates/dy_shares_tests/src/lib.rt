@@ -7,6 +7,8 @@ mod endings;
 #[cfg(test)]
 mod gets;
 #[cfg(test)]
+mod hints;
+#[cfg(test)]
 mod merges;
 #[cfg(test)]
 mod rings;

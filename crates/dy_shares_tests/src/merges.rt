@@ -67,6 +67,20 @@ fn next_answer<J: Naming>(
     put_and_get(alloc, watched, one, key, &context)
 }
 
+// The merge of the answer and the other, where there is one.
+fn merged_with<J: Naming>(
+    alloc: Global,
+    one: &Seen<J>,
+    other: &Option<Seen<J>>,
+) -> Result<Option<Row>, Fault>
+    requires { IfSome other.now (λ other. one.now.key ≡ other.key) }
+{
+    match other {
+        Some(other) => Ok(Some(merged(alloc, one, other)?)),
+        None => Ok(None),
+    }
+}
+
 // The merge of the first answer and the next.
 fn merged_with_next<J: Naming>(
     alloc: Global,
@@ -77,10 +91,8 @@ fn merged_with_next<J: Naming>(
 ) -> Result<Option<Row>, Fault>
     requires { first.now.key ≡ key.now }
 {
-    match next_answer(alloc, watched, nodes, key, first)? {
-        Some(second) => Ok(Some(merged(alloc, first, &second)?)),
-        None => Ok(None),
-    }
+    let second = next_answer(alloc, watched, nodes, key, first)?;
+    merged_with(alloc, first, &second)
 }
 
 // Node 0 puts, and node 1 puts what follows it. It gives the merge of what both answer.
@@ -96,32 +108,42 @@ fn two_answers<J: Naming>(
     }
 }
 
-fn merge_of_two<J: Naming>(
+// The same with the key `a`.
+fn two_answers_of_a<J: Naming>(
     alloc: Global,
-    blank: Blank,
-    world: World,
-    key: &Key,
-) -> Result<Option<Row>, Fault>
+    watched: &mut Watched<J>,
+    nodes: &mut [NodeShare<J>],
+) -> Result<Option<Row>, Fault> {
+    let key = Key::new(alloc, b"a")?;
+    two_answers(alloc, watched, nodes, &key)
+}
+
+fn merge_of_two<J: Naming>(alloc: Global, blank: Blank, world: World) -> Result<Option<Row>, Fault>
     requires named { blank ≡ record { book = J.book; table = J.table } }
     requires world { world ≡ record { ring = J.ring; n = J.n; steps = [] } }
     requires nodes { J.ring.nodes ≡ 3 }
 {
     let (ledger, mut nodes) = Ledger::<J>::open(alloc, blank, 3)?;
     let mut watched = Watched::new(ledger, world);
-    let row = two_answers(alloc, &mut watched, nodes.as_mut_slice(), key);
+    let row = two_answers_of_a(alloc, &mut watched, nodes.as_mut_slice());
     watched.into_ledger().abandon(nodes, Vec::new(alloc));
     row
+}
+
+// The dots of the row, where there is one.
+fn dots_of(alloc: Global, row: &Option<Row>) -> Result<Option<Context>, Fault> {
+    match row {
+        Some(row) => Ok(Some(row.dots(alloc)?)),
+        None => Ok(None),
+    }
 }
 
 // The dots of that merge, from nothing.
 fn merged_dots(alloc: Global) -> Result<Option<Context>, Fault> {
     let blank = Blank::new(alloc)?;
     let world = three_nodes(alloc, 2)?;
-    let key = Key::new(alloc, b"a")?;
-    match merge_of_two::<Brand>(alloc, blank, world, &key)? {
-        Some(row) => Ok(Some(row.dots(alloc)?)),
-        None => Ok(None),
-    }
+    let row = merge_of_two::<Brand>(alloc, blank, world)?;
+    dots_of(alloc, &row)
 }
 
 #[test]

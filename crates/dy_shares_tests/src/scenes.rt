@@ -1,5 +1,7 @@
-ghost use Rattle.std.specs.Prelude.{◌≡◌, ◌<◌, [], IfOk, vec_capacity, vec_len};
+ghost use Rattle.std.specs.Prelude.{◌≡◌, ◌<◌, [], IfOk, IsTrue, vec_capacity, vec_len};
+ghost use Rattle.dy_shares.specs.Shares.{since_of};
 
+use crate::hints::{first_put, hand_over};
 use crate::rings::three_nodes;
 use crate::watched::{Watched, place_of};
 use dy_core::{Place, Step, World};
@@ -79,6 +81,27 @@ fn make<J: Naming>(
     }
 }
 
+// The answer is found in the log again, under the lock.
+fn find_again<J: Naming>(rt: &impl Wait, lock: &Mutex<Watched<J>>, seen: &Option<Seen<J>>) {
+    if let Some(seen) = seen {
+        let mut guard = lock.lock(rt);
+        guard.find(seen);
+    }
+}
+
+// The receipt is spent, under the lock.
+fn spend_again<J: Naming>(
+    rt: &impl Wait,
+    alloc: Global,
+    lock: &Mutex<Watched<J>>,
+    made: &Option<Receipt<J>>,
+) {
+    if let Some(receipt) = made {
+        let mut guard = lock.lock(rt);
+        spend(alloc, &mut *guard, receipt);
+    }
+}
+
 // One thread: it takes an answer and a receipt out of the lock, and spends them under it later,
 // whatever the others did in between.
 fn put<J: Naming>(
@@ -92,14 +115,8 @@ fn put<J: Naming>(
     };
     let seen = ask(rt, alloc, lock, share.node(), &key);
     let made = make(rt, alloc, lock, share, key);
-    if let Some(seen) = seen {
-        let mut guard = lock.lock(rt);
-        guard.find(&seen);
-    }
-    if let Some(receipt) = made {
-        let mut guard = lock.lock(rt);
-        spend(alloc, &mut *guard, &receipt);
-    }
+    find_again(rt, lock, &seen);
+    spend_again(rt, alloc, lock, &made);
 }
 
 // Each node's thread.
@@ -144,56 +161,6 @@ fn three<J: Naming + Send + Sync, R: Threads + Wait + Sync>(
     end(lock.into_inner().into_ledger(), nodes, Vec::new(alloc))
 }
 
-// Node 2 holds the version for home 1, and gives a receipt.
-fn hint<J: Naming>(
-    alloc: Global,
-    watched: &mut Watched<J>,
-    nodes: &mut [NodeShare<J>],
-    key: Key,
-    dot: Dot,
-) -> Result<Option<Receipt<J>>, Fault> {
-    let (Some(home), Some(two)) = (NodeId::new(1), nodes.get_mut(2)) else {
-        return Ok(None);
-    };
-    let holder = two.node();
-    watched.hold(alloc, two, home, &key, dot)?;
-    Ok(watched.receipt(key, dot, Place { holder, home }))
-}
-
-// The home of the receipt holds its version, and then the holder gives it up.
-fn hand_over<J: Naming>(
-    alloc: Global,
-    watched: &mut Watched<J>,
-    nodes: &mut [NodeShare<J>],
-    receipt: &Receipt<J>,
-) -> Result<(), Fault> {
-    let (key, dot, home) = (receipt.key(), receipt.dot(), receipt.home());
-    if let Some(one) = nodes.get_mut(1) {
-        watched.hold(alloc, one, home, key, dot)?;
-    }
-    if let Some(two) = nodes.get_mut(2) {
-        watched.release(alloc, two, home, key, dot)?;
-    }
-    Ok(())
-}
-
-// The nodes 0 and 2 hold a version of node 0, node 2 for home 1. It gives the receipt of node 2.
-fn first_put<J: Naming>(
-    alloc: Global,
-    watched: &mut Watched<J>,
-    nodes: &mut [NodeShare<J>],
-) -> Result<Option<Receipt<J>>, Fault> {
-    let key = Key::new(alloc, b"a")?;
-    let made = match nodes.first_mut() {
-        Some(zero) => issue_and_hold(alloc, watched, zero, &key, &Context::new(alloc))?,
-        None => None,
-    };
-    match made {
-        Some(dot) => hint(alloc, watched, nodes, key, dot),
-        None => Ok(None),
-    }
-}
-
 // The put of the stand-in's receipt is acknowledged, and its hint goes to its home. It says what
 // the receipt is worth then.
 fn stand_in_of<J: Naming>(
@@ -227,6 +194,13 @@ fn stand_in<J: Naming>(
     }
 }
 
+// Whether the answer is later than the session's since.
+fn is_later<J: Naming>(session: &SessionShare<J>, seen: &Seen<J>) -> bool
+    ensures { IsTrue result → since_of session.now < seen.now.at }
+{
+    session.since().at() < seen.at()
+}
+
 // The session is told a get of this answer, where it is later than its since.
 fn tell_seen<J: Naming>(
     alloc: Global,
@@ -235,7 +209,7 @@ fn tell_seen<J: Naming>(
 ) -> Result<(), Fault>
     requires { J.r ≡ 1 }
 {
-    if seen.at() <= session.since().at() {
+    if !is_later(session, &seen) {
         return Ok(());
     }
     let seens = Vec::from_array(alloc, [seen])?;
@@ -267,27 +241,16 @@ struct Opened<J: Naming> {
     sessions: Vec<SessionShare<J>>,
 }
 
-// Opens a ledger of three nodes and a session.
-fn open_with_session<J: Naming>(
-    alloc: Global,
-    blank: Blank,
-    world: World,
+// The watched ledger with a session.
+fn with_session<J: Naming>(
+    mut watched: Watched<J>,
+    nodes: Vec<NodeShare<J>>,
+    sessions: Vec<SessionShare<J>>,
 ) -> Result<Opened<J>, Fault>
-    requires named { blank ≡ record { book = J.book; table = J.table } }
-    requires world { world ≡ record { ring = J.ring; n = J.n; steps = [] } }
-    requires nodes { J.ring.nodes ≡ 3 }
+    requires room { vec_len sessions < vec_capacity sessions }
     ensures room { IfOk result (λ opened.
         vec_len opened.sessions < vec_capacity opened.sessions) }
 {
-    let sessions = Vec::with_capacity(alloc, 1)?;
-    let (ledger, nodes) = match Ledger::<J>::open(alloc, blank, 3) {
-        Ok(opened) => opened,
-        Err(fault) => {
-            sessions.destroy_empty();
-            return Err(fault);
-        }
-    };
-    let mut watched = Watched::new(ledger, world);
     match watched.session() {
         Ok(session) => Ok(Opened {
             watched,
@@ -302,6 +265,59 @@ fn open_with_session<J: Naming>(
     }
 }
 
+// Opens a ledger of three nodes and a session.
+fn open_with_session<J: Naming>(
+    alloc: Global,
+    blank: Blank,
+    world: World,
+) -> Result<Opened<J>, Fault>
+    requires named { blank ≡ record { book = J.book; table = J.table } }
+    requires world { world ≡ record { ring = J.ring; n = J.n; steps = [] } }
+    requires nodes { J.ring.nodes ≡ 3 }
+    ensures room { IfOk result (λ opened.
+        vec_len opened.sessions < vec_capacity opened.sessions) }
+{
+    let sessions = Vec::with_capacity(alloc, 1)?;
+    match Ledger::<J>::open(alloc, blank, 3) {
+        Ok((ledger, nodes)) => with_session(Watched::new(ledger, world), nodes, sessions),
+        Err(fault) => {
+            sessions.destroy_empty();
+            Err(fault)
+        }
+    }
+}
+
+// How many steps the log has, where each share is handed in.
+fn end_count<J: Naming>(
+    ledger: Ledger<J>,
+    nodes: Vec<NodeShare<J>>,
+    sessions: Vec<SessionShare<J>>,
+) -> Result<usize, Fault> {
+    let steps = end(ledger, nodes, sessions)?;
+    Ok(steps.len())
+}
+
+// The scene of the stand-in, and then all shares are handed in.
+fn played<J: Naming>(
+    alloc: Global,
+    opened: Opened<J>,
+) -> Result<(Option<bool>, usize, usize, usize), Fault>
+    requires room { vec_len opened.sessions < vec_capacity opened.sessions }
+    requires r { J.r ≡ 1 }
+{
+    let Opened {
+        mut watched,
+        mut nodes,
+        mut session,
+        mut sessions,
+    } = opened;
+    let spent = stand_in(alloc, &mut watched, nodes.as_mut_slice(), &mut session);
+    let (gets, since) = (session.gets(), session.since().at());
+    sessions.push_reserved(session);
+    let steps = end_count(watched.into_ledger(), nodes, sessions)?;
+    Ok((spent?, steps, gets, since))
+}
+
 // What the stand-in's receipt is worth, and how many steps the log has, how many gets the session
 // was told, and its since.
 fn handed_over<J: Naming>(
@@ -314,17 +330,8 @@ fn handed_over<J: Naming>(
     requires nodes { J.ring.nodes ≡ 3 }
     requires r { J.r ≡ 1 }
 {
-    let Opened {
-        mut watched,
-        mut nodes,
-        mut session,
-        mut sessions,
-    } = open_with_session::<J>(alloc, blank, world)?;
-    let spent = stand_in(alloc, &mut watched, nodes.as_mut_slice(), &mut session);
-    let (gets, since) = (session.gets(), session.since().at());
-    sessions.push_reserved(session);
-    let steps = end(watched.into_ledger(), nodes, sessions)?;
-    Ok((spent?, steps.len(), gets, since))
+    let opened = open_with_session::<J>(alloc, blank, world)?;
+    played(alloc, opened)
 }
 
 // How many steps of the log are issues, holds and fetches.

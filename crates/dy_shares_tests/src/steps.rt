@@ -4,29 +4,45 @@ ghost use Rattle.dy_core.specs.declared.steps.Step.TheVariants.{Ack, Fetch, Hold
 
 use dy_core::{Place, Step, World};
 use dy_dots::{Context, Dot, Fault, NodeId};
-use dy_siblings::{Key, Row};
+use dy_siblings::{Key, Row, Value};
 use std::alloc::Global;
 
-// A step that is given twice, to the world and to the log.
-#[derive(Drop)]
-pub struct Twice {
-    pub step: Step,
-    pub same: Step,
-    ghost equal: { same ≡ step },
+// A copy of the value, where there is one.
+fn copied_value(alloc: Global, value: &Option<Value>) -> Result<Option<Value>, Fault>
+    ensures { IfOk result (λ copy. copy ≡ value.now) }
+{
+    match value {
+        Some(value) => Ok(Some(value.try_clone(alloc)?)),
+        None => Ok(None),
+    }
 }
 
-// The node makes a version of the key, which follows those that the context names.
-pub fn making(alloc: Global, node: NodeId, key: &Key, context: &Context) -> Result<Step, Fault>
-    ensures { IfOk result (λ step. step ≡ Issue node key.now context.now None) }
+// The node makes a version of the key, with the value, which follows those that the context names.
+fn making_of(
+    alloc: Global,
+    node: NodeId,
+    key: &Key,
+    context: &Context,
+    value: &Option<Value>,
+) -> Result<Step, Fault>
+    ensures { IfOk result (λ step. step ≡ Issue node key.now context.now value.now) }
 {
     let key = key.try_clone(alloc)?;
     let context = context.try_clone(alloc)?;
+    let value = copied_value(alloc, value)?;
     Ok(Step::Issue {
         node,
         key,
         context,
-        value: None,
+        value,
     })
+}
+
+// The same with no value.
+pub fn making(alloc: Global, node: NodeId, key: &Key, context: &Context) -> Result<Step, Fault>
+    ensures { IfOk result (λ step. step ≡ Issue node key.now context.now None) }
+{
+    making_of(alloc, node, key, context, &None)
 }
 
 // The row is held at the place.
@@ -77,11 +93,41 @@ pub fn row_of(alloc: Global, world: &World, key: &Key, dot: Dot) -> Result<Optio
     }
 }
 
-// The one step.
-pub fn alone(alloc: Global, step: Step) -> Result<Vec<Step>, Fault>
-    ensures { IfOk result (λ steps. steps.items ≡ step ∷ []) }
+// A copy of the step.
+pub fn copied(alloc: Global, step: &Step) -> Result<Step, Fault>
+    ensures { IfOk result (λ copy. copy ≡ step.now) }
+{
+    match step {
+        Step::Issue {
+            node,
+            key,
+            context,
+            value,
+        } => making_of(alloc, *node, key, context, value),
+        Step::Hold { holder, home, row } => holding(alloc, at(*holder, *home), row),
+        Step::Release {
+            holder,
+            home,
+            key,
+            dot,
+        } => releasing(alloc, at(*holder, *home), key, *dot),
+        Step::Fetch { holder, home, key } => fetching(alloc, at(*holder, *home), key),
+        Step::Ack { key, dot, w } => acking(alloc, key, *dot, *w),
+    }
+}
+
+// The holder, with the home.
+fn at(holder: NodeId, home: NodeId) -> Place
+    ensures { result ≡ record { holder = holder; home = home } }
+{
+    Place { holder, home }
+}
+
+// A list of this step alone.
+pub fn alone(alloc: Global, step: &Step) -> Result<Vec<Step>, Fault>
+    ensures { IfOk result (λ steps. steps.items ≡ step.now ∷ []) }
 {
     let mut steps = Vec::with_capacity(alloc, 1)?;
-    steps.push_reserved(step);
+    steps.push_reserved(copied(alloc, step)?);
     Ok(steps)
 }

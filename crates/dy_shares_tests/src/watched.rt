@@ -15,7 +15,7 @@ ghost use Rattle.dy_shares.specs.Shares.{
   with_entries,
 };
 
-use crate::steps::{Twice, acking, alone, fetching, holding, making, releasing, row_of};
+use crate::steps::{acking, alone, copied, fetching, holding, making, releasing, row_of};
 use dy_core::{Place, Step, World};
 use dy_dots::{Context, Dot, Fault, NodeId};
 use dy_shares::{Ledger, Naming, NodeShare, Receipt, Seen, SessionShare};
@@ -57,36 +57,51 @@ pub fn place_of<J: Naming>(receipt: &Receipt<J>) -> Place
 }
 
 // The world has the step too.
-fn applied(alloc: Global, world: &mut World, step: Step) -> Result<(), Fault>
+fn applied(alloc: Global, world: &mut World, step: &Step) -> Result<(), Fault>
     requires { IsAllowed (layout_of world.old.ring world.old.n)
-        (world_after world.old.steps) step }
-    ensures { OnOk result (world.new ≡ with_step world.old step) }
+        (world_after world.old.steps) step.now }
+    ensures { OnOk result (world.new ≡ with_step world.old step.now) }
 {
-    match world.apply(alloc, step) {
+    let copy = copied(alloc, step)?;
+    match world.apply(alloc, copy) {
         Ok(_row) => Ok(()),
         Err(fault) => Err(fault),
     }
 }
 
-// The ack, which is given twice, is made in the world and in the log.
+// The step is made in the log.
+fn made_in_log<J: Naming>(
+    alloc: Global,
+    ledger: &mut Ledger<J>,
+    share: &mut NodeShare<J>,
+    step: &Step,
+) -> Result<(), Fault>
+    requires own { node_of step.now ≡ Some share.old.node }
+    requires allowed { MayFollow J.ring J.n ledger.old.log (step.now ∷ []) }
+    ensures { OnOk result (ledger.new ≡ with_entries ledger.old (untold step.now ∷ [])) }
+{
+    let steps = alone(alloc, step)?;
+    ledger.node_steps(share, steps)
+}
+
+// The ack is made in the world and in the log.
 fn both_acked<J: Naming>(
     alloc: Global,
     world: &mut World,
     ledger: &mut Ledger<J>,
     share: &mut SessionShare<J>,
-    step: Step,
-    same: Step,
+    step: &Step,
 ) -> Result<(), Fault>
-    requires ack { IsAck step }
-    requires same { same ≡ step }
-    requires allowed { MayFollow J.ring J.n ledger.old.log (step ∷ []) }
+    requires ack { IsAck step.now }
+    requires allowed { MayFollow J.ring J.n ledger.old.log (step.now ∷ []) }
     requires of_log { world.old
         ≡ record { ring = J.ring; n = J.n; steps = steps_of ledger.old.log } }
     ensures { OnOk result (world.new
         ≡ record { ring = J.ring; n = J.n; steps = steps_of ledger.new.log }) }
 {
-    applied(alloc, world, same)?;
-    ledger.ack_step(share, step)
+    applied(alloc, world, step)?;
+    let copy = copied(alloc, step)?;
+    ledger.ack_step(share, copy)
 }
 
 // What the world answers at the place.
@@ -151,70 +166,48 @@ impl<J: Naming> Watched<J> {
         self.world.allows(alloc, step)
     }
 
-    // The step, where it is allowed now.
-    fn checked(&self, alloc: Global, twice: Twice) -> Result<Option<Twice>, Fault>
-        ensures same { IfOk result (λ found. IfSome found (λ t. t.step ≡ twice.step)) }
-        ensures allowed { IfOk result (λ found. IfSome found
-            (λ t. MayFollow J.ring J.n self.now.log (t.step ∷ []))) }
-    {
-        match self.allows(alloc, &twice.step) {
-            Ok(true) => Ok(Some(twice)),
-            Ok(false) => Ok(None),
-            Err(fault) => Err(fault),
-        }
-    }
-
-    // Makes the step, which is given twice, in the world and in the log.
-    fn make(
-        &mut self,
-        alloc: Global,
-        share: &mut NodeShare<J>,
-        steps: Vec<Step>,
-        same: Step,
-    ) -> Result<bool, Fault>
-        requires own { node_of same ≡ Some share.old.node }
-        requires same { steps.items ≡ same ∷ [] }
-        requires allowed { MayFollow J.ring J.n self.old.log (same ∷ []) }
+    // Makes the step in the world and in the log.
+    fn make(&mut self, alloc: Global, share: &mut NodeShare<J>, step: &Step) -> Result<bool, Fault>
+        requires own { node_of step.now ≡ Some share.old.node }
+        requires allowed { MayFollow J.ring J.n self.old.log (step.now ∷ []) }
     {
         if !self.is_whole {
             return Ok(false);
         }
         self.is_whole = false;
-        applied(alloc, &mut self.world, same)?;
-        self.ledger.node_steps(share, steps)?;
+        applied(alloc, &mut self.world, step)?;
+        made_in_log(alloc, &mut self.ledger, share, step)?;
         self.is_whole = true;
         Ok(true)
     }
 
-    // The same with a step that is no list.
-    fn make_one(
-        &mut self,
-        alloc: Global,
-        share: &mut NodeShare<J>,
-        twice: Twice,
-    ) -> Result<bool, Fault>
-        requires own { node_of twice.step ≡ Some share.old.node }
-        requires allowed { MayFollow J.ring J.n self.old.log (twice.step ∷ []) }
-    {
-        let Twice { step, same } = twice;
-        let steps = alone(alloc, step)?;
-        self.make(alloc, share, steps, same)
-    }
-
-    // Whether the step, which is given twice, was allowed and came to the log.
+    // Whether the step was allowed and came to the log.
     fn node_step(
         &mut self,
         alloc: Global,
         share: &mut NodeShare<J>,
-        twice: Twice,
+        step: &Step,
     ) -> Result<bool, Fault>
-        requires own { node_of twice.step ≡ Some share.old.node }
+        requires own { node_of step.now ≡ Some share.old.node }
     {
-        match self.allows(alloc, &twice.step) {
-            Ok(true) => self.make_one(alloc, share, twice),
+        match self.allows(alloc, step) {
+            Ok(true) => self.make(alloc, share, step),
             Ok(false) => Ok(false),
             Err(fault) => Err(fault),
         }
+    }
+
+    // Whether the share's node made a version of the key.
+    fn issue_step(
+        &mut self,
+        alloc: Global,
+        share: &mut NodeShare<J>,
+        key: &Key,
+        context: &Context,
+    ) -> Result<bool, Fault> {
+        let node = share.node();
+        let step = making(alloc, node, key, context)?;
+        self.node_step(alloc, share, &step)
     }
 
     // The share's node makes its first version of the key.
@@ -225,13 +218,10 @@ impl<J: Naming> Watched<J> {
         key: &Key,
         context: &Context,
     ) -> Result<Option<Dot>, Fault> {
-        let node = share.node();
-        let step = making(alloc, node, key, context)?;
-        let same = making(alloc, node, key, context)?;
-        if !self.node_step(alloc, share, Twice { step, same })? {
+        if !self.issue_step(alloc, share, key, context)? {
             return Ok(None);
         }
-        Ok(Dot::new(node, 1))
+        Ok(Dot::new(share.node(), 1))
     }
 
     // The share's node holds the one version for the home.
@@ -259,8 +249,7 @@ impl<J: Naming> Watched<J> {
     ) -> Result<bool, Fault> {
         let holder = share.node();
         let step = holding(alloc, Place { holder, home }, row)?;
-        let same = holding(alloc, Place { holder, home }, row)?;
-        self.node_step(alloc, share, Twice { step, same })
+        self.node_step(alloc, share, &step)
     }
 
     // The share's node gives up the dot for the home.
@@ -274,47 +263,45 @@ impl<J: Naming> Watched<J> {
     ) -> Result<bool, Fault> {
         let holder = share.node();
         let step = releasing(alloc, Place { holder, home }, key, dot)?;
-        let same = releasing(alloc, Place { holder, home }, key, dot)?;
-        self.node_step(alloc, share, Twice { step, same })
+        self.node_step(alloc, share, &step)
     }
 
-    // Makes the ack, which is given twice, in the world and in the log.
+    // Makes the ack in the world and in the log.
     fn told_step(
         &mut self,
         alloc: Global,
         share: &mut SessionShare<J>,
-        twice: Twice,
+        step: &Step,
     ) -> Result<bool, Fault>
-        requires ack { IsAck twice.step }
-        requires allowed { MayFollow J.ring J.n self.old.log (twice.step ∷ []) }
+        requires ack { IsAck step.now }
+        requires allowed { MayFollow J.ring J.n self.old.log (step.now ∷ []) }
     {
         if !self.is_whole {
             return Ok(false);
         }
         self.is_whole = false;
-        let Twice { step, same } = twice;
-        both_acked(alloc, &mut self.world, &mut self.ledger, share, step, same)?;
+        both_acked(alloc, &mut self.world, &mut self.ledger, share, step)?;
         self.is_whole = true;
         Ok(true)
     }
 
-    // Whether the ack, which is given twice, was allowed, and the session was told it.
+    // Whether the ack was allowed, and the session was told it.
     fn ack_step(
         &mut self,
         alloc: Global,
         share: &mut SessionShare<J>,
-        twice: Twice,
+        step: &Step,
     ) -> Result<bool, Fault>
-        requires { IsAck twice.step }
+        requires { IsAck step.now }
     {
-        match self.checked(alloc, twice) {
-            Ok(Some(twice)) => self.told_step(alloc, share, twice),
-            Ok(None) => Ok(false),
+        match self.allows(alloc, step) {
+            Ok(true) => self.told_step(alloc, share, step),
+            Ok(false) => Ok(false),
             Err(fault) => Err(fault),
         }
     }
 
-    // Whether the ack was allowed, and the session was told it.
+    // The same with the parts of an ack.
     pub fn ack(
         &mut self,
         alloc: Global,
@@ -324,8 +311,7 @@ impl<J: Naming> Watched<J> {
         w: u8,
     ) -> Result<bool, Fault> {
         let step = acking(alloc, key, dot, w)?;
-        let same = acking(alloc, key, dot, w)?;
-        self.ack_step(alloc, share, Twice { step, same })
+        self.ack_step(alloc, share, &step)
     }
 
     // What is answered at the place.
