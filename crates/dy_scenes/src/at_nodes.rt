@@ -5,9 +5,10 @@ use crate::stages::Stage;
 use crate::texts::{write_pass, write_row};
 use dy_core::Place;
 use dy_dots::{Fault, NodeId};
-use dy_node::Mode;
+use dy_node::{Mode, Node};
 use dy_shares::Naming;
 use dy_siblings::Row;
+use std::alloc::Global;
 use std::sync::Wait;
 
 // The most hints that a pass of a scene goes through.
@@ -41,6 +42,20 @@ pub fn set_mode<J: Naming, R: Wait>(
     Ok(())
 }
 
+// The node stores what it kept: how many messages.
+fn delivered<J: Naming, R: Wait>(
+    rt: &R,
+    stage: &Stage<'_, J>,
+    node: usize,
+) -> Result<usize, Fault> {
+    let Some(place) = stage.nodes.get(node) else {
+        return Err(Fault::Down);
+    };
+    let mut held = place.lock(rt);
+    let mut open = stage.book.lock(rt);
+    held.deliver(&mut open)
+}
+
 // The node stores what it kept, and tells how many messages.
 pub fn deliver<J: Naming, R: Wait>(
     rt: &R,
@@ -48,14 +63,33 @@ pub fn deliver<J: Naming, R: Wait>(
     node: usize,
     out: &mut String,
 ) -> Result<(), Fault> {
-    let Some(place) = stage.nodes.get(node) else {
-        return Err(Fault::Down);
-    };
-    let mut held = place.lock(rt);
-    let mut open = stage.book.lock(rt);
-    let count = held.deliver(&mut open)?;
+    let count = delivered(rt, stage, node)?;
     write!(out, "deliver {count}\n")?;
     Ok(())
+}
+
+// The rows that the holder keeps, each with its home.
+fn write_kept(
+    alloc: Global,
+    out: &mut String,
+    holder: NodeId,
+    rows: &[(NodeId, &Row)],
+) -> Result<(), Fault> {
+    for row in rows {
+        let home = row.0;
+        write_row(alloc, out, "show", Place { holder, home }, row.1)?;
+    }
+    Ok(())
+}
+
+// What this node keeps of the key, for each home.
+fn write_rows_of<J: Naming>(
+    stage: &Stage<'_, J>,
+    held: &Node<J>,
+    out: &mut String,
+) -> Result<(), Fault> {
+    let rows: Vec<(NodeId, &Row)> = held.rows(stage.key)?;
+    write_kept(stage.alloc, out, held.number(), rows.as_slice())
 }
 
 // What the node keeps of the key, for each home.
@@ -69,13 +103,7 @@ pub fn write_rows<J: Naming, R: Wait>(
         return Err(Fault::Down);
     };
     let held = place.lock(rt);
-    let holder = held.number();
-    let rows: Vec<(NodeId, &Row)> = held.rows(stage.key)?;
-    for row in rows.as_slice() {
-        let home = row.0;
-        write_row(stage.alloc, out, "show", Place { holder, home }, row.1)?;
-    }
-    Ok(())
+    write_rows_of(stage, &held, out)
 }
 
 // The node of this number.

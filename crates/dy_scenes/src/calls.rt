@@ -3,13 +3,13 @@ ghost use Rattle.std.specs.Prelude.{◌≡◌};
 ghost use Rattle.dy_transport.specs.Told.{nothing_told};
 
 use crate::stages::Stage;
-use crate::stated::{Stated, Stating};
+use crate::stated::{Stated, Stating, stated_on};
 use dy_coord::{GetDone, GetFault, PutDone, PutFault, get, put};
 use dy_dots::{Context, Fault};
 use dy_repair::repair;
 use dy_shares::{Naming, SessionShare};
 use dy_siblings::Value;
-use dy_transport::{Direct, Line, Transport};
+use dy_transport::{Direct, Transport};
 use std::sync::Wait;
 
 // What a put follows.
@@ -42,6 +42,31 @@ fn text_of(after: After) -> &'static str {
     }
 }
 
+// A put over this transport that follows this.
+fn put_after<J: Naming, T: Transport<J>, R: Wait>(
+    rt: &R,
+    transport: &mut T,
+    stage: &Stage<'_, J>,
+    session: &mut SessionShare<J>,
+    write: Write,
+    context: &Context,
+) -> Result<Result<PutDone, PutFault>, Fault>
+    requires { T.told transport.old ≡ nothing_told 32 }
+{
+    let value = Value::new(stage.alloc, &[write.value])?;
+    Ok(put(
+        rt,
+        stage.alloc,
+        transport,
+        stage.list,
+        write.w,
+        session,
+        stage.key,
+        context,
+        Some(value),
+    ))
+}
+
 // A put over this transport.
 pub fn put_over<J: Naming, T: Transport<J>, R: Wait>(
     rt: &R,
@@ -52,20 +77,8 @@ pub fn put_over<J: Naming, T: Transport<J>, R: Wait>(
 ) -> Result<Result<PutDone, PutFault>, Fault>
     requires { T.told transport.old ≡ nothing_told 32 }
 {
-    let alloc = stage.alloc;
-    let context = Context::read_text(alloc, text_of(write.after))?;
-    let value = Value::new(alloc, &[write.value])?;
-    Ok(put(
-        rt,
-        alloc,
-        transport,
-        stage.list,
-        write.w,
-        session,
-        stage.key,
-        &context,
-        Some(value),
-    ))
+    let context = Context::read_text(stage.alloc, text_of(write.after))?;
+    put_after(rt, transport, stage, session, write, &context)
 }
 
 // A get over this transport.
@@ -89,6 +102,19 @@ fn get_over<J: Naming, T: Transport<J>, R: Wait>(
     )
 }
 
+// A put over this transport on the caller's own thread.
+fn put_over_direct<J: Naming, R: Wait>(
+    rt: &R,
+    direct: &mut Direct<'_, J>,
+    stage: &Stage<'_, J>,
+    session: &mut SessionShare<J>,
+    write: Write,
+) -> Result<Result<PutDone, PutFault>, Fault>
+    requires { direct.old ≡ nothing_told 32 }
+{
+    put_over(rt, direct, stage, session, write)
+}
+
 // A put on the caller's own thread.
 pub fn put_directly<J: Naming, R: Wait>(
     rt: &R,
@@ -97,7 +123,19 @@ pub fn put_directly<J: Naming, R: Wait>(
     write: Write,
 ) -> Result<Result<PutDone, PutFault>, Fault> {
     let mut direct = Direct::new(stage.alloc, stage.nodes, stage.book, 32)?;
-    put_over(rt, &mut direct, stage, session, write)
+    put_over_direct(rt, &mut direct, stage, session, write)
+}
+
+// A get over this transport.
+fn get_over_direct<J: Naming, R: Wait>(
+    rt: &R,
+    direct: &mut Direct<'_, J>,
+    stage: &Stage<'_, J>,
+    session: &mut SessionShare<J>,
+) -> Result<GetDone<J>, GetFault>
+    requires { direct.old ≡ nothing_told 32 }
+{
+    get_over(rt, direct, stage, session)
 }
 
 // A get on the caller's own thread.
@@ -107,7 +145,20 @@ pub fn get_directly<J: Naming, R: Wait>(
     session: &mut SessionShare<J>,
 ) -> Result<Result<GetDone<J>, GetFault>, Fault> {
     let mut direct = Direct::new(stage.alloc, stage.nodes, stage.book, 32)?;
-    Ok(get_over(rt, &mut direct, stage, session))
+    Ok(get_over_direct(rt, &mut direct, stage, session))
+}
+
+// A put over this line.
+fn put_over_stated<J: Naming, R: Wait>(
+    rt: &R,
+    stated: &mut Stated<'_, J>,
+    stage: &Stage<'_, J>,
+    session: &mut SessionShare<J>,
+    write: Write,
+) -> Result<Result<PutDone, PutFault>, Fault>
+    requires { stated.old.line.told ≡ nothing_told 32 }
+{
+    put_over(rt, stated, stage, session, write)
 }
 
 // A put over a line on which one node's answers are stated.
@@ -118,13 +169,20 @@ pub fn put_stated<J: Naming, R: Wait>(
     write: Write,
     stating: Stating,
 ) -> Result<Result<PutDone, PutFault>, Fault> {
-    let line = Line::new(stage.alloc, 32)?;
-    let mut stated = Stated {
-        stage,
-        line,
-        stating,
-    };
-    put_over(rt, &mut stated, stage, session, write)
+    let mut stated = stated_on(stage, stating)?;
+    put_over_stated(rt, &mut stated, stage, session, write)
+}
+
+// A get over this line.
+fn get_over_stated<J: Naming, R: Wait>(
+    rt: &R,
+    stated: &mut Stated<'_, J>,
+    stage: &Stage<'_, J>,
+    session: &mut SessionShare<J>,
+) -> Result<GetDone<J>, GetFault>
+    requires { stated.old.line.told ≡ nothing_told 32 }
+{
+    get_over(rt, stated, stage, session)
 }
 
 // A get over such a line.
@@ -134,16 +192,43 @@ pub fn get_stated<J: Naming, R: Wait>(
     session: &mut SessionShare<J>,
     stating: Stating,
 ) -> Result<Result<GetDone<J>, GetFault>, Fault> {
-    let line = Line::new(stage.alloc, 32)?;
-    let mut stated = Stated {
-        stage,
-        line,
-        stating,
-    };
-    Ok(get_over(rt, &mut stated, stage, session))
+    let mut stated = stated_on(stage, stating)?;
+    Ok(get_over_stated(rt, &mut stated, stage, session))
 }
 
 // The homes that answered with another row than the merged one are asked to hold it.
+fn repair_directly<J: Naming, R: Wait>(
+    rt: &R,
+    stage: &Stage<'_, J>,
+    direct: &mut Direct<'_, J>,
+    done: &GetDone<J>,
+) -> Result<(), Fault>
+    requires fresh { direct.old ≡ nothing_told 32 }
+    requires key { done.now.row.key ≡ stage.now.key.now }
+{
+    repair(
+        rt,
+        stage.alloc,
+        direct,
+        done.seen.as_slice(),
+        &done.row,
+        stage.list,
+    )
+}
+
+// The same on the caller's own thread.
+fn repair_on<J: Naming, R: Wait>(
+    rt: &R,
+    stage: &Stage<'_, J>,
+    done: &GetDone<J>,
+) -> Result<(), Fault>
+    requires { done.now.row.key ≡ stage.now.key.now }
+{
+    let mut direct = Direct::new(stage.alloc, stage.nodes, stage.book, 32)?;
+    repair_directly(rt, stage, &mut direct, done)
+}
+
+// The same, where what was got is of the stage's key.
 pub fn repair_after<J: Naming, R: Wait>(
     rt: &R,
     stage: &Stage<'_, J>,
@@ -152,13 +237,5 @@ pub fn repair_after<J: Naming, R: Wait>(
     if done.row.key() != stage.key {
         return Err(Fault::Down);
     }
-    let mut direct = Direct::new(stage.alloc, stage.nodes, stage.book, 32)?;
-    repair(
-        rt,
-        stage.alloc,
-        &mut direct,
-        done.seen.as_slice(),
-        &done.row,
-        stage.list,
-    )
+    repair_on(rt, stage, done)
 }

@@ -1,4 +1,6 @@
 // What is done on a stage, and what is told of it.
+ghost use Rattle.std.specs.Prelude.{◌≡◌};
+ghost use Rattle.dy_transport.specs.Told.{nothing_told};
 
 use crate::at_nodes::{
     deliver, pass_and_write, pass_some_and_write, pass_while_and_write, set_mode, set_up,
@@ -12,7 +14,8 @@ use crate::many_keys::put_many_and_write;
 use crate::stages::{Stage, keyed_on};
 use crate::stated::Stating;
 use crate::texts::{write_get, write_list, write_put};
-use crate::wrapped::wrapped_on;
+use crate::wrapped::{Wrapped, wrapped_on};
+use dy_coord::{GetDone, GetFault, PutDone, PutFault};
 use dy_dots::Fault;
 use dy_node::Mode;
 use dy_shares::{Naming, SessionShare};
@@ -89,6 +92,20 @@ fn get_aside_and_write<J: Naming, R: Wait>(
     get_and_write(rt, &aside, session, out)
 }
 
+// What came of a get is told, and then the homes that were stale are repaired.
+fn write_and_repair<J: Naming, R: Wait>(
+    rt: &R,
+    stage: &Stage<'_, J>,
+    ended: &Result<GetDone<J>, GetFault>,
+    out: &mut String,
+) -> Result<(), Fault> {
+    write_get(stage.alloc, out, ended)?;
+    match ended {
+        Ok(done) => repair_after(rt, stage, done),
+        Err(_refused) => Ok(()),
+    }
+}
+
 // A get, which is told, and then the repair of the homes that were stale.
 fn get_and_repair<J: Naming, R: Wait>(
     rt: &R,
@@ -97,11 +114,7 @@ fn get_and_repair<J: Naming, R: Wait>(
     out: &mut String,
 ) -> Result<(), Fault> {
     let ended = get_directly(rt, stage, session)?;
-    write_get(stage.alloc, out, &ended)?;
-    match &ended {
-        Ok(done) => repair_after(rt, stage, done),
-        Err(_refused) => Ok(()),
-    }
+    write_and_repair(rt, stage, &ended, out)
 }
 
 // A put, which is told.
@@ -116,6 +129,49 @@ fn put_and_write<J: Naming, R: Wait>(
     write_put(out, &ended)
 }
 
+// A put over this transport.
+fn put_wrapped<J: Naming, R: Wait>(
+    rt: &R,
+    wrapped: &mut Wrapped<'_, J>,
+    stage: &Stage<'_, J>,
+    session: &mut SessionShare<J>,
+    write: Write,
+) -> Result<Result<PutDone, PutFault>, Fault>
+    requires { wrapped.old.direct ≡ nothing_told 32 }
+{
+    put_over(rt, wrapped, stage, session, write)
+}
+
+// The same, which is told.
+fn put_wrapped_and_write<J: Naming, R: Wait>(
+    rt: &R,
+    wrapped: &mut Wrapped<'_, J>,
+    stage: &Stage<'_, J>,
+    session: &mut SessionShare<J>,
+    write: Write,
+    out: &mut String,
+) -> Result<(), Fault>
+    requires { wrapped.old.direct ≡ nothing_told 32 }
+{
+    let ended = put_wrapped(rt, wrapped, stage, session, write)?;
+    write_put(out, &ended)
+}
+
+// The same, with the list of what came.
+fn put_wrapped_and_list<J: Naming, R: Wait>(
+    rt: &R,
+    wrapped: &mut Wrapped<'_, J>,
+    stage: &Stage<'_, J>,
+    session: &mut SessionShare<J>,
+    write: Write,
+    out: &mut String,
+) -> Result<(), Fault>
+    requires { wrapped.old.direct ≡ nothing_told 32 }
+{
+    put_wrapped_and_write(rt, wrapped, stage, session, write, out)?;
+    write_list(out, wrapped.list.as_str())
+}
+
 // A put over a transport that lists what came, while something else is done: told with the list.
 fn put_while_and_write<J: Naming, R: Wait>(
     rt: &R,
@@ -126,9 +182,7 @@ fn put_while_and_write<J: Naming, R: Wait>(
     out: &mut String,
 ) -> Result<(), Fault> {
     let mut wrapped = wrapped_on(stage, between)?;
-    let ended = put_over(rt, &mut wrapped, stage, session, write)?;
-    write_put(out, &ended)?;
-    write_list(out, wrapped.list.as_str())
+    put_wrapped_and_list(rt, &mut wrapped, stage, session, write, out)
 }
 
 // A put over a line on which one node's answers are stated, which is told.

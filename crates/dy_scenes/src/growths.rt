@@ -51,18 +51,14 @@ fn told_or_again<R: Wait>(rt: &R, alloc: Global, deeds: &[Deed]) -> Result<(Stri
     }
 }
 
-// Prints which growth was refused, where one was.
-fn tell(
-    rt: &HostRuntime,
-    ended: (String, bool),
+// Prints which growth was refused where this text was told, if one was.
+fn tell_of<R: Print>(
+    rt: &R,
+    text: &str,
     texts: &[(&'static str, &'static str)],
 ) -> Result<(), Fail> {
-    let (text, again) = ended;
-    if again {
-        println!(rt; "refused the stage, the audit or the text")?;
-    }
-    let Some(by) = refused_by(texts, text.as_str()) else {
-        println!(rt; "{}", text.as_str())?;
+    let Some(by) = refused_by(texts, text) else {
+        println!(rt; "{}", text)?;
         return Err(Fail::new("none of the texts that a refused growth gives"));
     };
     if by != "nothing" {
@@ -71,10 +67,31 @@ fn tell(
     Ok(())
 }
 
+// Prints which growth was refused, where one was.
+fn tell<R: Print>(
+    rt: &R,
+    ended: &(String, bool),
+    texts: &[(&'static str, &'static str)],
+) -> Result<(), Fail> {
+    if ended.1 {
+        println!(rt; "refused the stage, the audit or the text")?;
+    }
+    tell_of(rt, ended.0.as_str(), texts)
+}
+
+// Plays the deeds, and prints which growth was refused, where one was.
+fn play_and_tell<R: Print + Wait>(
+    rt: &R,
+    alloc: Global,
+    deeds: &[Deed],
+    texts: &[(&'static str, &'static str)],
+) -> Result<(), Fail> {
+    let ended = told_or_again(rt, alloc, deeds)?;
+    tell(rt, &ended, texts)
+}
+
 #[test]
 fn survive_a_refused_growth(rt: HostRuntime) -> Result<(), Fail> {
-    let ended = told_or_again(&rt, rt.alloc(), &DEEDS)?;
-    tell(&rt, ended, &OF_A_GET)?;
-    let ended = told_or_again(&rt, rt.alloc(), &WITH_A_PASS)?;
-    tell(&rt, ended, &OF_A_PASS)
+    play_and_tell(&rt, rt.alloc(), &DEEDS, &OF_A_GET)?;
+    play_and_tell(&rt, rt.alloc(), &WITH_A_PASS, &OF_A_PASS)
 }

@@ -1,20 +1,23 @@
 // Puts of many keys, each of one home.
+ghost use Rattle.std.specs.Prelude.{◌≡◌};
+ghost use Rattle.dy_preference.specs.Preferences.{preference_of};
 
 use crate::calls::{After, Write, put_directly};
-use crate::stages::{Stage, keyed_on};
+use crate::stages::{Keyed, Stage, keyed_on};
 use dy_dots::Fault;
 use dy_shares::{Naming, SessionShare};
 use std::sync::Wait;
 
-// A put of the key of this number, and whether it was acknowledged.
-fn put_numbered<J: Naming, R: Wait>(
+// A put of the key, and whether it was acknowledged.
+fn put_keyed<J: Naming, R: Wait>(
     rt: &R,
     stage: &Stage<'_, J>,
     session: &mut SessionShare<J>,
-    number: usize,
-) -> Result<bool, Fault> {
-    let text = format!(in stage.alloc; "k{number}")?;
-    let keyed = keyed_on(stage, text.as_bytes())?;
+    keyed: &Keyed,
+) -> Result<bool, Fault>
+    requires of_key { keyed.now.list.nodes ≡ preference_of J.ring keyed.now.key }
+    requires homes { keyed.now.list.n ≡ J.n }
+{
     let here = Stage {
         alloc: stage.alloc,
         nodes: stage.nodes,
@@ -31,6 +34,28 @@ fn put_numbered<J: Naming, R: Wait>(
     };
     let ended = put_directly(rt, &here, session, write)?;
     Ok(ended.is_ok())
+}
+
+// The same of the key of these bytes.
+fn put_spelled<J: Naming, R: Wait>(
+    rt: &R,
+    stage: &Stage<'_, J>,
+    session: &mut SessionShare<J>,
+    bytes: &[u8],
+) -> Result<bool, Fault> {
+    let keyed = keyed_on(stage, bytes)?;
+    put_keyed(rt, stage, session, &keyed)
+}
+
+// The same of the key of this number.
+fn put_numbered<J: Naming, R: Wait>(
+    rt: &R,
+    stage: &Stage<'_, J>,
+    session: &mut SessionShare<J>,
+    number: usize,
+) -> Result<bool, Fault> {
+    let text = format!(in stage.alloc; "k{number}")?;
+    put_spelled(rt, stage, session, text.as_bytes())
 }
 
 // How many puts of so many keys were acknowledged.

@@ -1,6 +1,8 @@
 // A new book of five nodes, on which a scene is played, and its audit.
-ghost use Rattle.std.specs.Prelude.{◌≡◌, ◌≤◌};
+ghost use Rattle.std.specs.Prelude.{◌≡◌, ◌<◌, ◌≤◌, [], IfOk, vec_len, vec_capacity};
+ghost use Rattle.std.specs.List.{All};
 ghost use Rattle.dy_preference.specs.Preferences.{preference_of};
+ghost use Rattle.dy_shares.specs.Shares.{first_parts};
 
 use crate::deeds::{Deed, all_done};
 use crate::members::{Places, give_all_back, places_of};
@@ -8,8 +10,9 @@ use crate::stages::{Keyed, Stage, with_list};
 use crate::texts::write_audit;
 use dy_book::{Audit, Book, CloseRefused, Options};
 use dy_dots::Fault;
+use dy_node::Node;
 use dy_ring::Ring;
-use dy_shares::{Blank, Naming};
+use dy_shares::{Blank, Naming, NodeShare, SessionShare};
 use std::alloc::Global;
 use std::marker::Brand;
 use std::process::Abort;
@@ -28,14 +31,25 @@ const SPREAD: [u128; 5] = [
 // Each key that lies between has node 0 for its first node, and node 1 for its second.
 const ALL_TO_NODE_0: [u128; 5] = [0xffffffffffffffffffffffffffffffff, 0, 1, 2, 3];
 
-// A ring of five nodes with a token each.
-fn five_nodes(alloc: Global, positions: [u128; 5]) -> Result<Ring, Fault> {
+// A list of the one token.
+fn one_token(alloc: Global, position: u128) -> Result<Vec<u128>, Fault> {
+    let mut list = Vec::new(alloc);
+    list.push(position)?;
+    Ok(list)
+}
+
+// A list of each node's token.
+fn five_lists(alloc: Global, positions: [u128; 5]) -> Result<Vec<Vec<u128>>, Fault> {
     let mut lists = Vec::new(alloc);
     for position in positions {
-        let mut list = Vec::new(alloc);
-        list.push(position)?;
-        lists.push(list)?;
+        lists.push(one_token(alloc, position)?)?;
     }
+    Ok(lists)
+}
+
+// A ring of five nodes with a token each.
+fn five_nodes(alloc: Global, positions: [u128; 5]) -> Result<Ring, Fault> {
+    let lists = five_lists(alloc, positions)?;
     Ring::from_tokens(alloc, lists.as_slice())
 }
 
@@ -76,6 +90,137 @@ fn ended<J: Naming>(
     }
 }
 
+// What is played: the deeds on a key with its list.
+#[derive(Drop)]
+struct Scene<'a> {
+    alloc: Global,
+    ring: &'a Ring,
+    n: u8,
+    first: &'a Keyed,
+    deeds: &'a [Deed],
+}
+
+// Does the deeds at these nodes.
+fn acted<J: Naming, R: Wait>(
+    rt: &R,
+    scene: &Scene<'_>,
+    nodes: &[Mutex<Node<J>>],
+    book: &Mutex<Book<J>>,
+    session: &mut SessionShare<J>,
+    out: &mut String,
+) -> Result<(), Fault>
+    requires ring { scene.now.ring.now ≡ J.ring }
+    requires n { scene.now.n ≡ J.n }
+    requires first { scene.now.first.now.list.nodes
+        ≡ preference_of J.ring scene.now.first.now.key }
+    requires first_homes { scene.now.first.now.list.n ≡ J.n }
+{
+    let stage = Stage {
+        alloc: scene.alloc,
+        nodes,
+        book,
+        ring: scene.ring,
+        n: scene.n,
+        key: &scene.first.key,
+        list: &scene.first.list,
+    };
+    all_done(rt, &stage, session, scene.deeds, out)
+}
+
+// Does the deeds at nodes of these shares, which are lent.
+fn acted_by<J: Naming, R: Wait>(
+    rt: &R,
+    scene: &Scene<'_>,
+    book: &Mutex<Book<J>>,
+    shares: &mut Vec<NodeShare<J>>,
+    session: &mut SessionShare<J>,
+    out: &mut String,
+) -> Result<(), Fault>
+    requires ring { scene.now.ring.now ≡ J.ring }
+    requires n { scene.now.n ≡ J.n }
+    requires first { scene.now.first.now.list.nodes
+        ≡ preference_of J.ring scene.now.first.now.key }
+    requires first_homes { scene.now.first.now.list.n ≡ J.n }
+    requires five { vec_len shares.old ≡ 5 }
+    requires fresh { All (λ p. p.steps ≡ []) shares.old.items }
+{
+    let places = places_of(scene.alloc, shares);
+    let done = acted(rt, scene, &places.nodes, book, session, out);
+    give_all_back(shares, places);
+    done
+}
+
+// Plays the scene on this book, which is closed with all its shares.
+fn play_with<J: Naming, R: Wait>(
+    rt: &R,
+    scene: &Scene<'_>,
+    book: Book<J>,
+    mut shares: Vec<NodeShare<J>>,
+    mut sessions: Vec<SessionShare<J>>,
+    mut session: SessionShare<J>,
+    is_whole: bool,
+) -> Result<String, Fault>
+    requires ring { scene.now.ring.now ≡ J.ring }
+    requires n { scene.now.n ≡ J.n }
+    requires first { scene.now.first.now.list.nodes
+        ≡ preference_of J.ring scene.now.first.now.key }
+    requires first_homes { scene.now.first.now.list.n ≡ J.n }
+    requires five { vec_len shares ≡ 5 }
+    requires fresh { All (λ p. p.steps ≡ []) shares.items }
+    requires room { vec_len sessions < vec_capacity sessions }
+{
+    let mut out = String::new(scene.alloc);
+    let book = Mutex::new(book);
+    let done = acted_by(rt, scene, &book, &mut shares, &mut session, &mut out);
+    sessions.push_reserved(session);
+    let closed = book.into_inner().close(shares, sessions);
+    ended(scene.alloc, done, out, closed, is_whole)
+}
+
+// Plays the scene on this book in a session of its own.
+fn play_on<J: Naming, R: Wait>(
+    rt: &R,
+    scene: &Scene<'_>,
+    mut book: Book<J>,
+    shares: Vec<NodeShare<J>>,
+    sessions: Vec<SessionShare<J>>,
+    is_whole: bool,
+) -> Result<String, Fault>
+    requires ring { scene.now.ring.now ≡ J.ring }
+    requires n { scene.now.n ≡ J.n }
+    requires first { scene.now.first.now.list.nodes
+        ≡ preference_of J.ring scene.now.first.now.key }
+    requires first_homes { scene.now.first.now.list.n ≡ J.n }
+    requires five { vec_len shares ≡ 5 }
+    requires fresh { All (λ p. p.steps ≡ []) shares.items }
+    requires room { vec_len sessions < vec_capacity sessions }
+{
+    match book.session() {
+        Ok(session) => play_with(rt, scene, book, shares, sessions, session, is_whole),
+        Err(fault) => {
+            book.abandon(shares, sessions);
+            Err(fault)
+        }
+    }
+}
+
+// A new book of the ring, and the shares of its nodes.
+fn opened<J: Naming>(
+    alloc: Global,
+    blank: Blank,
+    ring: &Ring,
+    options: Options,
+) -> Result<(Book<J>, Vec<NodeShare<J>>), Fault>
+    requires named { blank ≡ record { book = J.book; table = J.table } }
+    requires ring { ring.now ≡ J.ring }
+    requires n { options.n ≡ J.n }
+    requires r { options.r ≡ J.r }
+    ensures { IfOk result (λ p. p.1.items ≡ first_parts J.ring.nodes) }
+{
+    let copy = ring.try_clone(alloc)?;
+    Book::<J>::open(alloc, blank, copy, options)
+}
+
 // Plays the scene on a new book, which is closed with all its shares.
 fn play<J: Naming, R: Wait>(
     rt: &R,
@@ -95,43 +240,62 @@ fn play<J: Naming, R: Wait>(
     requires first { first.now.list.nodes ≡ preference_of J.ring first.now.key }
     requires first_homes { first.now.list.n ≡ J.n }
 {
-    let mut out = String::new(alloc);
-    let copy = ring.try_clone(alloc)?;
-    let mut sessions = Vec::with_capacity(alloc, 1)?;
-    let (mut book, mut shares) = match Book::<J>::open(alloc, blank, copy, options) {
-        Ok(opened) => opened,
-        Err(fault) => {
-            sessions.destroy_empty();
-            return Err(fault);
-        }
-    };
-    let mut session = match book.session() {
-        Ok(session) => session,
-        Err(fault) => {
-            book.abandon(shares, sessions);
-            return Err(fault);
-        }
-    };
-    let places = places_of(alloc, &mut shares);
-    let book = Mutex::new(book);
-    let stage = Stage {
+    let scene = Scene {
         alloc,
-        nodes: &places.nodes,
-        book: &book,
         ring,
         n: options.n,
-        key: &first.key,
-        list: &first.list,
+        first,
+        deeds,
     };
-    let done = all_done(rt, &stage, &mut session, deeds, &mut out);
-    sessions.push_reserved(session);
-    give_all_back(&mut shares, places);
-    let closed = book.into_inner().close(shares, sessions);
-    ended(alloc, done, out, closed, is_whole)
+    let sessions = Vec::with_capacity(alloc, 1)?;
+    match opened::<J>(alloc, blank, ring, options) {
+        Ok((book, shares)) => play_on(rt, &scene, book, shares, sessions, is_whole),
+        Err(fault) => {
+            sessions.destroy_empty();
+            Err(fault)
+        }
+    }
+}
+
+// What the deeds tell from this key on a new book, and then the audit.
+fn played<R: Wait>(
+    rt: &R,
+    alloc: Global,
+    ring: &Ring,
+    options: Options,
+    first: &Keyed,
+    deeds: &[Deed],
+    is_whole: bool,
+) -> Result<String, Fault>
+    requires five { ring.now.nodes ≡ 5 }
+    requires first { first.now.list.nodes ≡ preference_of ring.now first.now.key }
+    requires first_homes { first.now.list.n ≡ options.n }
+{
+    let blank = Blank::new(alloc)?;
+    play::<Brand, R>(rt, alloc, blank, ring, options, first, deeds, is_whole)
+}
+
+// What the deeds tell on the ring, and then the audit.
+fn played_on<R: Wait>(
+    rt: &R,
+    alloc: Global,
+    ring: &Ring,
+    options: Options,
+    deeds: &[Deed],
+    is_whole: bool,
+) -> Result<String, Fault>
+    requires some { 1 ≤ options.n }
+    requires few { options.n ≤ 5 }
+{
+    if ring.nodes() != 5 {
+        return Err(Fault::TooMany);
+    }
+    let first = with_list(alloc, ring, options.n, b"a")?;
+    played(rt, alloc, ring, options, &first, deeds, is_whole)
 }
 
 // What the deeds tell on a ring of these tokens, and then the audit.
-fn played<R: Wait>(
+fn played_at<R: Wait>(
     rt: &R,
     alloc: Global,
     positions: [u128; 5],
@@ -143,12 +307,7 @@ fn played<R: Wait>(
     requires few { options.n ≤ 5 }
 {
     let ring = five_nodes(alloc, positions)?;
-    if ring.nodes() != 5 {
-        return Err(Fault::TooMany);
-    }
-    let first = with_list(alloc, &ring, options.n, b"a")?;
-    let blank = Blank::new(alloc)?;
-    play::<Brand, R>(rt, alloc, blank, &ring, options, &first, deeds, is_whole)
+    played_on(rt, alloc, &ring, options, deeds, is_whole)
 }
 
 // What the deeds on the key `a` tell, and then the audit.
@@ -160,7 +319,7 @@ pub fn told<R: Wait>(
 ) -> Result<String, Fault>
     requires { options.n ≡ 3 }
 {
-    played(rt, alloc, SPREAD, options, deeds, true)
+    played_at(rt, alloc, SPREAD, options, deeds, true)
 }
 
 // Plays the deeds, and compares what is told with what is wanted.
@@ -195,7 +354,7 @@ fn told_of_one_home<R: Wait>(
         versions_limit,
         steps_limit,
     };
-    played(rt, alloc, ALL_TO_NODE_0, options, deeds, false)
+    played_at(rt, alloc, ALL_TO_NODE_0, options, deeds, false)
 }
 
 // Plays the deeds where node 0 is the one home of each key, and compares what is told.

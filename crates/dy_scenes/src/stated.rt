@@ -1,7 +1,8 @@
 //! A transport of the tests' own, on a line: what is read of one node's answers is stated.
-ghost use Rattle.std.specs.Prelude.{◌≡◌, IsTrue, IfOk, IfErr, IsOkUnless};
+ghost use Rattle.std.specs.Prelude.{◌≡◌, IsTrue, IfOk, IfErr, IfSome, IsOkUnless};
 ghost use Rattle.dy_preference.specs.Preferences.{homes_of, may_hold};
 ghost use Rattle.dy_node.specs.Answers.{MayAsk};
+ghost use Rattle.dy_node.specs.declared.asks.Answer.TheVariants.{NoAnswer};
 ghost use Rattle.dy_transport.specs.Asking.{IsAnswerTo, IsBegun, IsSeenAt};
 ghost use Rattle.dy_transport.specs.Refusals.{IsOfBegin, IsOfNode};
 ghost use Rattle.dy_transport.specs.Snapshots.{snapshot_of};
@@ -38,6 +39,21 @@ pub struct Stated<'a, J: Naming> {
     pub stage: &'a Stage<'a, J>,
     pub line: Line<J>,
     pub stating: Stating,
+}
+
+// The transport of one call.
+pub fn stated_on<'a, J: Naming>(
+    stage: &'a Stage<'a, J>,
+    stating: Stating,
+) -> Result<Stated<'a, J>, Fault>
+    ensures { IfOk result (λ stated. stated.line.told ≡ nothing_told 32) }
+{
+    let line = Line::new(stage.alloc, 32)?;
+    Ok(Stated {
+        stage,
+        line,
+        stating,
+    })
 }
 
 // What stands behind a reference, for contracts alone.
@@ -98,6 +114,37 @@ impl<'a, J: Naming> Stated<'a, J> {
         match self.direct() {
             Ok(mut direct) => answered_over(rt, &mut direct, to, ask),
             Err(_fault) => Answer::NoAnswer,
+        }
+    }
+
+    // What is read later of what the node answers.
+    fn later<R: Wait>(&self, rt: &R, to: NodeId, ask: &Ask<'_, J>) -> Answer<J>
+        requires { MayAsk J.ring J.n to ask.now }
+        ensures { IsAnswerTo to ask.now result }
+    {
+        let answer = self.answered(rt, to, ask);
+        match self.stating.fate {
+            Fate::Late => answer,
+            Fate::Lost => Answer::NoAnswer,
+        }
+    }
+
+    // What is read of what the node answers, at first and later.
+    fn read_of<R: Wait>(
+        &self,
+        rt: &R,
+        to: NodeId,
+        ask: &Ask<'_, J>,
+    ) -> (Answer<J>, Option<Answer<J>>)
+        requires { MayAsk J.ring J.n to ask.now }
+        ensures first { IsAnswerTo to ask.now result.0 }
+        ensures second { IfSome result.1 (λ second. IsAnswerTo to ask.now second) }
+        ensures awaited { IfSome result.1 (λ _. result.0 ≡ NoAnswer) }
+    {
+        if to == self.stating.node {
+            (Answer::NoAnswer, Some(self.later(rt, to, ask)))
+        } else {
+            (self.answered(rt, to, ask), None)
         }
     }
 }
@@ -194,16 +241,8 @@ impl<J: Naming> Transport<J> for Stated<'_, J> {
     }
 
     fn ask<R: Wait>(&mut self, rt: &R, to: NodeId, ask: &Ask<'_, J>) {
-        let answer = self.answered(rt, to, ask);
-        if to != self.stating.node {
-            self.line.put(to, ask, answer, None);
-            return;
-        }
-        let later = match self.stating.fate {
-            Fate::Late => answer,
-            Fate::Lost => Answer::NoAnswer,
-        };
-        self.line.put(to, ask, Answer::NoAnswer, Some(later));
+        let (first, later) = self.read_of(rt, to, ask);
+        self.line.put(to, ask, first, later);
     }
 
     fn next_reply<R: Wait>(&mut self, rt: &R) -> Option<(NodeId, NodeId, Answer<J>)> {

@@ -17,7 +17,7 @@ pub fn write_place(out: &mut String, place: Place) -> Result<(), Fault> {
 }
 
 // The kind of an answer.
-fn write_kind(out: &mut String, kind: AnswerKind) -> Result<(), Fault> {
+pub fn write_kind(out: &mut String, kind: AnswerKind) -> Result<(), Fault> {
     write!(out, "={kind}")?;
     Ok(())
 }
@@ -169,6 +169,24 @@ pub fn write_list(out: &mut String, list: &str) -> Result<(), Fault> {
     Ok(())
 }
 
+// How many places and puts the audit lists.
+fn write_sizes(out: &mut String, audit: &Audit) -> Result<(), Fault> {
+    write!(
+        out,
+        "held {} acked {} ",
+        audit.held.len(),
+        audit.acked.len()
+    )?;
+    Ok(())
+}
+
+// The other counts of the audit.
+fn write_counts(out: &mut String, audit: &Audit) -> Result<(), Fault> {
+    write!(out, "gets {} steps {}", audit.gets, audit.steps)?;
+    write!(out, " settled {}\n", audit.settled.len())?;
+    Ok(())
+}
+
 // What the audit tells: each place and put, or how many there are, and then the other counts.
 pub fn write_audit(
     alloc: Global,
@@ -180,14 +198,7 @@ pub fn write_audit(
         write_held(alloc, out, audit.held.as_slice())?;
         write_acked(out, audit.acked.as_slice())?;
     } else {
-        write!(
-            out,
-            "held {} acked {} ",
-            audit.held.len(),
-            audit.acked.len()
-        )?;
+        write_sizes(out, audit)?;
     }
-    write!(out, "gets {} steps {}", audit.gets, audit.steps)?;
-    write!(out, " settled {}\n", audit.settled.len())?;
-    Ok(())
+    write_counts(out, audit)
 }

@@ -5,6 +5,8 @@ ghost use Rattle.dy_transport.specs.Told.{nothing_told};
 
 use crate::handovers::{Between, after_an_offer, before_a_record};
 use crate::stages::Stage;
+use crate::texts::{write_kind, write_place};
+use dy_core::Place;
 use dy_dots::{Context, Fault, NodeId};
 use dy_node::{Answer, Ask, Begun};
 use dy_shares::{Naming, Receipt, Seen, SessionShare, Since};
@@ -47,6 +49,13 @@ fn list_begun<J: Naming>(list: &mut String, gave: &Result<Begun<J>, Fault>) -> R
     Ok(())
 }
 
+// Lists an answer of this kind.
+fn list_answer(list: &mut String, place: Place, kind: AnswerKind) -> Result<(), Fault> {
+    list.push_str(" read")?;
+    write_place(list, place)?;
+    write_kind(list, kind)
+}
+
 // Lists an answer, or that none was left.
 fn list_read<J: Naming>(
     list: &mut String,
@@ -56,9 +65,11 @@ fn list_read<J: Naming>(
         list.push_str(" read none")?;
         return Ok(());
     };
-    let kind = AnswerKind::of(answer);
-    write!(list, " read {node}/{home}={kind}")?;
-    Ok(())
+    let place = Place {
+        holder: *node,
+        home: *home,
+    };
+    list_answer(list, place, AnswerKind::of(answer))
 }
 
 impl<J: Naming> Transport<J> for Wrapped<'_, J> {
