@@ -33,17 +33,12 @@ pub(crate) fn empty_world(alloc: Global) -> Result<World, Fail> {
     Ok(World::new(alloc, ring, 3)?)
 }
 
-fn apply(alloc: Global, world: &mut World, step: Step) -> Result<(), Fault> {
-    let _answer = world.apply(alloc, step)?;
-    Ok(())
-}
-
 // Makes the step, where it is allowed.
 pub(crate) fn made(alloc: Global, world: &mut World, step: Step) -> Result<bool, Fault> {
     if !world.allows(alloc, &step)? {
         return Ok(false);
     }
-    apply(alloc, world, step)?;
+    let _answer = world.apply(alloc, step)?;
     Ok(true)
 }
 
