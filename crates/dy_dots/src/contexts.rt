@@ -176,10 +176,3 @@ pub fn spelling_is_the_text()
 pub fn written_is_read_back()
     ensures { ReadsBack }
 {}
-
-#[cfg(test)]
-mod growths;
-#[cfg(test)]
-mod oracle;
-#[cfg(test)]
-mod tests;

@@ -99,6 +99,3 @@ impl fmt::Display for Dot {
         write!(f, "n{}:{}", self.node, self.counter)
     }
 }
-
-#[cfg(test)]
-mod tests;

@@ -286,10 +286,3 @@ fn commands_in(alloc: Global, list: &[Value], nodes: usize) -> Result<Vec<Comman
     }
     Ok(found)
 }
-
-#[cfg(test)]
-mod growths;
-#[cfg(test)]
-mod long;
-#[cfg(test)]
-mod tests;

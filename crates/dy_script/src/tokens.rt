@@ -16,6 +16,3 @@ pub fn token(text: &str) -> Option<u128>
         Err(_) => None,
     }
 }
-
-#[cfg(test)]
-mod tests;

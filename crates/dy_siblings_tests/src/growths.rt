@@ -1,8 +1,8 @@
 //! Calls whose growth may be refused: the row is as before, and the same call then answers what it
 //! would have. Run with each allocation refused in turn, one a run.
 
-use crate::{Key, Row, Value, Version};
 use dy_dots::{Context, Dot, Fault, NodeId};
+use dy_siblings::{Key, Row, Value, Version};
 use std::alloc::Global;
 use std::test::Fail;
 

@@ -1,6 +1,5 @@
-use super::*;
-use crate::nodes::MAX_NODES;
-use crate::runs::Run;
+use dy_dots::{Dot, MAX_COUNTER, MAX_NODES, NodeId, Run};
+use std::fmt;
 use std::test::Fail;
 
 #[test]

@@ -1,7 +1,9 @@
 //! A script whose growths may be refused: the refusal is want of memory and no other, and the same
 //! text is then read. Run with each allocation failing in turn, one a run.
 
-use super::*;
+use dy_dots::Fault;
+use dy_script::{Script, read};
+use std::alloc::Global;
 use std::test::Fail;
 
 const TEXT: &[u8] = br#"{"n":1,"r":1,"w":1,"tokens":[["20"],["60"]],"keys":["a"],"run":[

@@ -1,6 +1,8 @@
 //! Scripts at the greatest number of commands.
 
-use super::*;
+use dy_dots::Fault;
+use dy_script::{MAX_COMMANDS, read};
+use std::alloc::Global;
 use std::test::Fail;
 
 /// A script up to its first command.

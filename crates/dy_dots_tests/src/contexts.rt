@@ -1,5 +1,5 @@
-use super::*;
-use crate::nodes::NodeId;
+use dy_dots::{Context, Dot, Fault, NodeId};
+use std::alloc::Global;
 use std::test::Fail;
 
 fn written(alloc: Global, context: &Context) -> Result<String, Fault> {

@@ -1,4 +1,4 @@
-use super::*;
+use dy_script::token;
 
 #[test]
 fn names_positions(rt: HostRuntime) {

@@ -2,8 +2,8 @@
 
 ghost use Rattle.std.specs.Prelude.{◌<◌};
 
-use super::*;
-use crate::nodes::NodeId;
+use dy_dots::{Context, Dot, Fault, NodeId, Run};
+use std::alloc::Global;
 use std::test::Fail;
 
 const NODES: u8 = 3;

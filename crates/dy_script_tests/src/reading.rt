@@ -1,6 +1,9 @@
 //! What JSON is a script, and what is refused, case by case.
 
-use super::*;
+use dy_dots::Fault;
+use dy_script::{Command, Layout, Limits, Script, read};
+use dy_siblings::Key;
+use std::alloc::Global;
 use std::process::Abort;
 use std::test::Fail;
 

@@ -1,8 +1,8 @@
 //! Calls whose growth may be refused: the context or the text is as before, and the same call then
 //! answers what it would have. Run with each allocation failing in turn, one a run.
 
-use super::*;
-use crate::nodes::NodeId;
+use dy_dots::{Context, Dot, Fault, NodeId};
+use std::alloc::Global;
 use std::test::Fail;
 
 const EARLY: &str = "n0:1,3,5,7,9 n1:1,3,5";

@@ -1,7 +1,5 @@
-mod growths;
-
-use crate::{Key, Row, Value, Version};
 use dy_dots::{Context, Dot, NodeId};
+use dy_siblings::{Key, Row, Value, Version};
 use std::alloc::Global;
 
 // The dot `node:counter`.

@@ -1,4 +1,4 @@
-use super::*;
+use dy_dots::{Dot, Fault, NodeId};
 use std::test::Fail;
 
 /// Whether the refusal is printed as the text.
