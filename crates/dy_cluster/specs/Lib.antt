@@ -1,4 +1,5 @@
 pub mod Ends
 pub mod Lists
 pub mod Named
+pub mod Refusals
 pub mod Stores

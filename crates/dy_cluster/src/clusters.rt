@@ -97,6 +97,8 @@ impl<J: Naming> Cluster<J> {
             × (sessions.new.items ≡ sessions.old.items ++ session ∷ [])
             × (session.acks ≡ []) × (session.gets ≡ [])) }
         ensures err { OnErr result (sessions.new.items ≡ sessions.old.items) }
+        ensures only { IfErr result (λ fault. (fault ≡ Fault.OutOfMemory)
+            ⊎ (fault ≡ Fault.TooMany)) }
     {
         sessions.reserve(1)?;
         let session = self.session(rt)?;

@@ -1,8 +1,11 @@
 // Clients that write to the nodes' workers.
-ghost use Rattle.std.specs.Prelude.{◌≡◌, [], IfOk, IsOkUnless, List, length};
+ghost use Rattle.std.specs.Prelude.{◌≡◌, ◌↔◌, ◌⊎◌, [], List, length};
+ghost use Rattle.std.specs.Prelude.{IfOk, IfErr, IsErrOf, IsOkUnless};
+ghost use Rattle.dy_book.specs.Limits.{AreLimits, IsQuorum};
 ghost use Rattle.dy_shares.specs.Shares.{SessionPart};
 ghost use Rattle.dy_cluster.specs.Ends.{IsClosed};
 ghost use Rattle.dy_cluster.specs.Named.{NamesBook};
+ghost use Rattle.dy_cluster.specs.Refusals.{IsRunRefusal};
 
 use crate::clusters::Cluster;
 use crate::embedding::{MOST_CLIENTS, seat_clients};
@@ -47,8 +50,12 @@ pub fn with_workers<C: Correspondent + Sync, G: Gate + Sync, R: Threads + Wait +
     clients: u8,
     client: &C,
 ) -> Result<Closed, Fault>
-    ensures { IfOk result (λ closed. (tellings : List SessionPart)
+    ensures closed { IfOk result (λ closed. (tellings : List SessionPart)
         × IsClosed ring options.n options.r tellings closed × length tellings ≡ clients) }
+    ensures too_many { ¬ (AreLimits options) → IsErrOf result Fault.TooMany }
+    ensures bad_quorum { IsErrOf result Fault.BadQuorum
+        ↔ (AreLimits options × ¬ (IsQuorum options ring.nodes)) }
+    ensures only { IfErr result (λ fault. (fault ≡ Fault.BadQuorum) ⊎ IsRunRefusal fault) }
 {
     let opened = Opened::new(alloc, ring, options)?;
     run_staffed::<Brand, C, G, R>(rt, alloc, opened, gate, clients, client)
@@ -62,9 +69,10 @@ fn run_staffed<
     R: Threads + Wait + Sync,
 >(rt: &R, alloc: Global, opened: Opened, gate: &G, clients: u8, client: &C) -> Result<Closed, Fault>
     requires named { NamesBook J.book J.table J.ring J.n J.r opened }
-    ensures { IfOk result (λ closed. (tellings : List SessionPart)
+    ensures closed { IfOk result (λ closed. (tellings : List SessionPart)
         × IsClosed opened.ring opened.options.n opened.options.r tellings closed
         × (length tellings ≡ clients)) }
+    ensures only { IfErr result IsRunRefusal }
 {
     let cluster = Cluster::<J>::open(alloc, opened)?;
     let mut sessions = Vec::new(alloc);
@@ -94,7 +102,8 @@ fn run_seated<
     client: &C,
 ) -> Result<(), Fault>
     requires none { sessions.old.items ≡ [] }
-    ensures { IfOk result (λ _. length sessions.new.items ≡ clients) }
+    ensures ok { IfOk result (λ _. length sessions.new.items ≡ clients) }
+    ensures only { IfErr result IsRunRefusal }
 {
     seat_clients(rt, cluster, sessions, clients)?;
     let (post, inboxes) = cluster.post()?;

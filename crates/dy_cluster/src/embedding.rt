@@ -1,7 +1,9 @@
-ghost use Rattle.std.specs.Prelude.{◌≡◌, [], IfOk, List, length};
+ghost use Rattle.std.specs.Prelude.{◌≡◌, ◌↔◌, ◌⊎◌, [], IfOk, IfErr, IsErrOf, List, length};
+ghost use Rattle.dy_book.specs.Limits.{AreLimits, IsQuorum};
 ghost use Rattle.dy_shares.specs.Shares.{SessionPart};
 ghost use Rattle.dy_cluster.specs.Ends.{IsClosed};
 ghost use Rattle.dy_cluster.specs.Named.{NamesBook};
+ghost use Rattle.dy_cluster.specs.Refusals.{IsRunRefusal};
 
 use crate::clusters::Cluster;
 use crate::openings::Opened;
@@ -57,8 +59,11 @@ pub fn with_cluster<W: Work, R: Wait>(
     options: Options,
     work: &mut W,
 ) -> Result<Closed, Fault>
-    ensures { IfOk result (λ closed. (tellings : List SessionPart)
+    ensures closed { IfOk result (λ closed. (tellings : List SessionPart)
         × IsClosed ring options.n options.r tellings closed × W.told work.new tellings) }
+    ensures too_many { ¬ (AreLimits options) → IsErrOf result Fault.TooMany }
+    ensures bad_quorum { AreLimits options → ¬ (IsQuorum options ring.nodes) →
+        IsErrOf result Fault.BadQuorum }
 {
     let opened = Opened::new(alloc, ring, options)?;
     run_named::<Brand, W, R>(rt, alloc, opened, work)
@@ -98,8 +103,12 @@ pub fn with_clients<C: Client + Sync, R: Threads + Wait + Sync>(
     clients: u8,
     client: &C,
 ) -> Result<Closed, Fault>
-    ensures { IfOk result (λ closed. (tellings : List SessionPart)
+    ensures closed { IfOk result (λ closed. (tellings : List SessionPart)
         × IsClosed ring options.n options.r tellings closed × length tellings ≡ clients) }
+    ensures too_many { ¬ (AreLimits options) → IsErrOf result Fault.TooMany }
+    ensures bad_quorum { IsErrOf result Fault.BadQuorum
+        ↔ (AreLimits options × ¬ (IsQuorum options ring.nodes)) }
+    ensures only { IfErr result (λ fault. (fault ≡ Fault.BadQuorum) ⊎ IsRunRefusal fault) }
 {
     let opened = Opened::new(alloc, ring, options)?;
     run_clients::<Brand, C, R>(rt, alloc, opened, clients, client)
@@ -114,9 +123,10 @@ fn run_clients<J: Naming + Send + Sync, C: Client + Sync, R: Threads + Wait + Sy
     client: &C,
 ) -> Result<Closed, Fault>
     requires named { NamesBook J.book J.table J.ring J.n J.r opened }
-    ensures { IfOk result (λ closed. (tellings : List SessionPart)
+    ensures closed { IfOk result (λ closed. (tellings : List SessionPart)
         × IsClosed opened.ring opened.options.n opened.options.r tellings closed
         × (length tellings ≡ clients)) }
+    ensures only { IfErr result IsRunRefusal }
 {
     let cluster = Cluster::<J>::open(alloc, opened)?;
     let mut sessions = Vec::new(alloc);
@@ -141,7 +151,8 @@ pub(crate) fn seat_clients<J: Naming, R: Wait>(
     clients: u8,
 ) -> Result<(), Fault>
     requires none { sessions.old.items ≡ [] }
-    ensures { IfOk result (λ _. length sessions.new.items ≡ clients) }
+    ensures ok { IfOk result (λ _. length sessions.new.items ≡ clients) }
+    ensures only { IfErr result IsRunRefusal }
 {
     for _ in 0..clients {
         let _place = cluster.seat(rt, sessions)?;

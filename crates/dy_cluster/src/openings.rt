@@ -1,4 +1,4 @@
-ghost use Rattle.std.specs.Prelude.{◌≡◌, ◌↔◌, IfOk, IsErrOf, IsOkUnless};
+ghost use Rattle.std.specs.Prelude.{◌≡◌, ◌↔◌, ◌⊎◌, IfOk, IfErr, IsErrOf, IsOkUnless};
 ghost use Rattle.dy_book.specs.Limits.{AreLimits, IsQuorum};
 
 use dy_book::Options;
@@ -29,6 +29,8 @@ impl Opened {
             ↔ (AreLimits options × ¬ (IsQuorum options ring.nodes)) }
         ensures memory { AreLimits options → IsQuorum options ring.nodes →
             IsOkUnless result Fault.OutOfMemory }
+        ensures only { IfErr result (λ fault. (fault ≡ Fault.TooMany)
+            ⊎ (fault ≡ Fault.BadQuorum) ⊎ (fault ≡ Fault.OutOfMemory)) }
     {
         if !options.has_limits() {
             return Err(Fault::TooMany);

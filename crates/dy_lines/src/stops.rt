@@ -1,3 +1,6 @@
+ghost use Rattle.std.specs.Prelude.{◌≡◌};
+ghost use Rattle.dy_lines.specs.declared.stops.Stopped.{Stopped};
+
 use dy_dots::Fault;
 use std::io;
 use thiserror::Error;
@@ -14,6 +17,8 @@ pub enum Stopped {
 }
 
 impl From<Fault> for Stopped {
+    ghost from_gives = { λ fault stopped. stopped ≡ Stopped.Refused fault };
+
     fn from(fault: Fault) -> Stopped {
         Stopped::Refused(fault)
     }

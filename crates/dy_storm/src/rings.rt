@@ -1,5 +1,5 @@
 // The cluster of a storm.
-ghost use Rattle.std.specs.Prelude.{◌≡◌, ◌∷◌, [], IfOk};
+ghost use Rattle.std.specs.Prelude.{◌≡◌, ◌∷◌, [], IfOk, IsOkUnless};
 ghost use Rattle.dy_ring.specs.Lists.{IsRingOf};
 ghost use Rattle.dy_storm.specs.Clusters.{five_tokens, storm_options};
 
@@ -10,7 +10,8 @@ use std::alloc::Global;
 
 /// The ring of five nodes.
 pub(crate) fn five_nodes(alloc: Global) -> Result<Ring, Fault>
-    ensures { IfOk result (λ ring. IsRingOf five_tokens ring) }
+    ensures ring { IfOk result (λ ring. IsRingOf five_tokens ring) }
+    ensures memory { IsOkUnless result Fault.OutOfMemory }
 {
     let mut lists = Vec::new(alloc);
     lists.push(list_of(alloc, 0x20000000000000000000000000000000)?)?;
@@ -23,7 +24,8 @@ pub(crate) fn five_nodes(alloc: Global) -> Result<Ring, Fault>
 
 // The tokens of a node that has one.
 fn list_of(alloc: Global, position: u128) -> Result<Vec<u128>, Fault>
-    ensures { IfOk result (λ list. list.items ≡ position ∷ []) }
+    ensures list { IfOk result (λ list. list.items ≡ position ∷ []) }
+    ensures memory { IsOkUnless result Fault.OutOfMemory }
 {
     let mut list = Vec::new(alloc);
     list.push(position)?;

@@ -1,8 +1,9 @@
 ghost use Rattle.std.specs.Prelude.{◌≡◌, ◌≤◌, ◌<◌, ◌^◌, [], length, vec_len, vec_capacity};
-ghost use Rattle.std.specs.Prelude.{IfOk, IfSome};
+ghost use Rattle.std.specs.Prelude.{IfOk, IfErr, IfSome};
 ghost use Rattle.dy_ring.specs.Rings.{Tokens};
 ghost use Rattle.dy_ring.specs.Lists.{IsRingOf};
 ghost use Rattle.dy_cluster.specs.Named.{NamesBook};
+ghost use Rattle.dy_cluster.specs.Refusals.{IsRunRefusal};
 ghost use Rattle.dy_storm.specs.Clusters.{five_tokens};
 ghost use Rattle.dy_storm.specs.Ends.{CountsAll, CountsTold, IsStormed};
 
@@ -36,8 +37,9 @@ pub fn storm<R: Threads + Wait + Sync>(
     alloc: Global,
     plan: Storm,
 ) -> Result<StormDone, Fault>
-    ensures { IfOk result (λ done. (ring : Tokens) × IsRingOf five_tokens ring
+    ensures stormed { IfOk result (λ done. (ring : Tokens) × IsRingOf five_tokens ring
         × IsStormed ring 3 2 plan.threads plan.puts done) }
+    ensures only { IfErr result IsRunRefusal }
 {
     let ring = five_nodes(alloc)?;
     let opened = Opened::new(alloc, ring, options())?;
@@ -52,8 +54,9 @@ fn run_named<J: Naming + Send + Sync, R: Threads + Wait + Sync>(
     plan: Storm,
 ) -> Result<StormDone, Fault>
     requires named { NamesBook J.book J.table J.ring J.n J.r opened }
-    ensures { IfOk result (λ done. IsStormed opened.ring opened.options.n opened.options.r
+    ensures stormed { IfOk result (λ done. IsStormed opened.ring opened.options.n opened.options.r
         plan.threads plan.puts done) }
+    ensures only { IfErr result IsRunRefusal }
 {
     let mut sessions = Vec::with_capacity(alloc, usize::from(plan.threads))?;
     let cluster = match Cluster::<J>::open(alloc, opened) {
@@ -88,6 +91,7 @@ fn run_all<J: Naming + Send + Sync, R: Threads + Wait + Sync>(
     requires none { clients.old.items ≡ [] }
     ensures few { vec_len clients.new ≤ plan.threads }
     ensures all { IfOk result (λ _. vec_len clients.new ≡ plan.threads) }
+    ensures only { IfErr result IsRunRefusal }
 {
     let (mut post, inboxes) = cluster.post()?;
     seat_all(rt, cluster, &mut post, clients, plan)?;
@@ -111,6 +115,7 @@ fn seat_all<J: Naming, R: Wait>(
     requires none { clients.old.items ≡ [] }
     ensures few { vec_len clients.new ≤ plan.threads }
     ensures all { IfOk result (λ _. vec_len clients.new ≡ plan.threads) }
+    ensures only { IfErr result IsRunRefusal }
 {
     for number in 0..plan.threads {
         clients.reserve(1)?;

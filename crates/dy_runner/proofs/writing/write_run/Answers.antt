@@ -8,7 +8,7 @@ pub returns-clause-closed : goal.returns-clause-closed
 returns-clause-closed g c =
     let ring = c.in_ok-ring.ring in
     let closed = c.in_ok-closed.closed in
-    let told = c.in_ok-closed.ensures in (
+    let told = c.in_ok-closed.ensures.closed in (
       ring,
       c.in_ok-ring.ensures,
       (
