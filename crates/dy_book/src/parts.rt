@@ -4,6 +4,7 @@ ghost use Rattle.std.specs.Prelude.{Some, OnOk, OnErr, IfOk, IsOkUnless, slice_g
 ghost use Rattle.std.specs.Prelude.{not};
 ghost use Rattle.std.specs.List.{list_any};
 ghost use Rattle.std.specs.Option.{option_copied};
+ghost use Rattle.dy_dots.specs.declared.nodes.TheConstants.{MAX_NODES};
 ghost use Rattle.dy_siblings.specs.Versions.{VersionParts};
 ghost use Rattle.dy_book.specs.inside.Lists.{list_at, has_some, is_hint_here, HaveSameMade};
 
@@ -169,7 +170,7 @@ impl KeyPart {
 
 // Makes lists without a version, until there is one for the node.
 fn make_room(alloc: Global, made: &mut Vec<Made>, node: usize) -> Result<(), Fault>
-    requires { node < 32 }
+    requires { node < MAX_NODES }
     ensures room { OnOk result (node < length made.new.items) }
     ensures same { HaveSameMade made.new.items made.old.items }
     ensures memory { IsOkUnless result Fault.OutOfMemory }
