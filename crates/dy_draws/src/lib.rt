@@ -15,6 +15,3 @@ pub fn draw(generator: &mut Lcg64Xsh32, m: u32) -> u32
 {
     generator.next_word() % m
 }
-
-#[cfg(test)]
-mod tests;

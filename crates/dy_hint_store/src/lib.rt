@@ -3,7 +3,5 @@
 
 mod homes;
 mod stores;
-#[cfg(test)]
-mod tests;
 
 pub use stores::HintStore;

@@ -3,8 +3,6 @@
 
 mod row_maps;
 mod stores;
-#[cfg(test)]
-mod tests;
 
 pub use row_maps::RowMap;
 pub use stores::NodeStore;

@@ -2,12 +2,8 @@
 #![tactic(auto)]
 
 mod assigns;
-#[cfg(test)]
-mod growths;
 mod lists;
 mod orders;
-#[cfg(test)]
-mod tests;
 
 pub use assigns::Assign;
 pub use lists::Preference;

@@ -2,10 +2,6 @@
 #![tactic(auto)]
 
 mod givens;
-#[cfg(test)]
-mod growths;
 mod rings;
-#[cfg(test)]
-mod tests;
 
 pub use rings::{MAX_TOKENS_PER_NODE, Ring};

@@ -1,6 +1,7 @@
-use super::*;
+use dy_draws::draw;
+use rand_pcg::Lcg64Xsh32;
 
-/// The words are those that the generator's own C code prints for seed 42 and stream 54.
+// The words are those that the generator's own C code prints for seed 42 and stream 54.
 #[test]
 fn draws_the_published_words(rt: HostRuntime) {
     let mut generator = Lcg64Xsh32::new(42, 54);

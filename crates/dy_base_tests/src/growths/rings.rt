@@ -1,20 +1,12 @@
-//! Rings whose growths may be refused: the refusal is want of memory and no other, and the same
-//! ring is then made. Run with each allocation failing in turn, one a run.
-
-use crate::rings::Ring;
+use crate::rings::lists_of;
 use dy_dots::Fault;
-use std::alloc::Global;
+use dy_ring::Ring;
 use std::test::Fail;
 
-/// The tokens of two nodes.
-fn two_lists(alloc: Global) -> Result<Vec<Vec<u128>>, Fault> {
-    let mut lists = Vec::new(alloc);
-    lists.push(Vec::from_slice(alloc, &[7u128, 3])?)?;
-    lists.push(Vec::from_slice(alloc, &[5u128])?)?;
-    Ok(lists)
-}
+// The tokens of two nodes.
+const TWO: [&[u128]; 2] = [&[7, 3], &[5]];
 
-/// The ring of these tokens, made again where memory ran out.
+// The ring of these tokens, made again where memory ran out.
 fn given(rt: &HostRuntime, lists: &[Vec<u128>]) -> Result<Ring, Fail> {
     match Ring::from_tokens(rt.alloc(), lists) {
         Ok(ring) => Ok(ring),
@@ -28,27 +20,27 @@ fn given(rt: &HostRuntime, lists: &[Vec<u128>]) -> Result<Ring, Fail> {
     }
 }
 
-/// The ring of derived tokens, made again where memory ran out.
-fn derived(rt: &HostRuntime) -> Result<Ring, Fail> {
-    match Ring::derived(rt.alloc(), 2, 2) {
+// The ring of derived tokens, made again where memory ran out.
+pub(super) fn derived(rt: &HostRuntime, nodes: u8, per_node: u8) -> Result<Ring, Fail> {
+    match Ring::derived(rt.alloc(), nodes, per_node) {
         Ok(ring) => Ok(ring),
         Err(fault) => {
             println!(rt; "refused derived {fault}")?;
             if fault != Fault::OutOfMemory {
                 return Err("a refused growth was taken for wrong numbers".into());
             }
-            Ok(Ring::derived(rt.alloc(), 2, 2)?)
+            Ok(Ring::derived(rt.alloc(), nodes, per_node)?)
         }
     }
 }
 
-/// The lists of two nodes, made again where memory ran out.
+// The lists of two nodes, made again where memory ran out.
 fn lists(rt: &HostRuntime) -> Result<Vec<Vec<u128>>, Fail> {
-    match two_lists(rt.alloc()) {
+    match lists_of(rt.alloc(), TWO.as_slice()) {
         Ok(lists) => Ok(lists),
         Err(fault) => {
             println!(rt; "refused lists {fault}")?;
-            Ok(two_lists(rt.alloc())?)
+            Ok(lists_of(rt.alloc(), TWO.as_slice())?)
         }
     }
 }
@@ -57,6 +49,6 @@ fn lists(rt: &HostRuntime) -> Result<Vec<Vec<u128>>, Fail> {
 fn survive_a_refused_growth(rt: HostRuntime) -> Result<(), Fail> {
     let two = lists(&rt)?;
     assert_eq!(rt; given(&rt, two.as_slice())?.tokens().len(), 3);
-    assert_eq!(rt; derived(&rt)?.tokens().len(), 4);
+    assert_eq!(rt; derived(&rt, 2, 2)?.tokens().len(), 4);
     Ok(())
 }

@@ -1,11 +1,11 @@
-use crate::rings::Ring;
 use dy_dots::{Fault, NodeId};
+use dy_ring::Ring;
 use dy_siblings::Key;
 use std::alloc::Global;
 use std::test::Fail;
 
-/// The lists of the nodes.
-fn lists_of(alloc: Global, firsts: &[&[u128]]) -> Result<Vec<Vec<u128>>, Fault> {
+// The lists of the nodes.
+pub(crate) fn lists_of(alloc: Global, firsts: &[&[u128]]) -> Result<Vec<Vec<u128>>, Fault> {
     let mut lists = Vec::new(alloc);
     for list in firsts {
         lists.push(Vec::from_slice(alloc, list)?)?;
@@ -13,7 +13,13 @@ fn lists_of(alloc: Global, firsts: &[&[u128]]) -> Result<Vec<Vec<u128>>, Fault> 
     Ok(lists)
 }
 
-/// Whether the key of the text lies at the position.
+// The ring of the tokens in the lists of the nodes.
+pub(crate) fn ring_of(alloc: Global, firsts: &[&[u128]]) -> Result<Ring, Fault> {
+    let lists = lists_of(alloc, firsts)?;
+    Ring::from_tokens(alloc, lists.as_slice())
+}
+
+// Whether the key of the text lies at the position.
 fn lies_at(alloc: Global, text: &str, position: u128) -> Result<bool, Fault> {
     let key = Key::new(alloc, text.as_bytes())?;
     Ok(Ring::position(&key) == position)
@@ -37,10 +43,9 @@ fn a_position_is_the_digest(rt: HostRuntime) -> Result<(), Fail> {
     Ok(())
 }
 
-/// The ring of three tokens of two nodes.
+// The ring of three tokens of two nodes.
 fn three_tokens(alloc: Global) -> Result<Ring, Fault> {
-    let lists = lists_of(alloc, &[&[7, 3], &[5]])?;
-    Ring::from_tokens(alloc, lists.as_slice())
+    ring_of(alloc, &[&[7, 3], &[5]])
 }
 
 #[test]
@@ -56,12 +61,12 @@ fn tokens_come_in_rising_position(rt: HostRuntime) -> Result<(), Fail> {
 fn a_position_parts_the_tokens(rt: HostRuntime) -> Result<(), Fail> {
     let ring = three_tokens(rt.alloc())?;
     for (position, place) in [(2, 0), (3, 1), (4, 1), (5, 2), (7, 3), (8, 3)] {
-        assert_eq!(rt; ring.first_after(position), place, "{position}");
+        assert!(rt; ring.first_after(position) == place, "{position}");
     }
     Ok(())
 }
 
-/// Whether the two rings have as many nodes, and the same tokens.
+// Whether the two rings have as many nodes, and the same tokens.
 fn are_same(a: &Ring, b: &Ring) -> bool {
     a.nodes() == b.nodes() && a.tokens() == b.tokens()
 }
@@ -69,7 +74,7 @@ fn are_same(a: &Ring, b: &Ring) -> bool {
 // The digests of `0#0`, `0#1`, `1#0` and `1#1`, by another program.
 #[test]
 fn derived_tokens_are_digests(rt: HostRuntime) -> Result<(), Fail> {
-    let lists = lists_of(
+    let given = ring_of(
         rt.alloc(),
         &[
             &[
@@ -82,7 +87,6 @@ fn derived_tokens_are_digests(rt: HostRuntime) -> Result<(), Fail> {
             ],
         ],
     )?;
-    let given = Ring::from_tokens(rt.alloc(), lists.as_slice())?;
     let derived = Ring::derived(rt.alloc(), 2, 2)?;
     assert!(rt; are_same(&derived, &given));
     Ok(())
@@ -102,13 +106,13 @@ fn a_clone_is_the_same(rt: HostRuntime) -> Result<(), Fail> {
     Ok(())
 }
 
-/// The refusal for a node without a token.
+// The refusal for a node without a token.
 fn without(number: u8) -> Option<Fault> {
     let node = NodeId::new(number)?;
     Some(Fault::NodeWithoutToken { node })
 }
 
-/// The refusal of the ring of these lists.
+// The refusal of the ring of these lists.
 fn refusal_of(alloc: Global, firsts: &[&[u128]]) -> Result<Option<Fault>, Fault> {
     let lists = lists_of(alloc, firsts)?;
     Ok(Ring::from_tokens(alloc, lists.as_slice()).err())
@@ -137,6 +141,11 @@ fn too_many_tokens_are_told_before_none(rt: HostRuntime) -> Result<(), Fail> {
     Ok(())
 }
 
+// The refusal of the ring of so many derived tokens of each of so many nodes.
+fn refusal_of_derived(alloc: Global, nodes: u8, per_node: u8) -> Option<Fault> {
+    Ring::derived(alloc, nodes, per_node).err()
+}
+
 #[test]
 fn a_derived_ring_is_refused_by_its_numbers(rt: HostRuntime) {
     let rows = [
@@ -149,7 +158,7 @@ fn a_derived_ring_is_refused_by_its_numbers(rt: HostRuntime) {
         (33, 1, Some(Fault::TooMany)),
     ];
     for (nodes, per_node, refused) in rows {
-        let made = Ring::derived(rt.alloc(), nodes, per_node).err();
-        assert_eq!(rt; made, refused, "{nodes} {per_node}");
+        let made = refusal_of_derived(rt.alloc(), nodes, per_node);
+        assert!(rt; made == refused, "{nodes} {per_node}");
     }
 }

@@ -1,25 +1,21 @@
-use crate::{Assign, Preference, preference};
+use crate::rings::ring_of;
 use dy_dots::NodeId;
-use dy_ring::Ring;
+use dy_preference::{Assign, Preference, preference};
 use dy_siblings::Key;
 use std::alloc::Global;
 use std::test::Fail;
 
-/// Where `abc` lies (RFC 1321, section A.5).
+// Where `abc` lies (RFC 1321, section A.5).
 const ABC: u128 = 0x900150983cd24fb0d6963f7d28e17f72;
 
-/// The position whose first byte is this, and whose other bytes are 0.
+// The position whose first byte is this, and whose other bytes are 0.
 fn at(byte: u8) -> u128 {
     u128::from_be_bytes([byte, 0, 0, 0, 0, 0, 0, 0, 0, 0, 0, 0, 0, 0, 0, 0])
 }
 
-/// The preference list of the key over the tokens of the lists, with three homes.
+// The preference list of the key over the tokens of the lists, with three homes.
 fn listed(alloc: Global, tokens: &[&[u128]], key: &str) -> Result<Preference, Fail> {
-    let mut lists = Vec::new(alloc);
-    for list in tokens {
-        lists.push(Vec::from_slice(alloc, list)?)?;
-    }
-    let ring = Ring::from_tokens(alloc, lists.as_slice())?;
+    let ring = ring_of(alloc, tokens)?;
     if ring.nodes() < 3 {
         return Err(Fail::new("three nodes"));
     }
@@ -27,7 +23,7 @@ fn listed(alloc: Global, tokens: &[&[u128]], key: &str) -> Result<Preference, Fa
     Ok(preference(alloc, &ring, &key, 3)?)
 }
 
-/// The preference list of the key over five nodes with one token each, with three homes.
+// The preference list of the key over five nodes with one token each, with three homes.
 fn on_five(alloc: Global, key: &str) -> Result<Preference, Fail> {
     let five: [&[u128]; 5] = [
         &[at(0x20)],
@@ -39,7 +35,7 @@ fn on_five(alloc: Global, key: &str) -> Result<Preference, Fail> {
     listed(alloc, &five, key)
 }
 
-/// Whether the nodes have these numbers, in this order.
+// Whether the nodes have these numbers, in this order.
 fn are(nodes: &[NodeId], numbers: &[u8]) -> bool {
     if nodes.len() != numbers.len() {
         return false;
@@ -89,7 +85,7 @@ fn a_token_at_the_key_is_met_last(rt: HostRuntime) -> Result<(), Fail> {
     Ok(())
 }
 
-/// Whether these nodes are asked to stand in, in this order, and then none.
+// Whether these nodes are asked to stand in, in this order, and then none.
 fn stand_in(list: &Preference, coordinator: NodeId, numbers: &[u8]) -> bool {
     let mut assign = Assign::new(list, coordinator);
     for number in numbers {
@@ -113,6 +109,11 @@ fn others_stand_in_once(rt: HostRuntime) -> Result<(), Fail> {
     Ok(())
 }
 
+// Whether the first node may hold for the second.
+fn may_hold(list: &Preference, holder: u8, home: u8) -> Option<bool> {
+    Some(list.may_hold(NodeId::new(holder)?, NodeId::new(home)?))
+}
+
 #[test]
 fn no_home_holds_for_another(rt: HostRuntime) -> Result<(), Fail> {
     let list = on_five(rt.alloc(), "abc")?;
@@ -123,19 +124,25 @@ fn no_home_holds_for_another(rt: HostRuntime) -> Result<(), Fail> {
         (0, 1, false),
         (1, 1, false),
     ] {
-        let held = list.may_hold(NodeId::nth(holder), NodeId::nth(home));
-        assert_eq!(rt; held, may, "{holder}/{home}");
+        assert!(rt;
+            may_hold(&list, holder, home) == Some(may),
+            "{holder}/{home}"
+        );
     }
     Ok(())
+}
+
+// Whether the node is a home, and the home that it holds for.
+fn coordinated(list: &Preference, node: u8) -> Option<(bool, u8)> {
+    let node = NodeId::new(node)?;
+    Some((list.is_home(node), list.home_for(node).number()))
 }
 
 #[test]
 fn a_coordinator_holds_for_itself_or_the_first(rt: HostRuntime) -> Result<(), Fail> {
     let list = on_five(rt.alloc(), "abc")?;
     for (node, is_home, home) in [(2, true, 2), (4, true, 4), (0, false, 2), (1, false, 2)] {
-        let (node, home) = (NodeId::nth(node), NodeId::nth(home));
-        assert_eq!(rt; list.is_home(node), is_home, "{node}");
-        assert_eq!(rt; list.home_for(node), home, "{node}");
+        assert!(rt; coordinated(&list, node) == Some((is_home, home)), "{node}");
     }
     Ok(())
 }

@@ -1,28 +1,8 @@
-mod growths;
-
-use crate::{NodeStore, RowMap};
-use dy_dots::{Context, Dot, Fault, NodeId};
-use dy_siblings::{Key, Row, Version};
+use crate::rows::{dot_of, row_of};
+use dy_dots::{Dot, Fault};
+use dy_node_store::{NodeStore, RowMap};
+use dy_siblings::{Key, Row};
 use std::alloc::Global;
-
-// The dot `n0:counter`.
-fn dot_of(counter: u32) -> Option<Dot> {
-    Dot::new(NodeId::new(0)?, counter)
-}
-
-// The row of the key with a deletion of this dot, that follows nothing.
-fn deletion(alloc: Global, key: &[u8], dot: Dot) -> Result<Row, Fault> {
-    let (key, past) = (Key::new(alloc, key)?, Context::new(alloc));
-    if past.contains(dot) {
-        return Ok(Row::new(alloc, key));
-    }
-    Row::of(alloc, Version::new(alloc, key, dot, past, None)?)
-}
-
-// The row of the key with a deletion of the dot `n0:counter`.
-fn row_of(alloc: Global, key: &[u8], counter: u32) -> Option<Row> {
-    deletion(alloc, key, dot_of(counter)?).ok()
-}
 
 fn put(alloc: Global, store: &mut NodeStore, key: &[u8], counter: u32) -> bool {
     match row_of(alloc, key, counter) {
@@ -31,10 +11,9 @@ fn put(alloc: Global, store: &mut NodeStore, key: &[u8], counter: u32) -> bool {
     }
 }
 
-// Uses the counter, and gives the next one.
-fn after(store: &mut NodeStore, key: &Key, counter: u32) -> Result<u32, Fault> {
-    store.use_counter(key, counter)?;
-    store.next_counter(key, 5)
+// Whether the counter can be used, and this is then the next one.
+fn follows(store: &mut NodeStore, key: &Key, counter: u32, next: u32) -> bool {
+    store.use_counter(key, counter).is_ok() && store.next_counter(key, 5) == Ok(next)
 }
 
 // Whether a row of the key was put, and taken out.
@@ -45,34 +24,46 @@ fn came_and_went(alloc: Global, store: &mut NodeStore, key: &Key) -> bool {
         && store.row(key).is_none()
 }
 
+// Whether the counters go on where they were once a row has come and gone.
+fn outlive_a_row(alloc: Global, store: &mut NodeStore, key: &Key) -> bool {
+    follows(store, key, 0, 1)
+        && follows(store, key, 3, 4)
+        && came_and_went(alloc, store, key)
+        && follows(store, key, 2, 4)
+}
+
+// Whether 4 is the next counter, where the limit allows it.
+fn stops_at_the_limit(store: &NodeStore, key: &Key) -> bool {
+    store.next_counter(key, 4) == Ok(4) && store.next_counter(key, 3) == Err(Fault::CounterFull)
+}
+
+fn outlive(alloc: Global, store: &mut NodeStore) -> Option<bool> {
+    let key = Key::new(alloc, b"k".as_slice()).ok()?;
+    Some(outlive_a_row(alloc, store, &key) && stops_at_the_limit(store, &key))
+}
+
 #[test]
 fn a_counter_outlives_its_row(rt: HostRuntime) {
     let mut store = NodeStore::new(rt.alloc());
-    let Ok(key) = Key::new(rt.alloc(), b"k".as_slice()) else {
-        assert!(rt; false, "no key");
-        return;
-    };
-    for (counter, next) in [(0, 1), (3, 4)] {
-        assert_eq!(rt; after(&mut store, &key, counter), Ok(next));
-    }
-    assert!(rt; came_and_went(rt.alloc(), &mut store, &key));
-    assert_eq!(rt; after(&mut store, &key, 2), Ok(4));
-    for (limit, next) in [(4, Ok(4)), (3, Err(Fault::CounterFull))] {
-        assert_eq!(rt; store.next_counter(&key, limit), next);
-    }
+    assert_eq!(rt; outlive(rt.alloc(), &mut store), Some(true));
 }
 
-// Whether these are the keys of the rows listed.
-fn are_listed(alloc: Global, store: &NodeStore, keys: &[&[u8]]) -> bool {
-    let Ok(rows) = store.list(alloc) else {
-        return false;
-    };
+// Whether these are the keys of the rows.
+fn are_of(rows: &[&Row], keys: &[&[u8]]) -> bool {
     for (row, key) in rows.iter().zip(keys) {
         if row.key().as_bytes() != *key {
             return false;
         }
     }
     rows.len() == keys.len()
+}
+
+// Whether these are the keys of the rows listed.
+fn are_listed(alloc: Global, store: &NodeStore, keys: &[&[u8]]) -> bool {
+    match store.list(alloc) {
+        Ok(rows) => are_of(rows.as_slice(), keys),
+        Err(_) => false,
+    }
 }
 
 #[test]

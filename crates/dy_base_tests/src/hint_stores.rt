@@ -1,28 +1,8 @@
-mod growths;
-
-use crate::HintStore;
-use dy_dots::{Context, Dot, Fault, NodeId};
-use dy_siblings::{Key, Row, Version};
+use crate::rows::{dot_of, row_of};
+use dy_dots::{Dot, NodeId};
+use dy_hint_store::HintStore;
+use dy_siblings::{Key, Row};
 use std::alloc::Global;
-
-// The dot `n0:counter`.
-fn dot_of(counter: u32) -> Option<Dot> {
-    Dot::new(NodeId::new(0)?, counter)
-}
-
-// The row of the key with a deletion of this dot, that follows nothing.
-fn deletion(alloc: Global, key: &[u8], dot: Dot) -> Result<Row, Fault> {
-    let (key, past) = (Key::new(alloc, key)?, Context::new(alloc));
-    if past.contains(dot) {
-        return Ok(Row::new(alloc, key));
-    }
-    Row::of(alloc, Version::new(alloc, key, dot, past, None)?)
-}
-
-// The row of the key with a deletion of the dot `n0:counter`.
-fn row_of(alloc: Global, key: &[u8], counter: u32) -> Option<Row> {
-    deletion(alloc, key, dot_of(counter)?).ok()
-}
 
 fn put(alloc: Global, store: &mut HintStore, home: u8, key: &[u8], counter: u32) -> bool {
     match (NodeId::new(home), row_of(alloc, key, counter)) {
