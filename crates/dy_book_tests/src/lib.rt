@@ -2,15 +2,11 @@
 #![tactic(auto)]
 
 #[cfg(test)]
-mod audits;
-#[cfg(test)]
 mod calls;
 #[cfg(test)]
 mod closes;
 #[cfg(test)]
 mod growths;
-#[cfg(test)]
-mod logs;
 #[cfg(test)]
 mod outcomes;
 #[cfg(test)]
@@ -21,7 +17,3 @@ mod refusals;
 mod scenes;
 #[cfg(test)]
 mod setups;
-#[cfg(test)]
-mod texts;
-#[cfg(test)]
-mod worlds;

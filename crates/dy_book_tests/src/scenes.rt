@@ -48,7 +48,7 @@ fn first_made<J: Naming>(
 }
 
 // The node of this number holds the row for the home.
-pub fn kept_by<J: Naming>(
+fn kept_by<J: Naming>(
     book: &mut Book<J>,
     shares: &mut [NodeShare<J>],
     list: &Preference,
