@@ -6,8 +6,6 @@ mod command_lines;
 mod jobs;
 mod performing;
 mod refusing;
-#[cfg(test)]
-mod tests;
 
 use crate::jobs::Job;
 use std::alloc::Global;
