@@ -2,44 +2,31 @@
 ghost use Rattle.std.specs.Prelude.{◌≡◌};
 ghost use Rattle.dy_transport.specs.Told.{nothing_told};
 
-use crate::at_nodes::{
-    deliver, pass_and_write, pass_some_and_write, pass_while_and_write, set_mode, set_up,
-    write_hints, write_rows,
-};
-use crate::calls::{
-    Write, get_directly, get_stated, put_directly, put_over, put_stated, repair_after,
-};
-use crate::handovers::Between;
-use crate::many_keys::put_many_and_write;
-use crate::stages::{Stage, keyed_on};
-use crate::stated::Stating;
-use crate::texts::{write_get, write_list, write_put};
-use crate::wrapped::{Wrapped, wrapped_on};
-use dy_coord::{GetDone, GetFault, PutDone, PutFault};
-use dy_dots::Fault;
-use dy_node::Mode;
+use crate::at_nodes::{set_delay, set_up, write_rows};
+use crate::calls::{get_directly, hand_over_one, put_directly};
+use crate::lossy::put_lossy;
+use crate::stages::Stage;
+use crate::texts::{write_get, write_list, write_pass, write_put};
+use crate::wrapped::{Wrapped, pass_wrapped, put_wrapped, wrapped_on};
+use dy_dots::{Fault, NodeId};
 use dy_shares::{Naming, SessionShare};
 use std::sync::Wait;
 
-// What is done.
+// What is done. A put names so many homes, and follows nothing.
 #[derive(Clone, Copy)]
 pub enum Deed {
-    Put(Write),
-    // The same over a transport that lists what came, while something else is done.
-    PutWhile(Write, Between),
-    // The same over a line on which one node's answers are stated.
-    PutStated(Write, Stating),
-    // Puts of so many other keys.
-    PutMany(usize),
+    Put(u8),
+    // The same over a line on which node 1's answers are lost.
+    PutLossy(u8),
+    // The same, and before it is told node 0 comes up, and node 3 hands over to it.
+    PutWhileHandedOver(u8),
     Get,
-    // The same over such a line.
-    GetStated(Stating),
-    // A get of another key.
-    GetAside,
-    // A get, and then the repair of the homes that were stale.
-    GetAndRepair,
     // What concerns one node.
     At(usize, NodeDeed),
+    // Node 3 hands over its first hint.
+    HandOverOne,
+    // The same, and after the hints were listed it stores a message, and node 0 comes up.
+    HandOverWhileDelivered,
 }
 
 // What is done at a node.
@@ -47,18 +34,61 @@ pub enum Deed {
 pub enum NodeDeed {
     Down,
     Up,
-    Set(Mode),
-    // It stores the messages that it kept.
-    Deliver,
-    // It hands over its hints.
-    HandOver,
-    // It hands over so many of them.
-    HandOverSome(usize),
-    // It hands over one, while something else is done.
-    HandOverWhile(Between),
-    // How many hints it keeps.
-    Hints,
+    // It keeps what it is to store.
+    Delay,
     Show,
+}
+
+// A put, which is told.
+fn put_and_write<J: Naming, R: Wait>(
+    rt: &R,
+    stage: &Stage<'_, J>,
+    session: &mut SessionShare<J>,
+    w: u8,
+    out: &mut String,
+) -> Result<(), Fault> {
+    let ended = put_directly(rt, stage, session, w)?;
+    write_put(out, &ended)
+}
+
+// The same over a line on which node 1's answers are lost.
+fn put_lossy_and_write<J: Naming, R: Wait>(
+    rt: &R,
+    stage: &Stage<'_, J>,
+    session: &mut SessionShare<J>,
+    w: u8,
+    out: &mut String,
+) -> Result<(), Fault> {
+    let ended = put_lossy(rt, stage, session, w)?;
+    write_put(out, &ended)
+}
+
+// A put over this transport, which is told.
+fn put_wrapped_and_write<J: Naming, R: Wait>(
+    rt: &R,
+    wrapped: &mut Wrapped<'_, J>,
+    stage: &Stage<'_, J>,
+    session: &mut SessionShare<J>,
+    w: u8,
+    out: &mut String,
+) -> Result<(), Fault>
+    requires { wrapped.old.direct ≡ nothing_told 32 }
+{
+    let ended = put_wrapped(rt, wrapped, stage, session, w)?;
+    write_put(out, &ended)
+}
+
+// A put with a handover before it is told, and then what its transport listed.
+fn put_while_and_write<J: Naming, R: Wait>(
+    rt: &R,
+    stage: &Stage<'_, J>,
+    session: &mut SessionShare<J>,
+    w: u8,
+    out: &mut String,
+) -> Result<(), Fault> {
+    let mut wrapped = wrapped_on(stage)?;
+    put_wrapped_and_write(rt, &mut wrapped, stage, session, w, out)?;
+    write_list(out, wrapped.list.as_str())
 }
 
 // A get, which is told.
@@ -72,142 +102,15 @@ fn get_and_write<J: Naming, R: Wait>(
     write_get(stage.alloc, out, &ended)
 }
 
-// The same of the other key.
-fn get_aside_and_write<J: Naming, R: Wait>(
+// A pass of node 3 over one hint, while a message comes, which is told.
+fn pass_while_and_write<J: Naming, R: Wait>(
     rt: &R,
     stage: &Stage<'_, J>,
-    session: &mut SessionShare<J>,
     out: &mut String,
 ) -> Result<(), Fault> {
-    let keyed = keyed_on(stage, b"abc")?;
-    let aside = Stage {
-        alloc: stage.alloc,
-        nodes: stage.nodes,
-        book: stage.book,
-        ring: stage.ring,
-        n: stage.n,
-        key: &keyed.key,
-        list: &keyed.list,
-    };
-    get_and_write(rt, &aside, session, out)
-}
-
-// What came of a get is told, and then the homes that were stale are repaired.
-fn write_and_repair<J: Naming, R: Wait>(
-    rt: &R,
-    stage: &Stage<'_, J>,
-    ended: &Result<GetDone<J>, GetFault>,
-    out: &mut String,
-) -> Result<(), Fault> {
-    write_get(stage.alloc, out, ended)?;
-    match ended {
-        Ok(done) => repair_after(rt, stage, done),
-        Err(_refused) => Ok(()),
-    }
-}
-
-// A get, which is told, and then the repair of the homes that were stale.
-fn get_and_repair<J: Naming, R: Wait>(
-    rt: &R,
-    stage: &Stage<'_, J>,
-    session: &mut SessionShare<J>,
-    out: &mut String,
-) -> Result<(), Fault> {
-    let ended = get_directly(rt, stage, session)?;
-    write_and_repair(rt, stage, &ended, out)
-}
-
-// A put, which is told.
-fn put_and_write<J: Naming, R: Wait>(
-    rt: &R,
-    stage: &Stage<'_, J>,
-    session: &mut SessionShare<J>,
-    write: Write,
-    out: &mut String,
-) -> Result<(), Fault> {
-    let ended = put_directly(rt, stage, session, write)?;
-    write_put(out, &ended)
-}
-
-// A put over this transport.
-fn put_wrapped<J: Naming, R: Wait>(
-    rt: &R,
-    wrapped: &mut Wrapped<'_, J>,
-    stage: &Stage<'_, J>,
-    session: &mut SessionShare<J>,
-    write: Write,
-) -> Result<Result<PutDone, PutFault>, Fault>
-    requires { wrapped.old.direct ≡ nothing_told 32 }
-{
-    put_over(rt, wrapped, stage, session, write)
-}
-
-// The same, which is told.
-fn put_wrapped_and_write<J: Naming, R: Wait>(
-    rt: &R,
-    wrapped: &mut Wrapped<'_, J>,
-    stage: &Stage<'_, J>,
-    session: &mut SessionShare<J>,
-    write: Write,
-    out: &mut String,
-) -> Result<(), Fault>
-    requires { wrapped.old.direct ≡ nothing_told 32 }
-{
-    let ended = put_wrapped(rt, wrapped, stage, session, write)?;
-    write_put(out, &ended)
-}
-
-// The same, with the list of what came.
-fn put_wrapped_and_list<J: Naming, R: Wait>(
-    rt: &R,
-    wrapped: &mut Wrapped<'_, J>,
-    stage: &Stage<'_, J>,
-    session: &mut SessionShare<J>,
-    write: Write,
-    out: &mut String,
-) -> Result<(), Fault>
-    requires { wrapped.old.direct ≡ nothing_told 32 }
-{
-    put_wrapped_and_write(rt, wrapped, stage, session, write, out)?;
-    write_list(out, wrapped.list.as_str())
-}
-
-// A put over a transport that lists what came, while something else is done: told with the list.
-fn put_while_and_write<J: Naming, R: Wait>(
-    rt: &R,
-    stage: &Stage<'_, J>,
-    session: &mut SessionShare<J>,
-    write: Write,
-    between: Between,
-    out: &mut String,
-) -> Result<(), Fault> {
-    let mut wrapped = wrapped_on(stage, between)?;
-    put_wrapped_and_list(rt, &mut wrapped, stage, session, write, out)
-}
-
-// A put over a line on which one node's answers are stated, which is told.
-fn put_stated_and_write<J: Naming, R: Wait>(
-    rt: &R,
-    stage: &Stage<'_, J>,
-    session: &mut SessionShare<J>,
-    write: Write,
-    stating: Stating,
-    out: &mut String,
-) -> Result<(), Fault> {
-    let ended = put_stated(rt, stage, session, write, stating)?;
-    write_put(out, &ended)
-}
-
-// A get over such a line, which is told.
-fn get_stated_and_write<J: Naming, R: Wait>(
-    rt: &R,
-    stage: &Stage<'_, J>,
-    session: &mut SessionShare<J>,
-    stating: Stating,
-    out: &mut String,
-) -> Result<(), Fault> {
-    let ended = get_stated(rt, stage, session, stating)?;
-    write_get(stage.alloc, out, &ended)
+    let mut wrapped = wrapped_on(stage)?;
+    let passed = pass_wrapped(rt, &mut wrapped, NodeId::nth(3));
+    write_pass(out, &passed)
 }
 
 // Does what concerns one node.
@@ -221,12 +124,7 @@ fn done_at<J: Naming, R: Wait>(
     match deed {
         NodeDeed::Down => set_up(rt, stage, node, false),
         NodeDeed::Up => set_up(rt, stage, node, true),
-        NodeDeed::Set(mode) => set_mode(rt, stage, node, mode),
-        NodeDeed::Deliver => deliver(rt, stage, node, out),
-        NodeDeed::HandOver => pass_and_write(rt, stage, node, out),
-        NodeDeed::HandOverSome(room) => pass_some_and_write(rt, stage, node, room, out),
-        NodeDeed::HandOverWhile(between) => { pass_while_and_write(rt, stage, node, between, out) }
-        NodeDeed::Hints => write_hints(rt, stage, node, out),
+        NodeDeed::Delay => set_delay(rt, stage, node),
         NodeDeed::Show => write_rows(rt, stage, node, out),
     }
 }
@@ -240,19 +138,13 @@ fn done<J: Naming, R: Wait>(
     out: &mut String,
 ) -> Result<(), Fault> {
     match deed {
-        Deed::Put(write) => put_and_write(rt, stage, session, write, out),
-        Deed::PutWhile(write, between) => {
-            put_while_and_write(rt, stage, session, write, between, out)
-        }
-        Deed::PutStated(write, stating) => {
-            put_stated_and_write(rt, stage, session, write, stating, out)
-        }
-        Deed::PutMany(count) => put_many_and_write(rt, stage, session, count, out),
+        Deed::Put(w) => put_and_write(rt, stage, session, w, out),
+        Deed::PutLossy(w) => put_lossy_and_write(rt, stage, session, w, out),
+        Deed::PutWhileHandedOver(w) => put_while_and_write(rt, stage, session, w, out),
         Deed::Get => get_and_write(rt, stage, session, out),
-        Deed::GetStated(stating) => get_stated_and_write(rt, stage, session, stating, out),
-        Deed::GetAside => get_aside_and_write(rt, stage, session, out),
-        Deed::GetAndRepair => get_and_repair(rt, stage, session, out),
         Deed::At(node, deed) => done_at(rt, stage, deed, node, out),
+        Deed::HandOverOne => write_pass(out, &hand_over_one(rt, stage, NodeId::nth(3))),
+        Deed::HandOverWhileDelivered => pass_while_and_write(rt, stage, out),
     }
 }
 

@@ -1,31 +1,23 @@
 //! A put, a get and a pass whose growths may be refused. Run with each allocation refused in turn,
 //! one a run.
 
-use crate::calls::{After, Write};
 use crate::deeds::{Deed, NodeDeed};
 use crate::growth_texts::{OF_A_GET, OF_A_PASS};
-use crate::plays::{three_homes, told};
+use crate::plays::told;
 use dy_dots::Fault;
 use std::alloc::Global;
 use std::sync::Wait;
 use std::test::Fail;
 
-// A put of two homes.
-const PUT: Deed = Deed::Put(Write {
-    w: 2,
-    value: b'x',
-    after: After::Nothing,
-});
-
 // What is done at first: a put, and a get.
-const DEEDS: [Deed; 2] = [PUT, Deed::Get];
+const DEEDS: [Deed; 2] = [Deed::Put(2), Deed::Get];
 
 // What is done then: a put while home 1 is down, and a pass of its stand-in once it is back.
 const WITH_A_PASS: [Deed; 4] = [
     Deed::At(1, NodeDeed::Down),
-    PUT,
+    Deed::Put(2),
     Deed::At(1, NodeDeed::Up),
-    Deed::At(3, NodeDeed::HandOver),
+    Deed::HandOverOne,
 ];
 
 // Which growth was refused where this text was told.
@@ -41,10 +33,10 @@ fn refused_by(texts: &[(&'static str, &'static str)], text: &str) -> Option<&'st
 // What the deeds tell, asked again where the stage, the audit or the text wanted memory, and
 // whether that was so.
 fn told_or_again<R: Wait>(rt: &R, alloc: Global, deeds: &[Deed]) -> Result<(String, bool), Fault> {
-    match told(rt, alloc, three_homes(2, 99), deeds) {
+    match told(rt, alloc, deeds) {
         Ok(text) => Ok((text, false)),
         Err(Fault::OutOfMemory) => {
-            let text = told(rt, alloc, three_homes(2, 99), deeds)?;
+            let text = told(rt, alloc, deeds)?;
             Ok((text, true))
         }
         Err(fault) => Err(fault),

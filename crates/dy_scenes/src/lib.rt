@@ -1,4 +1,4 @@
-//! The worked scenes, by calls of the upper crates over real nodes and a real book.
+//! Scenes that no script can play, by calls of the upper crates over real nodes and a real book.
 #![tactic(auto)]
 
 #[cfg(test)]
@@ -14,23 +14,15 @@ mod growths;
 #[cfg(test)]
 mod handovers;
 #[cfg(test)]
-mod many_hints;
+mod lossy;
 #[cfg(test)]
-mod many_keys;
+mod lost_answers;
 #[cfg(test)]
 mod members;
 #[cfg(test)]
-mod other_orders;
-#[cfg(test)]
 mod plays;
 #[cfg(test)]
-mod puts_and_gets;
-#[cfg(test)]
 mod stages;
-#[cfg(test)]
-mod stand_ins;
-#[cfg(test)]
-mod stated;
 #[cfg(test)]
 mod texts;
 #[cfg(test)]

@@ -18,8 +18,7 @@ use std::marker::Brand;
 use std::process::Abort;
 use std::sync::{Mutex, Wait};
 
-// The key `a` lies at 0cc1.. (RFC 1321, A.5), so its nodes are 0, 1, 2, 3 and 4, in this order; the
-// key `abc` lies at 9001.., so its nodes are 2, 3, 4, 0 and 1.
+// The key `a` lies at 0cc1.. (RFC 1321, A.5), so its nodes are 0, 1, 2, 3 and 4, in this order.
 const SPREAD: [u128; 5] = [
     0x20000000000000000000000000000000,
     0x60000000000000000000000000000000,
@@ -27,9 +26,6 @@ const SPREAD: [u128; 5] = [
     0xd0000000000000000000000000000000,
     0xf0000000000000000000000000000000,
 ];
-
-// Each key that lies between has node 0 for its first node, and node 1 for its second.
-const ALL_TO_NODE_0: [u128; 5] = [0xffffffffffffffffffffffffffffffff, 0, 1, 2, 3];
 
 // A list of the one token.
 fn one_token(alloc: Global, position: u128) -> Result<Vec<u128>, Fault> {
@@ -39,32 +35,31 @@ fn one_token(alloc: Global, position: u128) -> Result<Vec<u128>, Fault> {
 }
 
 // A list of each node's token.
-fn five_lists(alloc: Global, positions: [u128; 5]) -> Result<Vec<Vec<u128>>, Fault> {
+fn five_lists(alloc: Global) -> Result<Vec<Vec<u128>>, Fault> {
     let mut lists = Vec::new(alloc);
-    for position in positions {
+    for position in SPREAD {
         lists.push(one_token(alloc, position)?)?;
     }
     Ok(lists)
 }
 
 // A ring of five nodes with a token each.
-fn five_nodes(alloc: Global, positions: [u128; 5]) -> Result<Ring, Fault> {
-    let lists = five_lists(alloc, positions)?;
+fn five_nodes(alloc: Global) -> Result<Ring, Fault> {
+    let lists = five_lists(alloc)?;
     Ring::from_tokens(alloc, lists.as_slice())
 }
 
-// Three homes, so many answers to a get, and so many steps.
-pub fn three_homes(r: u8, steps_limit: usize) -> Options
-    ensures n { result.n ≡ 3 }
-    ensures r { result.r ≡ r }
+// Three homes, two answers to a get, and more of all than a scene needs.
+fn three_homes() -> Options
+    ensures { result.n ≡ 3 }
 {
     Options {
         n: 3,
-        r,
+        r: 2,
         w: 1,
         counter_limit: 9,
         versions_limit: 9,
-        steps_limit,
+        steps_limit: 99,
     }
 }
 
@@ -74,12 +69,11 @@ fn ended<J: Naming>(
     done: Result<(), Fault>,
     mut out: String,
     closed: Result<Audit, CloseRefused<J>>,
-    is_whole: bool,
 ) -> Result<String, Fault> {
     match closed {
         Ok(audit) => {
             done?;
-            write_audit(alloc, &mut out, &audit, is_whole)?;
+            write_audit(alloc, &mut out, &audit)?;
             Ok(out)
         }
         Err(refused) => {
@@ -94,8 +88,6 @@ fn ended<J: Naming>(
 #[derive(Drop)]
 struct Scene<'a> {
     alloc: Global,
-    ring: &'a Ring,
-    n: u8,
     first: &'a Keyed,
     deeds: &'a [Deed],
 }
@@ -109,8 +101,6 @@ fn acted<J: Naming, R: Wait>(
     session: &mut SessionShare<J>,
     out: &mut String,
 ) -> Result<(), Fault>
-    requires ring { scene.now.ring.now ≡ J.ring }
-    requires n { scene.now.n ≡ J.n }
     requires first { scene.now.first.now.list.nodes
         ≡ preference_of J.ring scene.now.first.now.key }
     requires first_homes { scene.now.first.now.list.n ≡ J.n }
@@ -119,8 +109,6 @@ fn acted<J: Naming, R: Wait>(
         alloc: scene.alloc,
         nodes,
         book,
-        ring: scene.ring,
-        n: scene.n,
         key: &scene.first.key,
         list: &scene.first.list,
     };
@@ -136,8 +124,6 @@ fn acted_by<J: Naming, R: Wait>(
     session: &mut SessionShare<J>,
     out: &mut String,
 ) -> Result<(), Fault>
-    requires ring { scene.now.ring.now ≡ J.ring }
-    requires n { scene.now.n ≡ J.n }
     requires first { scene.now.first.now.list.nodes
         ≡ preference_of J.ring scene.now.first.now.key }
     requires first_homes { scene.now.first.now.list.n ≡ J.n }
@@ -158,10 +144,7 @@ fn play_with<J: Naming, R: Wait>(
     mut shares: Vec<NodeShare<J>>,
     mut sessions: Vec<SessionShare<J>>,
     mut session: SessionShare<J>,
-    is_whole: bool,
 ) -> Result<String, Fault>
-    requires ring { scene.now.ring.now ≡ J.ring }
-    requires n { scene.now.n ≡ J.n }
     requires first { scene.now.first.now.list.nodes
         ≡ preference_of J.ring scene.now.first.now.key }
     requires first_homes { scene.now.first.now.list.n ≡ J.n }
@@ -174,7 +157,7 @@ fn play_with<J: Naming, R: Wait>(
     let done = acted_by(rt, scene, &book, &mut shares, &mut session, &mut out);
     sessions.push_reserved(session);
     let closed = book.into_inner().close(shares, sessions);
-    ended(scene.alloc, done, out, closed, is_whole)
+    ended(scene.alloc, done, out, closed)
 }
 
 // Plays the scene on this book in a session of its own.
@@ -184,10 +167,7 @@ fn play_on<J: Naming, R: Wait>(
     mut book: Book<J>,
     shares: Vec<NodeShare<J>>,
     sessions: Vec<SessionShare<J>>,
-    is_whole: bool,
 ) -> Result<String, Fault>
-    requires ring { scene.now.ring.now ≡ J.ring }
-    requires n { scene.now.n ≡ J.n }
     requires first { scene.now.first.now.list.nodes
         ≡ preference_of J.ring scene.now.first.now.key }
     requires first_homes { scene.now.first.now.list.n ≡ J.n }
@@ -196,7 +176,7 @@ fn play_on<J: Naming, R: Wait>(
     requires room { vec_len sessions < vec_capacity sessions }
 {
     match book.session() {
-        Ok(session) => play_with(rt, scene, book, shares, sessions, session, is_whole),
+        Ok(session) => play_with(rt, scene, book, shares, sessions, session),
         Err(fault) => {
             book.abandon(shares, sessions);
             Err(fault)
@@ -230,7 +210,6 @@ fn play<J: Naming, R: Wait>(
     options: Options,
     first: &Keyed,
     deeds: &[Deed],
-    is_whole: bool,
 ) -> Result<String, Fault>
     requires named { blank ≡ record { book = J.book; table = J.table } }
     requires ring { ring.now ≡ J.ring }
@@ -242,14 +221,12 @@ fn play<J: Naming, R: Wait>(
 {
     let scene = Scene {
         alloc,
-        ring,
-        n: options.n,
         first,
         deeds,
     };
     let sessions = Vec::with_capacity(alloc, 1)?;
     match opened::<J>(alloc, blank, ring, options) {
-        Ok((book, shares)) => play_on(rt, &scene, book, shares, sessions, is_whole),
+        Ok((book, shares)) => play_on(rt, &scene, book, shares, sessions),
         Err(fault) => {
             sessions.destroy_empty();
             Err(fault)
@@ -265,14 +242,13 @@ fn played<R: Wait>(
     options: Options,
     first: &Keyed,
     deeds: &[Deed],
-    is_whole: bool,
 ) -> Result<String, Fault>
     requires five { ring.now.nodes ≡ 5 }
     requires first { first.now.list.nodes ≡ preference_of ring.now first.now.key }
     requires first_homes { first.now.list.n ≡ options.n }
 {
     let blank = Blank::new(alloc)?;
-    play::<Brand, R>(rt, alloc, blank, ring, options, first, deeds, is_whole)
+    play::<Brand, R>(rt, alloc, blank, ring, options, first, deeds)
 }
 
 // What the deeds tell on the ring, and then the audit.
@@ -282,7 +258,6 @@ fn played_on<R: Wait>(
     ring: &Ring,
     options: Options,
     deeds: &[Deed],
-    is_whole: bool,
 ) -> Result<String, Fault>
     requires some { 1 ≤ options.n }
     requires few { options.n ≤ 5 }
@@ -291,82 +266,23 @@ fn played_on<R: Wait>(
         return Err(Fault::TooMany);
     }
     let first = with_list(alloc, ring, options.n, b"a")?;
-    played(rt, alloc, ring, options, &first, deeds, is_whole)
-}
-
-// What the deeds tell on a ring of these tokens, and then the audit.
-fn played_at<R: Wait>(
-    rt: &R,
-    alloc: Global,
-    positions: [u128; 5],
-    options: Options,
-    deeds: &[Deed],
-    is_whole: bool,
-) -> Result<String, Fault>
-    requires some { 1 ≤ options.n }
-    requires few { options.n ≤ 5 }
-{
-    let ring = five_nodes(alloc, positions)?;
-    played_on(rt, alloc, &ring, options, deeds, is_whole)
+    played(rt, alloc, ring, options, &first, deeds)
 }
 
 // What the deeds on the key `a` tell, and then the audit.
-pub fn told<R: Wait>(
-    rt: &R,
-    alloc: Global,
-    options: Options,
-    deeds: &[Deed],
-) -> Result<String, Fault>
-    requires { options.n ≡ 3 }
-{
-    played_at(rt, alloc, SPREAD, options, deeds, true)
+pub fn told<R: Wait>(rt: &R, alloc: Global, deeds: &[Deed]) -> Result<String, Fault> {
+    let ring = five_nodes(alloc)?;
+    played_on(rt, alloc, &ring, three_homes(), deeds)
 }
 
 // Plays the deeds, and compares what is told with what is wanted.
 pub fn compare<R: Abort + Wait>(
     rt: &R,
     alloc: Global,
-    options: Options,
-    deeds: &[Deed],
-    wanted: &str,
-) -> Result<(), Fault>
-    requires { options.n ≡ 3 }
-{
-    let text = told(rt, alloc, options, deeds)?;
-    assert_eq!(rt; text.as_str(), wanted);
-    Ok(())
-}
-
-// What the deeds tell where node 0 is the one home of each key, with as many versions and steps as
-// there may be, and then what the audit counts.
-fn told_of_one_home<R: Wait>(
-    rt: &R,
-    alloc: Global,
-    versions_limit: usize,
-    steps_limit: usize,
-    deeds: &[Deed],
-) -> Result<String, Fault> {
-    let options = Options {
-        n: 1,
-        r: 1,
-        w: 1,
-        counter_limit: 9,
-        versions_limit,
-        steps_limit,
-    };
-    played_at(rt, alloc, ALL_TO_NODE_0, options, deeds, false)
-}
-
-// Plays the deeds where node 0 is the one home of each key, and compares what is told.
-pub fn compare_of_one_home<R: Abort + Wait>(
-    rt: &R,
-    alloc: Global,
-    versions_limit: usize,
-    steps_limit: usize,
     deeds: &[Deed],
     wanted: &str,
 ) -> Result<(), Fault> {
-    let text = told_of_one_home(rt, alloc, versions_limit, steps_limit, deeds)?;
+    let text = told(rt, alloc, deeds)?;
     assert_eq!(rt; text.as_str(), wanted);
     Ok(())
 }

@@ -18,12 +18,8 @@ pub struct Stage<'a, J: Naming> {
     pub alloc: Global,
     pub nodes: &'a [Mutex<Node<J>>],
     pub book: &'a Mutex<Book<J>>,
-    pub ring: &'a Ring,
-    pub n: u8,
     pub key: &'a Key,
     pub list: &'a Preference,
-    ghost of_ring: { ring.now ≡ J.ring },
-    ghost of_homes: { n ≡ J.n },
     ghost of_key: { list.now.nodes ≡ preference_of J.ring key.now },
     ghost homes: { list.now.n ≡ J.n },
 }
@@ -55,15 +51,4 @@ pub fn with_list(alloc: Global, ring: &Ring, n: u8, bytes: &[u8]) -> Result<Keye
     let key = Key::new(alloc, bytes)?;
     let list = list_of(alloc, ring, n, &key)?;
     Ok(Keyed { key, list })
-}
-
-// The key of these bytes on the stage, with its list.
-pub fn keyed_on<J: Naming>(stage: &Stage<'_, J>, bytes: &[u8]) -> Result<Keyed, Fault>
-    ensures of_key { IfOk result (λ k. k.list.nodes ≡ preference_of J.ring k.key) }
-    ensures homes { IfOk result (λ k. k.list.n ≡ J.n) }
-{
-    if stage.n < 1 || stage.ring.nodes() < stage.n {
-        return Err(Fault::BadQuorum);
-    }
-    with_list(stage.alloc, stage.ring, stage.n, bytes)
 }

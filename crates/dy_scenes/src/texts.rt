@@ -7,18 +7,12 @@ use dy_dots::{Context, Dot, Fault};
 use dy_handoff::Pass;
 use dy_shares::Naming;
 use dy_siblings::{Row, Value};
-use dy_transport::{AnswerKind, AnswerRead};
+use dy_transport::AnswerRead;
 use std::alloc::Global;
 
 // The place, behind a blank.
-pub fn write_place(out: &mut String, place: Place) -> Result<(), Fault> {
+fn write_place(out: &mut String, place: Place) -> Result<(), Fault> {
     write!(out, " {}/{}", place.holder, place.home)?;
-    Ok(())
-}
-
-// The kind of an answer.
-pub fn write_kind(out: &mut String, kind: AnswerKind) -> Result<(), Fault> {
-    write!(out, "={kind}")?;
     Ok(())
 }
 
@@ -26,7 +20,7 @@ pub fn write_kind(out: &mut String, kind: AnswerKind) -> Result<(), Fault> {
 fn write_answers(out: &mut String, answers: &[AnswerRead]) -> Result<(), Fault> {
     for read in answers {
         write_place(out, read.place)?;
-        write_kind(out, read.kind)?;
+        write!(out, "={}", read.kind)?;
     }
     out.push_str("\n")?;
     Ok(())
@@ -169,36 +163,16 @@ pub fn write_list(out: &mut String, list: &str) -> Result<(), Fault> {
     Ok(())
 }
 
-// How many places and puts the audit lists.
-fn write_sizes(out: &mut String, audit: &Audit) -> Result<(), Fault> {
-    write!(
-        out,
-        "held {} acked {} ",
-        audit.held.len(),
-        audit.acked.len()
-    )?;
-    Ok(())
-}
-
-// The other counts of the audit.
+// The counts of the audit.
 fn write_counts(out: &mut String, audit: &Audit) -> Result<(), Fault> {
     write!(out, "gets {} steps {}", audit.gets, audit.steps)?;
     write!(out, " settled {}\n", audit.settled.len())?;
     Ok(())
 }
 
-// What the audit tells: each place and put, or how many there are, and then the other counts.
-pub fn write_audit(
-    alloc: Global,
-    out: &mut String,
-    audit: &Audit,
-    is_whole: bool,
-) -> Result<(), Fault> {
-    if is_whole {
-        write_held(alloc, out, audit.held.as_slice())?;
-        write_acked(out, audit.acked.as_slice())?;
-    } else {
-        write_sizes(out, audit)?;
-    }
+// What the audit tells: each place and put, and then the counts.
+pub fn write_audit(alloc: Global, out: &mut String, audit: &Audit) -> Result<(), Fault> {
+    write_held(alloc, out, audit.held.as_slice())?;
+    write_acked(out, audit.acked.as_slice())?;
     write_counts(out, audit)
 }

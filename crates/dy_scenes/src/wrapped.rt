@@ -1,33 +1,30 @@
 //! A transport that wraps `Direct`. It lists by itself what came of each begin, and each answer
-//! that was read; and something else may be done while the call is under way.
+//! that was read; and something else is done while the call is under way.
 ghost use Rattle.std.specs.Prelude.{◌≡◌, IfOk};
 ghost use Rattle.dy_transport.specs.Told.{nothing_told};
 
-use crate::handovers::{Between, after_an_offer, before_a_record};
+use crate::at_nodes::{deliver, set_up};
+use crate::calls::{hand_over_one, put_over};
 use crate::stages::Stage;
-use crate::texts::{write_kind, write_place};
-use dy_core::Place;
+use dy_coord::{PutDone, PutFault};
 use dy_dots::{Context, Fault, NodeId};
+use dy_handoff::{Pass, pass};
 use dy_node::{Answer, Ask, Begun};
 use dy_shares::{Naming, Receipt, Seen, SessionShare, Since};
 use dy_siblings::{Key, Row, Value};
 use dy_transport::{AnswerKind, Direct, Transport};
 use std::sync::Wait;
 
-// Nodes that are reached on the caller's own thread, what is done between, and the list so far.
+// Nodes that are reached on the caller's own thread, and the list so far.
 #[derive(Drop)]
 pub struct Wrapped<'a, J: Naming> {
     pub stage: &'a Stage<'a, J>,
     pub direct: Direct<'a, J>,
-    pub between: Between,
     pub list: String,
 }
 
 // The transport of one call.
-pub fn wrapped_on<'a, J: Naming>(
-    stage: &'a Stage<'a, J>,
-    between: Between,
-) -> Result<Wrapped<'a, J>, Fault>
+pub fn wrapped_on<'a, J: Naming>(stage: &'a Stage<'a, J>) -> Result<Wrapped<'a, J>, Fault>
     ensures { IfOk result (λ wrapped. wrapped.direct ≡ nothing_told 32) }
 {
     let direct = Direct::new(stage.alloc, stage.nodes, stage.book, 32)?;
@@ -35,9 +32,32 @@ pub fn wrapped_on<'a, J: Naming>(
     Ok(Wrapped {
         stage,
         direct,
-        between,
         list,
     })
+}
+
+// A put over this transport.
+pub fn put_wrapped<J: Naming, R: Wait>(
+    rt: &R,
+    wrapped: &mut Wrapped<'_, J>,
+    stage: &Stage<'_, J>,
+    session: &mut SessionShare<J>,
+    w: u8,
+) -> Result<Result<PutDone, PutFault>, Fault>
+    requires { wrapped.old.direct ≡ nothing_told 32 }
+{
+    put_over(rt, wrapped, stage, session, w)
+}
+
+// The node hands over its hints over this transport.
+pub fn pass_wrapped<J: Naming, R: Wait>(
+    rt: &R,
+    wrapped: &mut Wrapped<'_, J>,
+    node: NodeId,
+) -> Result<Pass, Fault>
+    requires { wrapped.old.direct ≡ nothing_told 32 }
+{
+    pass(rt, wrapped, node)
 }
 
 // Lists what came of a begin.
@@ -49,27 +69,32 @@ fn list_begun<J: Naming>(list: &mut String, gave: &Result<Begun<J>, Fault>) -> R
     Ok(())
 }
 
-// Lists an answer of this kind.
-fn list_answer(list: &mut String, place: Place, kind: AnswerKind) -> Result<(), Fault> {
-    list.push_str(" read")?;
-    write_place(list, place)?;
-    write_kind(list, kind)
-}
-
 // Lists an answer, or that none was left.
 fn list_read<J: Naming>(
     list: &mut String,
     read: &Option<(NodeId, NodeId, Answer<J>)>,
 ) -> Result<(), Fault> {
-    let Some((node, home, answer)) = read else {
-        list.push_str(" read none")?;
-        return Ok(());
-    };
-    let place = Place {
-        holder: *node,
-        home: *home,
-    };
-    list_answer(list, place, AnswerKind::of(answer))
+    match read {
+        Some((node, home, answer)) => {
+            let kind = AnswerKind::of(answer);
+            write!(list, " read {node}/{home}={kind}")?;
+        }
+        None => list.push_str(" read none")?,
+    }
+    Ok(())
+}
+
+// Node 0 comes up, and node 3 hands over to it.
+fn hand_over_before<J: Naming, R: Wait>(rt: &R, stage: &Stage<'_, J>) -> Result<(), Fault> {
+    set_up(rt, stage, 0, true)?;
+    let _pass = hand_over_one(rt, stage, NodeId::nth(3))?;
+    Ok(())
+}
+
+// Node 3 stores the message that it kept, and node 0 comes up.
+fn deliver_after<J: Naming, R: Wait>(rt: &R, stage: &Stage<'_, J>) -> Result<(), Fault> {
+    let _count = deliver(rt, stage, 3)?;
+    set_up(rt, stage, 0, true)
 }
 
 impl<J: Naming> Transport<J> for Wrapped<'_, J> {
@@ -104,9 +129,10 @@ impl<J: Naming> Transport<J> for Wrapped<'_, J> {
         self.direct.look(rt, node, home, key, since)
     }
 
+    // A message comes after the hints were listed.
     fn offer<R: Wait>(&mut self, rt: &R, node: NodeId) -> Result<Vec<(NodeId, Row)>, Fault> {
         let gave = self.direct.offer(rt, node);
-        let _done = after_an_offer(rt, self.stage, self.between);
+        let _done = deliver_after(rt, self.stage);
         gave
     }
 
@@ -129,6 +155,7 @@ impl<J: Naming> Transport<J> for Wrapped<'_, J> {
         read
     }
 
+    // A handover comes before the put is told.
     fn record<R: Wait>(
         &mut self,
         rt: &R,
@@ -136,7 +163,7 @@ impl<J: Naming> Transport<J> for Wrapped<'_, J> {
         w: u8,
         receipts: &[Receipt<J>],
     ) -> Result<(), Fault> {
-        let _done = before_a_record(rt, self.stage, self.between);
+        let _done = hand_over_before(rt, self.stage);
         self.direct.record(rt, session, w, receipts)
     }
 }

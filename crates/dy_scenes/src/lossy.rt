@@ -1,14 +1,17 @@
-//! A transport of the tests' own, on a line: what is read of one node's answers is stated.
+//! A transport of the tests' own, on a line, for one put: of what node 1 answers nothing is read at
+//! first, and nothing once more.
 ghost use Rattle.std.specs.Prelude.{◌≡◌, IsTrue, IfOk, IfErr, IfSome, IsOkUnless};
 ghost use Rattle.dy_preference.specs.Preferences.{homes_of, may_hold};
 ghost use Rattle.dy_node.specs.Answers.{MayAsk};
 ghost use Rattle.dy_node.specs.declared.asks.Answer.TheVariants.{NoAnswer};
-ghost use Rattle.dy_transport.specs.Asking.{IsAnswerTo, IsBegun, IsSeenAt};
-ghost use Rattle.dy_transport.specs.Refusals.{IsOfBegin, IsOfNode};
+ghost use Rattle.dy_transport.specs.Asking.{IsAnswerTo, IsBegun};
+ghost use Rattle.dy_transport.specs.Refusals.{IsOfBegin};
 ghost use Rattle.dy_transport.specs.Snapshots.{snapshot_of};
 ghost use Rattle.dy_transport.specs.Told.{nothing_told};
 
+use crate::calls::put_over;
 use crate::stages::Stage;
+use dy_coord::{PutDone, PutFault};
 use dy_dots::{Context, Fault, NodeId};
 use dy_node::{Answer, Ask, Begun};
 use dy_shares::{Naming, Receipt, Seen, SessionShare, Since};
@@ -17,43 +20,43 @@ use dy_transport::{Direct, Line, Transport, Try};
 use std::snapshot::Snapshot;
 use std::sync::Wait;
 
-// What is read of an answer.
-#[derive(Clone, Copy)]
-pub enum Fate {
-    // Nothing at first, and the answer after all first ones.
-    Late,
-    // Nothing, and nothing once more.
-    Lost,
-}
-
-// The node whose answers are stated, and what is read of each.
-#[derive(Clone, Copy)]
-pub struct Stating {
-    pub node: NodeId,
-    pub fate: Fate,
-}
-
 // Nodes that are reached on the caller's own thread, and the line of what is read.
 #[derive(Drop)]
-pub struct Stated<'a, J: Naming> {
+pub struct Lossy<'a, J: Naming> {
     pub stage: &'a Stage<'a, J>,
     pub line: Line<J>,
-    pub stating: Stating,
 }
 
-// The transport of one call.
-pub fn stated_on<'a, J: Naming>(
-    stage: &'a Stage<'a, J>,
-    stating: Stating,
-) -> Result<Stated<'a, J>, Fault>
-    ensures { IfOk result (λ stated. stated.line.told ≡ nothing_told 32) }
+// The transport of one put.
+fn lossy_on<'a, J: Naming>(stage: &'a Stage<'a, J>) -> Result<Lossy<'a, J>, Fault>
+    ensures { IfOk result (λ lossy. lossy.line.told ≡ nothing_told 32) }
 {
     let line = Line::new(stage.alloc, 32)?;
-    Ok(Stated {
-        stage,
-        line,
-        stating,
-    })
+    Ok(Lossy { stage, line })
+}
+
+// A put over this line.
+fn put_over_lossy<J: Naming, R: Wait>(
+    rt: &R,
+    lossy: &mut Lossy<'_, J>,
+    stage: &Stage<'_, J>,
+    session: &mut SessionShare<J>,
+    w: u8,
+) -> Result<Result<PutDone, PutFault>, Fault>
+    requires { lossy.old.line.told ≡ nothing_told 32 }
+{
+    put_over(rt, lossy, stage, session, w)
+}
+
+// A put over a line on which node 1's answers are lost.
+pub fn put_lossy<J: Naming, R: Wait>(
+    rt: &R,
+    stage: &Stage<'_, J>,
+    session: &mut SessionShare<J>,
+    w: u8,
+) -> Result<Result<PutDone, PutFault>, Fault> {
+    let mut lossy = lossy_on(stage)?;
+    put_over_lossy(rt, &mut lossy, stage, session, w)
 }
 
 // What stands behind a reference, for contracts alone.
@@ -63,7 +66,25 @@ fn show<T>(x: &T) -> Snapshot<T>
     Snapshot::of(x)
 }
 
-impl<'a, J: Naming> Stated<'a, J> {
+// What the node answers at first, to the only ask.
+fn answered_over<J: Naming, R: Wait>(
+    rt: &R,
+    direct: &mut Direct<'_, J>,
+    to: NodeId,
+    ask: &Ask<'_, J>,
+) -> Answer<J>
+    requires fresh { direct.old ≡ nothing_told 1 }
+    requires may_ask { MayAsk J.ring J.n to ask.now }
+    ensures { IsAnswerTo to ask.now result }
+{
+    direct.ask(rt, to, ask);
+    match direct.next_reply(rt) {
+        Some((_, _, answer)) => answer,
+        None => Answer::NoAnswer,
+    }
+}
+
+impl<'a, J: Naming> Lossy<'a, J> {
     // What carries one message.
     fn direct(&self) -> Result<Direct<'a, J>, Fault>
         ensures ok { IfOk result (λ direct. direct ≡ nothing_told 1) }
@@ -90,23 +111,7 @@ impl<'a, J: Naming> Stated<'a, J> {
         direct.begin(rt, node, home, key, context, value)
     }
 
-    // Looks at the node.
-    fn look_at<R: Wait>(
-        &self,
-        rt: &R,
-        node: NodeId,
-        home: NodeId,
-        key: &Key,
-        since: &Since<J>,
-    ) -> Result<Seen<J>, Fault>
-        ensures seen { IfOk result (λ s. IsSeenAt node home key.now since.now s) }
-        ensures refused { IfErr result IsOfNode }
-    {
-        let mut direct = self.direct()?;
-        direct.look(rt, node, home, key, since)
-    }
-
-    // What the node answers at first.
+    // What the node answers.
     fn answered<R: Wait>(&self, rt: &R, to: NodeId, ask: &Ask<'_, J>) -> Answer<J>
         requires { MayAsk J.ring J.n to ask.now }
         ensures { IsAnswerTo to ask.now result }
@@ -114,18 +119,6 @@ impl<'a, J: Naming> Stated<'a, J> {
         match self.direct() {
             Ok(mut direct) => answered_over(rt, &mut direct, to, ask),
             Err(_fault) => Answer::NoAnswer,
-        }
-    }
-
-    // What is read later of what the node answers.
-    fn later<R: Wait>(&self, rt: &R, to: NodeId, ask: &Ask<'_, J>) -> Answer<J>
-        requires { MayAsk J.ring J.n to ask.now }
-        ensures { IsAnswerTo to ask.now result }
-    {
-        let answer = self.answered(rt, to, ask);
-        match self.stating.fate {
-            Fate::Late => answer,
-            Fate::Lost => Answer::NoAnswer,
         }
     }
 
@@ -141,34 +134,17 @@ impl<'a, J: Naming> Stated<'a, J> {
         ensures second { IfSome result.1 (λ second. IsAnswerTo to ask.now second) }
         ensures awaited { IfSome result.1 (λ _. result.0 ≡ NoAnswer) }
     {
-        if to == self.stating.node {
-            (Answer::NoAnswer, Some(self.later(rt, to, ask)))
+        let answer = self.answered(rt, to, ask);
+        if to == NodeId::nth(1) {
+            (Answer::NoAnswer, Some(Answer::NoAnswer))
         } else {
-            (self.answered(rt, to, ask), None)
+            (answer, None)
         }
     }
 }
 
-// What the node answers at first, to the only ask.
-fn answered_over<J: Naming, R: Wait>(
-    rt: &R,
-    direct: &mut Direct<'_, J>,
-    to: NodeId,
-    ask: &Ask<'_, J>,
-) -> Answer<J>
-    requires fresh { direct.old ≡ nothing_told 1 }
-    requires may_ask { MayAsk J.ring J.n to ask.now }
-    ensures { IsAnswerTo to ask.now result }
-{
-    direct.ask(rt, to, ask);
-    match direct.next_reply(rt) {
-        Some((_, _, answer)) => answer,
-        None => Answer::NoAnswer,
-    }
-}
-
-impl<J: Naming> Transport<J> for Stated<'_, J> {
-    ghost told = { λ s. s.line.told };
+impl<J: Naming> Transport<J> for Lossy<'_, J> {
+    ghost told = { λ l. l.line.told };
 
     fn room(&self) -> usize {
         self.line.room()
@@ -195,6 +171,7 @@ impl<J: Naming> Transport<J> for Stated<'_, J> {
         gave
     }
 
+    // A put does not look, offer or settle.
     fn look<R: Wait>(
         &mut self,
         rt: &R,
@@ -203,7 +180,8 @@ impl<J: Naming> Transport<J> for Stated<'_, J> {
         key: &Key,
         since: &Since<J>,
     ) -> Result<Seen<J>, Fault> {
-        let gave = self.look_at(rt, node, home, key, since);
+        let _ = rt;
+        let gave = Err(Fault::Down);
         self.line.note_try(Try::Look {
             node,
             home,
