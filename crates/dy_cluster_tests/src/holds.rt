@@ -74,7 +74,7 @@ impl Correspondent for Hold {
         post: &mut Post<J>,
     ) {
         if number == 0 {
-            let told = put_told(rt, alloc, cluster, post, session);
+            let told = put_told(rt, alloc, cluster, post, 3, session);
             self.is_put.say();
             *self.put.lock(rt) = told.ok();
         } else if self.is_held.wait() {

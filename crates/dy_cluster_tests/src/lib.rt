@@ -4,10 +4,6 @@
 #[cfg(test)]
 mod absences;
 #[cfg(test)]
-mod clients;
-#[cfg(test)]
-mod crowds;
-#[cfg(test)]
 mod floods;
 #[cfg(test)]
 mod growths;
@@ -25,7 +21,5 @@ mod posted;
 mod rings;
 #[cfg(test)]
 mod signals;
-#[cfg(test)]
-mod teams;
 #[cfg(test)]
 mod workers;

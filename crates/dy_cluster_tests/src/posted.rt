@@ -115,16 +115,17 @@ pub fn text_of(alloc: Global, answers: &[AnswerRead]) -> Result<String, Fault> {
     joined(alloc, lines.as_slice())
 }
 
-// The answers of a put of three homes, as a text.
+// The answers of a put that names so many homes, as a text.
 pub fn put_told<J: Naming, R: Wait>(
     rt: &R,
     alloc: Global,
     cluster: &Cluster<J>,
     post: &mut Post<J>,
+    w: u8,
     session: &mut Session<J>,
 ) -> Result<String, Fault> {
     let context = Context::new(alloc);
-    let answers = put_over(rt, alloc, cluster, post, 3, session, &context)?;
+    let answers = put_over(rt, alloc, cluster, post, w, session, &context)?;
     text_of(alloc, answers.as_slice())
 }
 
