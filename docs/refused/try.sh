@@ -1,47 +1,59 @@
-#!/bin/sh
-# Tries each program of this folder against dy_shares and dy_book, and fails where one that must be
-# refused is taken, is refused for another cause than its second line says, or where the control is
-# refused. Each program is the one file of a crate in a copy of the repository. Names given as
-# arguments stand for all of them.
-here=$(cd "$(dirname "$0")" && pwd)
+#!/usr/bin/env bash
+# Tries the programs of this folder over the libraries that `rt ci` left: one fails where it is taken,
+# or is refused for another cause than its second line says, and the control where it is refused.
+# Use: docs/refused/try.sh [NAME..]; without names it tries all. The last line is 'N passed, M failed'.
+set -u
+here=$(cd "$(dirname "$(readlink -f "${BASH_SOURCE[0]}")")" && pwd)
 top=$(cd "$here/../.." && pwd)
-work=$(mktemp -d)
-trap 'rm -rf "$work"' EXIT
-mkdir -p "$work/crates/refused/src"
-cp "$top/HANDLES" "$work/"
-needed="dy_dots dy_siblings dy_ring dy_preference dy_core dy_shares dy_book"
-for crate in $needed; do
-    cp -r "$top/crates/$crate" "$work/crates/"
-    grep "^$crate:" "$top/crates.txt" >> "$work/crates.txt"
-done
-echo "refused: $needed" >> "$work/crates.txt"
-failed=0
-[ $# -gt 0 ] || set -- $(cd "$here" && ls *.rt.txt | sed 's/\.rt\.txt$//')
-for name in "$@"; do
-    program=$here/$name.rt.txt
-    cp "$program" "$work/crates/refused/src/lib.rt"
-    (cd "$work/crates/refused" && rt check > "$work/said" 2>&1)
-    if grep -q '^// taken' "$program"; then
-        if grep -q '^logic=proved' "$work/said"; then
-            echo "$name: taken, as it must be"
-        else
-            echo "$name: REFUSED"
-            grep -m 2 'error' "$work/said"
-            failed=1
-        fi
-        continue
+kit=$(dirname "$(rt doc)") || exit 2
+folder=$(mktemp -d) || exit 2
+trap 'rm -rf "$folder"' EXIT
+mkdir "$folder/src"
+
+# The words that `rt check` gives to rattle, for a crate over dy_shares and dy_book.
+words=(check --crate-name refused src/lib.rt --jobs 1 --links refused=)
+words+=(--antt-project "$kit/rattle/logic/antt-project.json" --logic-built "$kit/logic_built")
+words+=(--extern "std=$kit/rlibs/std.rlib" -L "dependency=$kit/rlibs")
+for crate in dy_dots dy_siblings dy_ring dy_preference dy_core dy_shares dy_book; do
+    library=$top/crates/$crate/out/rlib/$crate.rlib
+    if [ ! -d "$library" ]; then
+        echo "the library of $crate is not built: run rt ci first"
+        echo "0 passed, 1 failed"
+        exit 1
     fi
+    words+=(--extern "$crate=$library" -L "dependency=$(dirname "$library")")
+done
+
+# Says what is wrong with a program's check, and nothing where it is as wanted.
+judge() {
+    local program=$here/$1.rt.txt cause error
+    cp "$program" "$folder/src/lib.rt" || { echo "there is no such program" && return; }
+    if grep -q '^// taken$' "$program"; then
+        (cd "$folder" && "$kit/bin/rattle" "${words[@]}") >"$folder/said" 2>&1
+        grep -q '^logic=proved ' "$folder/said" || { echo "REFUSED" && grep -m 2 error "$folder/said"; }
+        return
+    fi
+    # (All that these are refused for is known before any proof.)
+    (cd "$folder" && "$kit/bin/rattle" "${words[@]}" --only '') >"$folder/said" 2>&1
     cause=$(sed -n 's|^// refused: ||p' "$program")
-    if ! grep -q 'src/lib.rt:[0-9:]* error' "$work/said"; then
-        echo "$name: TAKEN"
-        tail -n 3 "$work/said"
-        failed=1
-    elif ! grep 'src/lib.rt:[0-9:]* error' "$work/said" | grep -q -- "$cause"; then
-        echo "$name: refused for ANOTHER CAUSE than $cause"
-        grep -m 2 'src/lib.rt:[0-9:]* error' "$work/said"
-        failed=1
+    error=$(grep 'src/lib.rt:[0-9:]* error' "$folder/said")
+    if [ -z "$error" ]; then
+        echo "TAKEN: $(tail -n 1 "$folder/said")"
+    elif [ -z "$cause" ] || ! grep -q -- "$cause" <<<"$error"; then
+        echo "refused for ANOTHER CAUSE than '$cause': $(head -n 1 <<<"$error")"
+    fi
+}
+
+passed=0 failed=0
+[ $# -gt 0 ] || set -- $(cd "$here" && ls ./*.rt.txt | sed 's|^./||; s|\.rt\.txt$||')
+for name in "$@"; do
+    wrong=$(judge "$name")
+    if [ -z "$wrong" ]; then
+        passed=$((passed + 1))
     else
-        echo "$name: $(grep -m 1 'src/lib.rt:[0-9:]* error' "$work/said" | sed 's/^src.lib.rt:[0-9:]* //')"
+        failed=$((failed + 1))
+        echo "$name: $wrong"
     fi
 done
-exit $failed
+echo "$passed passed, $failed failed"
+[ "$failed" = 0 ]
