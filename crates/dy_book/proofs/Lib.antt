@@ -9,6 +9,7 @@ pub mod Making
 pub mod OfKeys
 pub mod Pasts
 pub mod Settling
+pub mod Sinces
 pub mod Sorting
 pub mod Telling
 pub mod Releasing

@@ -6,7 +6,7 @@ ghost use Rattle.std.specs.List.{All, IsDistinct};
 ghost use Rattle.dy_dots.specs.declared.dots.Dot.{Dot as DotParts};
 ghost use Rattle.dy_core.specs.declared.steps.Step.TheVariants.{Ack};
 ghost use Rattle.dy_shares.specs.Shares.{IsReceipt, NodeStays, SessionBelongsTo, SessionStays};
-ghost use Rattle.dy_shares.specs.Shares.{steps_of, told_to, with_ack};
+ghost use Rattle.dy_shares.specs.Shares.{since_of, steps_of, told_to, with_ack};
 ghost use Rattle.dy_book.specs.Books.{AreOf, LacksRoom, with_entries};
 
 use crate::books::Book;
@@ -34,6 +34,7 @@ impl<J: Naming> Book<J> {
             with_entries self.old (told_to share.old.session (Ack key d w) ∷ [])) }
         ensures share { (key : List ℕ) (d : DotParts) → AreOf key d receipts.now →
             OnOk result (share.new ≡ with_ack share.old (length self.old.log + 1) (Ack key d w)) }
+        ensures later { since_of share.old ≤ length self.old.log }
         ensures steps_full { IsErrOf result Fault.StepsFull ↔ LacksRoom self.old 1 }
         ensures only { IfErr result (λ fault.
             (fault ≡ Fault.StepsFull) ⊎ (fault ≡ Fault.OutOfMemory)) }

@@ -4,10 +4,10 @@ ghost use Rattle.std.specs.Option.{option_copied};
 ghost use Rattle.std.specs.List.{Contains};
 ghost use Rattle.dy_dots.specs.declared.dots.TheConstants.{MAX_COUNTER};
 ghost use Rattle.dy_core.specs.Worlds.{is_issued, layout_of};
-ghost use Rattle.dy_core.specs.Logs.{IsLegal};
+ghost use Rattle.dy_core.specs.Logs.{IsAnswer, IsLegal};
 ghost use Rattle.dy_core.specs.Covers.{AcksAreCovered};
 ghost use Rattle.dy_shares.specs.declared.ledgers.TheConstants.{MAX_SESSIONS};
-ghost use Rattle.dy_shares.specs.Shares.{BelongsTo, HasAll, IsMissing};
+ghost use Rattle.dy_shares.specs.Shares.{BelongsTo, HasAll, IsMissing, IsReceipt};
 ghost use Rattle.dy_shares.specs.Shares.{first_parts, first_session, steps_of};
 ghost use Rattle.dy_book.specs.Limits.{AreLimits, IsQuorum};
 ghost use Rattle.dy_book.specs.Books.{with_session, world_of};
@@ -17,7 +17,7 @@ use crate::options::Options;
 use crate::parts::KeyPart;
 use dy_dots::{Dot, Fault, NodeId};
 use dy_ring::Ring;
-use dy_shares::{Blank, Ledger, Naming, NodeShare, SessionShare, Since};
+use dy_shares::{Blank, Ledger, Naming, NodeShare, Receipt, Seen, SessionShare, Since};
 use dy_siblings::{Key, Version};
 use std::alloc::Global;
 use std::collections::BTreeMap;
@@ -111,6 +111,22 @@ impl<J: Naming> Book<J> {
         ensures legal { IsLegal (layout_of J.ring J.n) (steps_of self.old.log) }
     {
         self.ledger.agree(share);
+    }
+
+    /// The receipt holds as the log stands now, whatever came between. Takes no memory.
+    pub fn learn_receipt(&mut self, receipt: &Receipt<J>)
+        ensures book { self.new ≡ self.old }
+        ensures holds { IsReceipt (steps_of self.old.log) receipt.now }
+    {
+        self.ledger.learn_receipt(receipt);
+    }
+
+    /// The log has the answer at its number, whatever came between. Takes no memory.
+    pub fn learn_seen(&mut self, seen: &Seen<J>)
+        ensures book { self.new ≡ self.old }
+        ensures is { IsAnswer (steps_of self.old.log) seen.now }
+    {
+        self.ledger.learn_seen(seen);
     }
 
     /// How many steps the log has. Takes no memory.

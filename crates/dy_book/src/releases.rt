@@ -1,6 +1,6 @@
 // How hints are given up.
-ghost use Rattle.std.specs.Prelude.{◌≡◌, ◌≢◌, ◌↔◌, ◌⊎◌, ℕ, length, IfOk, IfErr, OnOk, OnErr};
-ghost use Rattle.std.specs.Prelude.{IsErrOf, IsOkUnless};
+ghost use Rattle.std.specs.Prelude.{◌≡◌, ◌≢◌, ◌↔◌, ◌⊎◌, ℕ, [], length, IfOk, IfErr, OnOk, OnErr};
+ghost use Rattle.std.specs.Prelude.{IsErrOf, IsOk, IsOkUnless};
 ghost use Rattle.std.specs.List.{All};
 ghost use Rattle.dy_core.specs.Worlds.{World};
 ghost use Rattle.dy_core.specs.Steps.{after_release};
@@ -76,7 +76,7 @@ fn give_up_all<J: Naming>(
 
 impl<J: Naming> Book<J> {
     /// Each receipt's dot leaves what the share's node holds for the receipt's home, one release
-    /// each, all or none.
+    /// each, all or none. Without receipts it takes no memory.
     pub fn release(
         &mut self,
         share: &mut NodeShare<J>,
@@ -93,6 +93,7 @@ impl<J: Naming> Book<J> {
         ensures only { IfErr result (λ fault.
             (fault ≡ Fault.StepsFull) ⊎ (fault ≡ Fault.OutOfMemory)) }
         ensures err { OnErr result ((self.new ≡ self.old) × (share.new ≡ share.old)) }
+        ensures spared { receipts.now ≡ [] → IsOk result }
         ensures belongs { BelongsTo (steps_of self.old.log) share.old }
         ensures nodes { (node : ℕ) → node ≢ share.old.node →
             NodeStays self.old.log self.new.log node }
@@ -125,11 +126,15 @@ impl<J: Naming> Book<J> {
         ensures share { OnOk result
             (share.new ≡ with_steps share.old (release_steps share.old.node receipts.now)) }
         ensures memory { IsOkUnless result Fault.OutOfMemory }
+        ensures spared { receipts.now ≡ [] → IsOk result }
         ensures err { OnErr result ((self.new ≡ self.old) × (share.new ≡ share.old)) }
         ensures nodes { (node : ℕ) → node ≢ share.old.node →
             NodeStays self.old.log self.new.log node }
         ensures sessions { (session : ℕ) → SessionStays self.old.log self.new.log session }
     {
+        if receipts.is_empty() {
+            return Ok(());
+        }
         let steps = steps_of_release(self.alloc, holder, receipts)?;
         self.ledger.learn_receipts(receipts);
         self.ledger.node_steps(share, steps)?;

@@ -4,7 +4,8 @@ use Rattle.std.proofs.Common.{not, cond, IsTrue, List, [], ◌∷◌, ◌++◌, 
 use Rattle.std.proofs.Common.{subst, arith}
 use Rattle.std.specs.List.{All, Contains, list_any}
 use Rattle.std.proofs.lemmas.Bool.{and_from, eq-eqb, or_left, or_right}
-use Rattle.std.proofs.lemmas.List.Elements.{All-cons, All-nil, All-append, All-contains, All-weaker}
+use Rattle.std.proofs.lemmas.List.Elements.{All-cons, All-head, All-nil, All-append, All-contains}
+use Rattle.std.proofs.lemmas.List.Elements.{All-weaker}
 use Rattle.std.proofs.lemmas.List.Elements.{Contains-append_left, Contains-append_right}
 use Rattle.dy_dots.specs.Dots.{same_dot}
 use Rattle.dy_dots.specs.declared.dots.Dot.{Dot}
@@ -28,7 +29,7 @@ use Rattle.dy_book.specs.Books.{BookParts, AreOfDistinctDots, MayRelease, AreOne
 use Rattle.dy_book.specs.Books.{with_untold, world_of}
 use Rattle.dy_node.specs.Stored.{Rooms, Stored, Matches, Shows, stands, versions_at, with_row}
 use Rattle.dy_node.specs.inside.Agreed.{IsAgreed}
-use Rattle.dy_node.specs.Settling.{AreReleased, IsStanding, same_release, without_all}
+use Rattle.dy_node.specs.Settling.{AreReleased, IsStanding, NoneStands, same_release, without_all}
 use Rattle.dy_node.specs.inside.Chosen.{taken}
 use Rattle.dy_node.proofs.RoomLemmas.{with_node, with_place}
 use Rattle.dy_node.proofs.Worldly.{legal_more, matches_world, release_matches, shows_share}
@@ -272,3 +273,12 @@ pub released_apart : (r : Rooms) (receipts released : List ReceiptParts) →
     AreReleased r receipts released → All (λ x. x.home ≢ r.node) released
 released_apart r receipts released are = All-weaker (λ x. Contains receipts x × IsStanding r x)
     (λ x. x.home ≢ r.node) (λ x h. stands_apart r x.home x.key x.dot h.1) released are.each
+
+-- where nothing stands nothing is released
+pub released_nothing : (r : Rooms) (receipts released : List ReceiptParts) →
+    NoneStands r receipts → AreReleased r receipts released → released ≡ []
+released_nothing r receipts [] none are = refl
+released_nothing r receipts (x ∷ released) none are =
+    let here = All-head (λ y. Contains receipts y × IsStanding r y) x released are.each in
+    let not_there = All-contains (λ y. stands r y.home y.key y.dot ≡ false) receipts x none here.0
+    in absurd (true≢false (sym here.1 ∙ not_there))

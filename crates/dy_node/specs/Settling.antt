@@ -17,6 +17,10 @@ use Rattle.dy_node.specs.Nodes.{NodeState}
 abbrev pub IsStanding : Rooms → ReceiptParts → Type 0
 IsStanding r x = IsTrue (stands r x.home x.key x.dot)
 
+-- no receipt's dot stands in the hint for its home
+abbrev pub NoneStands : Rooms → List ReceiptParts → Type 0
+NoneStands r receipts = All (λ x. stands r x.home x.key x.dot ≡ false) receipts
+
 -- whether two receipts are of one home, key and dot
 abbrev pub same_release : ReceiptParts → ReceiptParts → Bool
 same_release a b = (a.home == b.home) && (same_key a.key b.key && same_dot a.dot b.dot)

@@ -1,10 +1,10 @@
 // Hints that are given up by receipts.
-ghost use Rattle.std.specs.Prelude.{◌≡◌, ◌≢◌, IfOk, OnOk, OnErr, IsOkUnless};
+ghost use Rattle.std.specs.Prelude.{◌≡◌, ◌≢◌, ◌∷◌, [], true, IfOk, OnOk, OnErr, IsOk, IsOkUnless};
 ghost use Rattle.std.specs.Result.{result_err};
 ghost use Rattle.std.specs.List.{All, list_any};
 ghost use Rattle.dy_node.specs.Stored.{Shows};
-ghost use Rattle.dy_node.specs.Settling.{AreReleased, IsSettlement, ReleaseRefused, SettleRefused};
-ghost use Rattle.dy_node.specs.Settling.{same_release, without_all};
+ghost use Rattle.dy_node.specs.Settling.{AreReleased, IsSettlement, NoneStands, ReleaseRefused};
+ghost use Rattle.dy_node.specs.Settling.{SettleRefused, same_release, without_all};
 ghost use Rattle.dy_node.specs.inside.Chosen.{taken};
 
 use crate::nodes::Node;
@@ -37,6 +37,7 @@ fn take_in<J: Naming>(
 ) -> Result<(), Fault>
     ensures chosen { OnOk result
         (chosen.new.items ≡ taken stores.now.rooms chosen.old.items receipt.now) }
+    ensures spared { NoneStands stores.now.rooms (receipt.now ∷ []) → IsOk result }
     ensures memory { IsOkUnless result Fault.OutOfMemory }
 {
     let stands = stores.has_hint(receipt.home(), receipt.key(), receipt.dot());
@@ -57,6 +58,7 @@ fn choose<J: Naming>(
 ) -> Result<Vec<Receipt<J>>, Fault>
     ensures chosen { IfOk result (λ chosen.
         AreReleased stores.now.rooms receipts.now chosen.items) }
+    ensures spared { NoneStands stores.now.rooms receipts.now → IsOk result }
     ensures memory { IsOkUnless result Fault.OutOfMemory }
 {
     let mut chosen = Vec::new(alloc);
@@ -93,6 +95,7 @@ fn settle_receipts<J: Naming>(
     ensures stores { OnErr result (stores.new ≡ stores.old) }
     ensures share { OnErr result (share.new ≡ share.old) }
     ensures book { OnErr result (book.new ≡ book.old) }
+    ensures spared { NoneStands stores.old.rooms receipts.now → IsOk result }
     ensures refused { ReleaseRefused book.old stores.old.rooms receipts.now (result_err result) }
 {
     book.agree(share);
@@ -112,7 +115,8 @@ fn settle_receipts<J: Naming>(
 
 impl<J: Naming> Node<J> {
     /// Releases each receipted dot that stands in the hint for the receipt's home, all or none, and
-    /// tells how many. A refusal for want of memory may come before that for want of steps.
+    /// tells how many. A refusal for want of memory may come before that for want of steps. Where
+    /// nothing stands it takes no memory.
     pub fn settle(&mut self, book: &mut Book<J>, receipts: &[Receipt<J>]) -> Result<usize, Fault>
         requires { All (λ r. r.holder ≡ r.home) receipts.now }
         ensures ok { IfOk result (λ count. IsSettlement book.old self.old.part self.old.rooms
@@ -120,6 +124,8 @@ impl<J: Naming> Node<J> {
         ensures is_up { self.new.is_up ≡ self.old.is_up }
         ensures mode { self.new.mode ≡ self.old.mode }
         ensures waiting { self.new.waiting ≡ self.old.waiting }
+        ensures spared { self.old.is_up ≡ true → NoneStands self.old.rooms receipts.now →
+            IsOk result }
         ensures refused { SettleRefused book.old self.old receipts.now (result_err result) }
         ensures err { OnErr result (self.new ≡ self.old) }
         ensures book { OnErr result (book.new ≡ book.old) }

@@ -10,7 +10,8 @@ use Rattle.dy_node.specs.Stored.{Shows}
 use Rattle.dy_node.specs.Settling.{AreReleased, ReleaseRefused, without_all}
 use Rattle.dy_node.proofs.Causes.{release_by, release_done, release_memory}
 use Rattle.dy_node.proofs.Worldly.{agreed_on}
-use Rattle.dy_node.proofs.SettleLemmas.{releasable, released_apart, settle_shows}
+use Rattle.dy_node.proofs.SettleLemmas.{releasable, released_apart, released_nothing}
+use Rattle.dy_node.proofs.SettleLemmas.{settle_shows}
 use Rattle.dy_node.proofs.settling.settle_receipts.Goals as goal
 
 -- what stands in hints may be released
@@ -102,3 +103,10 @@ returns-clause-refused g c =
     (subst (AreReleased c.args.stores.now.rooms c.args.receipts.now) (sym c.as_slice.ensures.value)
     c.in-Ok.ensures.chosen)
     c.in-Err-release.ensures.steps_full c.in-Err-release.ensures.only)
+
+-- where nothing stands nothing is chosen, and the book refuses nothing
+pub returns-clause-spared : goal.returns-clause-spared
+returns-clause-spared g c = λ none.
+    c.in-Err-release.ensures.spared (c.as_slice.ensures.value
+    ∙ released_nothing c.args.stores.now.rooms c.args.receipts.now c.in-Ok.chosen.items none
+    c.in-Ok.ensures.chosen)

@@ -10,11 +10,13 @@ use Rattle.dy_core.specs.Worlds.{layout_of}
 use Rattle.dy_core.specs.Covers.{HasCover}
 use Rattle.dy_core.specs.Logs.{world_after}
 use Rattle.dy_core.specs.declared.steps.Step.TheVariants.{Ack}
-use Rattle.dy_shares.specs.Shares.{Account, ReceiptParts, IsReceipt, steps_of, told_to, with_ack}
+use Rattle.dy_shares.specs.Shares.{Account, ReceiptParts, IsReceipt, since_of, steps_of, told_to}
+use Rattle.dy_shares.specs.Shares.{with_ack}
 use Rattle.dy_shares.specs.Shares.{with_entries as account_with}
-use Rattle.dy_book.specs.Books.{AreOf, with_entries}
+use Rattle.dy_book.specs.Books.{AreOf, BookParts, with_entries}
 use Rattle.dy_book.specs.inside.Kept.{IsBook}
 use Rattle.dy_book.proofs.Bookkeeping.{ack_book, receipts_cover, first_of}
+use Rattle.dy_book.proofs.Sinces.{since_within}
 use Rattle.dy_book.proofs.books.Book.ack.Goals as goal
 
 pub ack_step-requires-clause-allowed : goal.ack_step-requires-clause-allowed
@@ -114,3 +116,24 @@ returns-clause-share g c = λ key d of.
     ∙ ((λ i. with_ack (c.agree_session.ensures.share i) (length (same i).log + 1)
     (Ack (key_is i) (dot_is i) c.args.w))
     ∙ ap (λ s. with_ack c.args.share.now (length s.log + 1) (Ack key d c.args.w)) c.self.view_is)
+
+-- what the session was told is in the log
+pub returns-clause-later : goal.returns-clause-later
+returns-clause-later g c =
+    subst (λ (b : BookParts). since_of c.args.share.now ≤ length b.log) c.self.view_is
+    (since_within c.self.inside.ledger.log g.J.Naming.r c.args.share.now c.agree_session.ensures.belongs)
+
+pub returns-then-steps_left-lt1-clause-later : goal.returns-then-steps_left-lt1-clause-later
+returns-then-steps_left-lt1-clause-later g c =
+    subst (λ (b : BookParts). since_of c.args.share.now ≤ length b.log) c.self.view_is
+    (since_within c.self.inside.ledger.log g.J.Naming.r c.args.share.now c.agree_session.ensures.belongs)
+
+pub returns-in_err-key-clause-later : goal.returns-in_err-key-clause-later
+returns-in_err-key-clause-later g c =
+    subst (λ (b : BookParts). since_of c.args.share.now ≤ length b.log) c.self.view_is
+    (since_within c.self.inside.ledger.log g.J.Naming.r c.args.share.now c.agree_session.ensures.belongs)
+
+pub returns-in_err-ack_step-clause-later : goal.returns-in_err-ack_step-clause-later
+returns-in_err-ack_step-clause-later g c =
+    subst (λ (b : BookParts). since_of c.args.share.now ≤ length b.log) c.self.view_is
+    (since_within c.self.inside.ledger.log g.J.Naming.r c.args.share.now c.agree_session.ensures.belongs)
