@@ -1,7 +1,7 @@
 ghost use Rattle.std.specs.Prelude.{◌≤◌};
 
 use crate::jobs::Job;
-use crate::refusing::refuse_file;
+use crate::refusing::{refuse_file, tell_stopped};
 use dy_dots::Fault;
 use dy_lines::Stopped;
 use dy_runner::{write_ring, write_run};
@@ -35,7 +35,7 @@ pub fn perform<I: Read, W: Write, E: Write, R: Threads + Wait + Sync>(
     match write_job(rt, alloc, job, bytes.as_slice(), out) {
         Ok(()) => 0,
         Err(stopped) => {
-            let _ = writeln!(err, "dynamo: {stopped}");
+            let _ = tell_stopped(err, &stopped);
             status_of(&stopped)
         }
     }

@@ -1,15 +1,49 @@
-ghost use Rattle.std.specs.Prelude.{◌≡◌, ◌≢◌};
+ghost use Rattle.std.specs.Prelude.{List, OnOk, Some, ◌≡◌, ◌≢◌, ◌++◌, ℕ, codes};
+ghost use Rattle.std.specs.Io.KnownBytes.{Appends};
 ghost use Rattle.std.specs.IoError.{error_kind};
+ghost use Rattle.dy_dots.specs.declared.faults.Fault.{Fault};
+ghost use Rattle.dy_lines.specs.Refusals.{refusal_text};
+ghost use Rattle.dy_lines.specs.Stops.{stopped_text};
+ghost use Rattle.dy_lines.specs.Texts.{line};
 
 use dy_dots::Fault;
+use dy_lines::{Refusal, Stopped};
 use std::io;
 use std::io::{ErrorKind, Write};
+
+/// Tells a refusal: the program's name, and the refusal's own text.
+pub fn tell_refusal<E: Write>(err: &mut E, fault: Fault) -> io::Result<()>
+    ensures { OnOk result (Appends (E.contents err.old) (E.contents err.new)
+        (line (codes "dynamo: " ++ refusal_text fault))) }
+{
+    writeln!(err, "dynamo: {}", Refusal(fault))
+}
+
+/// Tells why a job stopped: the program's name, and the refusal, or how the output was lost.
+pub fn tell_stopped<E: Write>(err: &mut E, stopped: &Stopped) -> io::Result<()>
+    ensures { (text : List ℕ) → stopped_text stopped.now ≡ Some text →
+        OnOk result (Appends (E.contents err.old) (E.contents err.new)
+        (line (codes "dynamo: " ++ text))) }
+{
+    match stopped {
+        Stopped::Refused(fault) => tell_refusal(err, *fault),
+        Stopped::Output(error) => writeln!(err, "dynamo: {error}"),
+    }
+}
+
+/// Tells that a word is not UTF-8.
+fn tell_bad_word<E: Write>(err: &mut E) -> io::Result<()>
+    ensures { OnOk result (Appends (E.contents err.old) (E.contents err.new)
+        (line (codes "dynamo: a word of the command line is not UTF-8"))) }
+{
+    writeln!(err, "dynamo: a word of the command line is not UTF-8")
+}
 
 /// Says that memory ran out, and gives the status. Where it can't be said, it is left unsaid.
 pub fn refuse_for_memory<E: Write>(err: &mut E) -> u8
     ensures { result ≡ 1 }
 {
-    let _ = writeln!(err, "dynamo: {}", Fault::OutOfMemory);
+    let _ = tell_refusal(err, Fault::OutOfMemory);
     1
 }
 
@@ -22,7 +56,7 @@ pub fn refuse_words<E: Write>(err: &mut E, error: &io::Error) -> u8
     match error.kind() {
         ErrorKind::OutOfMemory => refuse_for_memory(err),
         _ => {
-            let _ = writeln!(err, "dynamo: a word of the command line is not UTF-8");
+            let _ = tell_bad_word(err);
             2
         }
     }

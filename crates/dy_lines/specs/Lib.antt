@@ -3,4 +3,5 @@ pub mod Keeping
 pub mod Outcomes
 pub mod Places
 pub mod Refusals
+pub mod Stops
 pub mod Texts
