@@ -129,7 +129,7 @@ hold_told b row r not_issued full only =
       only = λ f is. only f (told_from r f is);
     }
 
-no_error : {X : Type 0} (x : X) (f : Fault) → IsErrOf {T = X} {E = Fault} (Ok x) f → ⊥
+pub no_error : {X : Type 0} (x : X) (f : Fault) → IsErrOf {T = X} {E = Fault} (Ok x) f → ⊥
 no_error x f is = none_told f (told_of (Ok x) f is)
 
 one_error : {X : Type 0} (e f : Fault) → IsErrOf {T = X} {E = Fault} (Err e) f → f ≡ e

@@ -2,6 +2,7 @@ pub mod RoomLemmas
 pub mod Worldly
 pub mod Delivering
 pub mod NextOnes
+pub mod Followed
 pub mod SettleLemmas
 pub mod Causes
 pub mod SameCounts

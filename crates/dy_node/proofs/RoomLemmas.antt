@@ -180,6 +180,13 @@ pub versions_kept : (r : Rooms) (home : ℕ) (key : List ℕ) → versions_at r 
     (row_kept r home key)
 versions_kept r home key = versions_kept_by r home key (home == r.node)
 
+-- and so are its versions
+kept_there : (r : Rooms) (home : ℕ) (row : Siblings) →
+    versions_at (with_row r home row.key row.versions) home row.key ≡ row.versions
+kept_there r home row = versions_kept (with_row r home row.key row.versions) home row.key
+    ∙ ap versions_in (kept_after r home row.key row.versions)
+    ∙ versions_in-row_with row.key row.versions
+
 back_rows : (m : Rows) (key : List ℕ) (vs ws : List Version) → row_with key ws ≡ maps.get m key →
     with_versions (with_versions m key vs) key ws ≡ m
 back_rows m key vs ws was = maps.same_map nat_list_cmp_total exact_bytes _ _ (λ q.
@@ -343,6 +350,17 @@ added_placed old new home row merged (Over before) same is p =
       );
       back = ap (λ j. with_row new home j before.versions) (sym same) ∙ p.1;
     }
+
+-- a row that was put, and has a version, is what is kept at its place
+pub placed_kept : (old new : Rooms) (home : ℕ) (row : Siblings) (placed : Placed) (v : Version) →
+    Contains row.versions v → IsPlaced old new home row placed →
+    versions_at new home row.key ≡ row.versions
+placed_kept old new home row Nothing v inside p =
+    absurd (not_in_nil v (subst (λ vs. Contains vs v) p.1 inside))
+placed_kept old new home row New v inside p =
+    ap (λ r. versions_at r home row.key) p.0 ∙ kept_there old home row
+placed_kept old new home row (Over before) v inside p =
+    ap (λ r. versions_at r home row.key) p.0 ∙ kept_there old home row
 
 -- where it can't be, nothing is changed
 pub added_not : (r : Rooms) (home : ℕ) (row : Siblings) →

@@ -1,11 +1,13 @@
 -- What a node is seen as, and what its calls change.
-use Rattle.std.specs.Prelude.{◌≡◌, ℕ, ◌≤◌, ◌<◌, ◌++◌, Bool, true, IsTrue, Option, List, []}
-use Rattle.std.specs.Prelude.{◌∷◌, map, take, drop, refl}
+use Rattle.std.specs.Prelude.{◌≡◌, ◌≢◌, ℕ, ◌≤◌, ◌<◌, ◌++◌, Bool, true, IsTrue, Option, List, []}
+use Rattle.std.specs.Prelude.{◌∷◌, length, map, take, drop, refl}
 use Rattle.std.specs.List.{All}
 use Rattle.std.specs.Coded.{Coded, code_by, coded×, coded_bool, coded_list}
+use Rattle.std.specs.FinMap as maps
 use Rattle.dy_siblings.specs.Siblings.{Siblings, IsSameRow}
 use Rattle.dy_siblings.specs.declared.versions.Version.{Version}
 use Rattle.dy_dots.specs.Dots.{DotSet}
+use Rattle.dy_hint_store.specs.Hints.{home_and_row}
 use Rattle.dy_ring.specs.Rings.{Tokens}
 use Rattle.dy_preference.specs.Preferences.{homes_of, may_hold}
 use Rattle.dy_core.specs.Worlds.{World, row_at}
@@ -88,10 +90,18 @@ with_message n m = record n { waiting = n.waiting ++ m ∷ [] }
 abbrev pub AreDeferred : Tokens → ℕ → ℕ → List Message → Type 0
 AreDeferred ring n node ms = All (λ m. IsTrue (may_hold (homes_of ring n m.row.key) node m.home)) ms
 
+-- the hints of a node, each with its home, by home and then by key
+abbrev pub hints_of : NodeState → List (ℕ × Siblings)
+hints_of n = map home_and_row (maps.entries n.rooms.hints)
+
 -- each hint is for a home of its row's key
 abbrev pub AreForHomes : Tokens → ℕ → List (ℕ × Siblings) → Type 0
 AreForHomes ring n hints =
     All (λ h. IsTrue (may_hold (homes_of ring n h.1.key) h.0 h.0)) hints
+
+-- each hint is for another node than this one, and has a version
+abbrev pub AreForOthers : ℕ → List (ℕ × Siblings) → Type 0
+AreForOthers node hints = All (λ h. (h.0 ≢ node) × (0 < length h.1.versions)) hints
 
 -- what the node keeps is what the world holds at it: each version is the one that was made with its
 -- dot

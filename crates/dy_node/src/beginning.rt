@@ -1,5 +1,6 @@
 // Versions that a node makes.
 ghost use Rattle.std.specs.Prelude.{◌≡◌, ◌+◌, ◌≤◌, ◌∷◌, [], IsTrue, IfOk, OnOk, OnErr, IsOkUnless};
+ghost use Rattle.std.specs.FinSet as set;
 ghost use Rattle.std.specs.List.{Contains};
 ghost use Rattle.std.specs.Result.{result_err};
 ghost use Rattle.dy_dots.specs.declared.dots.TheConstants.{MAX_COUNTER};
@@ -39,6 +40,7 @@ fn plan_next<J: Naming>(
         p.0 ≡ version_made (world_of book.now) share.now.node key.now context.now value) }
     ensures may { IfOk result (λ p. MayIssue book.now share.now.node p.0) }
     ensures few { OnOk result (book.now.options.counter_limit ≤ MAX_COUNTER) }
+    ensures follows { IfOk result (λ p. IsTrue (set.is_subset context.now p.0.past)) }
     ensures counter { IfOk result (λ p. p.1 ≡ greatest_used stores.now.counters key.now + 1) }
     ensures refused { PlanRefused book.now share.now.node key.now context.now
         (result_err result) }
@@ -101,6 +103,7 @@ fn issue_row<J: Naming>(
     requires key { whole.key ≡ version.now.key }
     requires whole { IsSameRow whole.versions
         (merge (versions_at stores.old.rooms home version.now.key) (version.now ∷ [])) }
+    requires in_row { Contains whole.versions version.now }
     ensures shown { Shows share.new stores.new }
     ensures log { OnOk result
         (book.new ≡ with_untold book.old (issue_steps share.old.node home version.now)) }
@@ -108,6 +111,8 @@ fn issue_row<J: Naming>(
         (share.new ≡ with_steps share.old (issue_steps share.old.node home version.now)) }
     ensures receipt { IfOk result (λ r. r ≡
         receipt_parts version.now.key version.now.dot share.old.node home) }
+    ensures kept { OnOk result
+        (versions_at stores.new.rooms home version.now.key ≡ whole.versions) }
     ensures rooms { OnErr result (stores.new.rooms ≡ stores.old.rooms) }
     ensures err { OnErr result ((share.new ≡ share.old) × (book.new ≡ book.old)) }
     ensures memory { IsOkUnless result Fault.OutOfMemory }
@@ -150,12 +155,16 @@ impl<J: Naming> Node<J> {
             (version_begun book.old self.old key.now context.now value))) }
         ensures dot { IfOk result (λ begun.
             begun.dot ≡ (version_begun book.old self.old key.now context.now value).dot) }
+        ensures follows { OnOk result (IsTrue (set.is_subset context.now
+            (version_begun book.old self.old key.now context.now value).past)) }
         ensures key { IfOk result (λ begun. begun.row.key ≡ key.now) }
         ensures row { IfOk result (λ begun. IsSameRow begun.row.versions
             (merge (versions_at self.old.rooms home key.now)
             (version_begun book.old self.old key.now context.now value ∷ []))) }
         ensures in_row { IfOk result (λ begun. Contains begun.row.versions
             (version_begun book.old self.old key.now context.now value)) }
+        ensures kept { IfOk result (λ begun.
+            begun.row.versions ≡ versions_at self.new.rooms home key.now) }
         ensures receipt { IfOk result (λ begun. begun.receipt ≡ receipt_parts key.now
             (version_begun book.old self.old key.now context.now value).dot
             self.old.part.node home) }

@@ -2,8 +2,9 @@
 ghost use Rattle.std.specs.Prelude.{◌≡◌, ◌↔◌, ◌⊎◌, ◌-◌, ◌^◌, false, length, map, min};
 ghost use Rattle.std.specs.Prelude.{IfOk, IfErr, IsErrOf, IsOkUnless};
 ghost use Rattle.std.specs.FinMap as maps;
-ghost use Rattle.dy_hint_store.specs.Hints.{home_and_row, shown};
-ghost use Rattle.dy_node.specs.Nodes.{AreForHomes};
+ghost use Rattle.std.specs.List.{All};
+ghost use Rattle.dy_hint_store.specs.Hints.{IsHint, shown};
+ghost use Rattle.dy_node.specs.Nodes.{AreForHomes, AreForOthers, hints_of};
 
 use crate::nodes::Node;
 use dy_book::Book;
@@ -37,9 +38,11 @@ impl<J: Naming> Node<J> {
     /// Copies of the rows that are kept for other homes, by home and then by key. It lends the book
     /// since that tells who may hold.
     pub fn offer(&mut self, book: &mut Book<J>) -> Result<Vec<(NodeId, Row)>, Fault>
-        ensures hints { IfOk result (λ hints.
-            hints.items ≡ map home_and_row (maps.entries self.old.rooms.hints)) }
+        ensures hints { IfOk result (λ hints. hints.items ≡ hints_of self.old) }
+        ensures kept { IfOk result (λ hints. All (IsHint self.old.rooms.hints) hints.items) }
         ensures for_homes { IfOk result (λ hints. AreForHomes J.ring J.n hints.items) }
+        ensures for_others { IfOk result (λ hints.
+            AreForOthers self.old.part.node hints.items) }
         ensures down { IsErrOf result Fault.Down ↔ (self.old.is_up ≡ false) }
         ensures only { IfErr result (λ fault.
             (fault ≡ Fault.Down) ⊎ (fault ≡ Fault.OutOfMemory)) }

@@ -9,7 +9,7 @@ use Rattle.dy_core.specs.Worlds.{layout_of}
 use Rattle.dy_book.specs.Books.{BookParts, MayIssue, row_alone}
 use Rattle.dy_node.specs.Stored.{Rooms, Stored, Shows, versions_at}
 use Rattle.dy_node.specs.inside.Placing.{FitsBack, IsAdded, IsPlaced, taken_back}
-use Rattle.dy_node.proofs.RoomLemmas.{added_placed}
+use Rattle.dy_node.proofs.RoomLemmas.{added_placed, placed_kept}
 use Rattle.dy_node.proofs.Worldly.{agreed_on, issue_shows, used_there, zero_shows}
 use Rattle.dy_node.proofs.beginning.issue_row.Goals as goal
 
@@ -86,6 +86,17 @@ returns-in-Ok-clause-shown g c =
     c.use_made.new.self c.args.home v c.in_ok-placed.placed before
     (record { belongs = c.agree-in-Ok.ensures.belongs; legal = c.agree-in-Ok.ensures.legal }) shown
     c.in-Ok.ensures.issued c.in-Ok.ensures.log c.in-Ok.ensures.share used added)
+
+-- what was put is what is kept
+pub returns-in-Ok-clause-kept : goal.returns-in-Ok-clause-kept
+returns-in-Ok-clause-kept g c =
+    let home = c.args.home in
+    let v = c.args.version.now in
+    let rooms = c.place.new.self.rooms in
+    ap (λ (x : Stored). versions_at x.rooms home v.key) c.use_made.ensures
+    ∙ ap (versions_at rooms home) (sym c.requires.key)
+    ∙ placed_kept c.make_counter.new.self.rooms rooms home c.args.whole c.in_ok-placed.placed v
+    c.requires.in_row c.in_ok-placed.ensures.rooms
 
 -- what was put is taken back
 pub returns-in-Err-clause-shown : goal.returns-in-Err-clause-shown

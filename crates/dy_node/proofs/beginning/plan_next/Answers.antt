@@ -1,5 +1,10 @@
+use Rattle.std.proofs.Common.{subst, sym, IsTrue}
+use Rattle.std.specs.FinSet as set
+use Rattle.dy_siblings.specs.declared.versions.Version.{Version}
 use Rattle.dy_core.specs.Worlds.{layout_of}
+use Rattle.dy_book.specs.Books.{world_of}
 use Rattle.dy_node.proofs.Causes.{plan_by, plan_done, plan_full}
+use Rattle.dy_node.proofs.Followed.{planned_follows}
 use Rattle.dy_node.proofs.Worldly.{counter_lacks, counter_left}
 use Rattle.dy_node.proofs.beginning.plan_next.Goals as goal
 
@@ -32,3 +37,11 @@ returns-clause-refused g c =
     c.requires.shown c.counter_limit-limit.ensures.value c.in-Ok.ensures.ok.0)
     c.in-Ok-plan.ensures.context_unknown c.in-Ok-plan.ensures.versions_full
     c.in-Ok-plan.ensures.steps_full
+
+-- no dot of the context is unknown, so the version follows each
+pub returns-clause-follows : goal.returns-clause-follows
+returns-clause-follows g c =
+    subst (λ (v : Version). IsTrue (set.is_subset c.args.context.now v.past))
+    (sym c.in-Ok-plan.ensures.ok)
+    (planned_follows c.in-Ok-plan.version (world_of c.args.book.now).versions c.args.key.now
+    c.args.context.now c.in-Ok-plan.ensures.context_unknown)
