@@ -1,18 +1,17 @@
 -- Settling, answer by answer. No more answers bring receipts than asks were made: an answer that
 -- does is the last to its ask, so the numbers of those asks are all different, and below their
 -- count.
-use Rattle.std.proofs.Common.{◌≡◌, ◌++◌, ◌∷◌, ◌<◌, ◌≤◌, ◌+◌, ◌-◌, ◌^◌, [], ℕ, List, Some, Result, length, map, min, nat_eq, zero, suc, refl, sym, ◌∙◌, ap, subst, arith, length-append, append_assoc, inl, inr}
+use Rattle.std.proofs.Common.{◌≡◌, ◌++◌, ◌∷◌, ◌<◌, ◌≤◌, ◌+◌, ◌-◌, ◌^◌, [], ℕ, List, Some, Result, length, min, nat_eq, zero, suc, refl, sym, ◌∙◌, ap, subst, arith, length-append, append_assoc, inl, inr}
 use Rattle.std.proofs.lemmas.Bool.{cases_order}
 use Rattle.std.proofs.lemmas.Bool.Decides.{Decides-eqb}
 use Rattle.std.proofs.lemmas.List.{append-nil}
 use Rattle.std.proofs.lemmas.List.Elements.{All-nil, All-cons, All-head, All-tail, All-append, All-contains, All-push, All-map}
 use Rattle.std.proofs.lemmas.List.Quantifiers.{all_pairs_push}
-use Rattle.std.proofs.lemmas.List.Sums.{fold_push}
+use Rattle.std.proofs.lemmas.List.Sums.{fold-append, fold_push}
 use Rattle.std.proofs.lemmas.Map.Made.{IsDistinct-from_AllPairs}
 use Rattle.std.proofs.lemmas.Option.{slice_get_within}
-use Rattle.std.specs.List.{All, AllPairs, Contains, IsDistinct, slice_get}
+use Rattle.std.specs.List.{All, AllPairs, Contains, IsDistinct, fold, slice_get}
 use Rattle.dy_dots.specs.declared.faults.Fault.{Fault}
-use Rattle.dy_siblings.specs.Siblings.{Siblings}
 use Rattle.dy_siblings.specs.declared.versions.Version.{Version}
 use Rattle.dy_siblings.proofs.Members.{not_in_nil, in_head, in_tail}
 use Rattle.dy_core.proofs.Pigeons.{shared}
@@ -30,12 +29,9 @@ use Rattle.dy_transport.specs.declared.replies.Reply.{Reply}
 use Rattle.dy_transport.specs.declared.tries.Try.{Try}
 use Rattle.dy_transport.specs.declared.tries.Try.TheVariants.{Settle}
 use Rattle.dy_reads.specs.Rules.{IsReplyTo}
-use Rattle.dy_handoff.specs.Passes.{ReceiptList, offer_ask, released_of, settle_tries, stored_in, stored_of}
-use Rattle.dy_handoff.specs.inside.Settling.{Settles, SettlesOne}
-
--- an offer goes to its home
-pub offers_go_home : (hints : List (ℕ × Siblings)) → All (λ a. a.to ≡ a.home) (map offer_ask hints)
-offers_go_home hints = All-map (λ (a : Asked). a.to ≡ a.home) offer_ask hints (λ k d lt. refl)
+use Rattle.dy_handoff.specs.Passes.{ReceiptList, released_of, settle_tries, stored_in, stored_of}
+use Rattle.dy_handoff.specs.declared.counts.Pass.{Pass}
+use Rattle.dy_handoff.specs.inside.Settling.{Differ, IsUnderWay, Settles, SettlesOne, number_in, numbers_of}
 
 ask_at : (P : Asked → Type 0) (asks : List Asked) (k : ℕ) (a : Asked) → All P asks → slice_get asks k ≡ Some a → P a
 ask_at P [] k a all e = absurd (cc)
@@ -61,9 +57,6 @@ in_below (suc n) k lt = elim (cases_order k n) [
   | inr (inl less) ↦ in_tail n k (below n) (in_below n k less)
   | inr (inr more) ↦ absurd (omega arith)
 ]
-
-abbrev pub Differ : ℕ → ℕ → Type 0
-Differ j k = j ≡ k → ⊥
 
 none_of_none : IsDistinct nat_eq []
 none_of_none = IsDistinct-from_AllPairs Decides-eqb [] (λ i j d l k. absurd (omega arith))
@@ -91,18 +84,6 @@ settle_count J node (y ∷ xs) [] = omega arith
 settle_count J node (y ∷ xs) (h ∷ gs) = let l : length (settle_tries {J = J} node xs gs) ≤ length xs = settle_count J node xs gs in omega arith
 
 module _ {J : Type 0} where
-  -- the number of an ask whose answer brings receipts
-  abbrev pub number_in : ℕ → Answer J → List ℕ
-  number_in number (Stored receipts) = number ∷ []
-  number_in number (Rows seen) = []
-  number_in number Down = []
-  number_in number NoAnswer = []
-  number_in number (Refused f) = []
-
-  abbrev pub numbers_of : List (Reply J) → List ℕ
-  numbers_of [] = []
-  numbers_of (r ∷ replies) = number_in r.number r.answer.value ++ numbers_of replies
-
   -- an answer is read that brings these receipts, or none of them
   all_in : (P : ℕ → Type 0) (number : ℕ) (x : Answer J) → ((receipts : ReceiptList) → x ≡ Stored receipts → P number) → All P (number_in number x)
   all_in P number (Stored receipts) h = All-cons P number [] (h receipts refl) (All-nil P)
@@ -214,48 +195,119 @@ module _ {J : Type 0} where
   settle_push node (y ∷ xs) [] x g e = absurd (omega arith)
   settle_push node (y ∷ xs) (h ∷ gs) x g e = ap (λ ts. Settle node (snapshot_of y) (snapshot_of h) ∷ ts) (settle_push node xs gs x g (omega arith))
 
-  -- before the first answer nothing is settled
-  pub settles_start : (node : ℕ) (told : Told J) → told.replies ≡ [] → Settles node told.tries told 0
-  settles_start node told none = record {
+  -- at first nothing is settled
+  pub settles_start : (node released : ℕ) (told : Told J) → Settles node told told released released
+  settles_start node released told = record {
+    came = [];
     gave = [];
-    each = rw none refl;
-    tries = rw none (sym (append-nil told.tries));
-    released_is = refl;
+    each = refl;
+    replies = sym (append-nil told.replies);
+    tries = sym (append-nil told.tries);
+    after_is = refl;
   }
 
   -- an answer more, which was settled
-  pub settles_more : (node released after : ℕ) (before : List (Try J)) (old mid new : Told J) (r : Reply J) (x : ReceiptList) → Settles node before old released
-      → stored_in r.answer.value ≡ x ∷ [] → mid.tries ≡ old.tries → mid.replies ≡ old.replies ++ r ∷ [] → SettlesOne node x mid new released after → Settles node before new after
-  settles_more node released after before old mid new r x s e same more one =
-      let replies : new.replies ≡ old.replies ++ r ∷ [] = ap (λ (t : Told J). t.replies) one.told_is ∙ more in
-      let stored : stored_of new.replies ≡ stored_of old.replies ++ x ∷ [] = stored_one old.replies new.replies r x e replies in
+  pub settles_more : (node before released after : ℕ) (start old mid new : Told J) (r : Reply J) (x : ReceiptList) → Settles node start old before released
+      → stored_in r.answer.value ≡ x ∷ [] → mid.tries ≡ old.tries → mid.replies ≡ old.replies ++ r ∷ [] → SettlesOne node x mid new released after
+      → Settles node start new before after
+  settles_more node before released after start old mid new r x s e same more one =
+      let stored : stored_of (s.came ++ r ∷ []) ≡ stored_of s.came ++ x ∷ [] = stored_one s.came (s.came ++ r ∷ []) r x e refl in
       let settle : Try J = Settle node (snapshot_of x) (snapshot_of one.gave) in
-      let done : List (Try J) = settle_tries node (stored_of old.replies) s.gave in
+      let done : List (Try J) = settle_tries node (stored_of s.came) s.gave in
       record {
+        came = s.came ++ r ∷ [];
         gave = s.gave ++ one.gave ∷ [];
-        each = rw stored (let each = s.each in omega (arith, length-append s.gave (one.gave ∷ []), length-append (stored_of old.replies) (x ∷ [])));
+        each = rw stored (let each = s.each in omega (arith, length-append s.gave (one.gave ∷ []), length-append (stored_of s.came) (x ∷ [])));
+        replies = ap (λ (t : Told J). t.replies) one.told_is ∙ (more ∙ (ap (λ rs. rs ++ r ∷ []) s.replies ∙ append_assoc start.replies s.came (r ∷ [])));
         tries = ap (λ (t : Told J). t.tries) one.told_is ∙ (ap (λ ts. ts ++ settle ∷ []) (same ∙ s.tries)
-            ∙ (append_assoc before done (settle ∷ []) ∙ ap (λ ts. before ++ ts)
-            (sym (ap (λ xs. settle_tries node xs (s.gave ++ one.gave ∷ [])) stored ∙ settle_push node (stored_of old.replies) s.gave x one.gave s.each))));
-        released_is = one.after_is ∙ (ap (λ n. min (n + released_of one.gave) (2 ^ 64 - 1)) s.released_is
-            ∙ sym (fold_push (λ (n : ℕ) (g : Result ℕ Fault). min (n + released_of g) (2 ^ 64 - 1)) 0 s.gave one.gave));
+            ∙ (append_assoc start.tries done (settle ∷ []) ∙ ap (λ ts. start.tries ++ ts)
+            (sym (ap (λ xs. settle_tries node xs (s.gave ++ one.gave ∷ [])) stored ∙ settle_push node (stored_of s.came) s.gave x one.gave s.each))));
+        after_is = one.after_is ∙ (ap (λ n. min (n + released_of one.gave) (2 ^ 64 - 1)) s.after_is
+            ∙ sym (fold_push (λ (n : ℕ) (g : Result ℕ Fault). min (n + released_of g) (2 ^ 64 - 1)) before s.gave one.gave));
       }
 
   -- an answer more, which brought no receipts
-  pub settles_none : (node released : ℕ) (before : List (Try J)) (old new : Told J) (r : Reply J) → Settles node before old released → stored_in r.answer.value ≡ []
-      → new.tries ≡ old.tries → new.replies ≡ old.replies ++ r ∷ [] → Settles node before new released
-  settles_none node released before old new r s e same more =
-      let stored : stored_of new.replies ≡ stored_of old.replies = stored_none old.replies new.replies r e more in
+  pub settles_none : (node before released : ℕ) (start old new : Told J) (r : Reply J) → Settles node start old before released → stored_in r.answer.value ≡ []
+      → new.tries ≡ old.tries → new.replies ≡ old.replies ++ r ∷ [] → Settles node start new before released
+  settles_none node before released start old new r s e same more =
+      let stored : stored_of (s.came ++ r ∷ []) ≡ stored_of s.came = stored_none s.came (s.came ++ r ∷ []) r e refl in
       record {
+        came = s.came ++ r ∷ [];
         gave = s.gave;
         each = s.each ∙ ap length (sym stored);
-        tries = same ∙ (s.tries ∙ ap (λ xs. before ++ settle_tries node xs s.gave) (sym stored));
-        released_is = s.released_is;
+        replies = more ∙ (ap (λ rs. rs ++ r ∷ []) s.replies ∙ append_assoc start.replies s.came (r ∷ []));
+        tries = same ∙ (s.tries ∙ ap (λ xs. start.tries ++ settle_tries node xs s.gave) (sym stored));
+        after_is = s.after_is;
       }
 
-  -- no more settles than answers that brought receipts
-  pub tries_few : (node released : ℕ) (before : List (Try J)) (told : Told J) → Settles node before told released → length told.tries ≤ length before + length (stored_of told.replies)
-  tries_few node released before told s =
-      let a : length told.tries ≡ length before + length (settle_tries node (stored_of told.replies) s.gave) = ap length s.tries ∙ length-append before (settle_tries node (stored_of told.replies) s.gave) in
-      let b : length (settle_tries node (stored_of told.replies) s.gave) ≤ length (stored_of told.replies) = settle_count J node (stored_of told.replies) s.gave in
+  stored-append : (xs ys : List (Reply J)) → stored_of (xs ++ ys) ≡ stored_of xs ++ stored_of ys
+  stored-append [] ys = refl
+  stored-append (r ∷ xs) ys = ap (λ zs. stored_in r.answer.value ++ zs) (stored-append xs ys) ∙ sym (append_assoc (stored_in r.answer.value) (stored_of xs) (stored_of ys))
+
+  settle-append : (node : ℕ) (xs ys : List ReceiptList) (gs hs : List (Result ℕ Fault)) → length gs ≡ length xs
+      → settle_tries {J = J} node (xs ++ ys) (gs ++ hs) ≡ settle_tries node xs gs ++ settle_tries node ys hs
+  settle-append node [] ys [] hs e = refl
+  settle-append node [] ys (h ∷ gs) hs e = absurd (omega arith)
+  settle-append node (x ∷ xs) ys [] hs e = absurd (omega arith)
+  settle-append node (x ∷ xs) ys (h ∷ gs) hs e = ap (λ ts. Settle node (snapshot_of x) (snapshot_of h) ∷ ts) (settle-append node xs ys gs hs (omega arith))
+
+  -- what was settled, and what was settled after it
+  pub settles_join : (node a b c : ℕ) (old mid new : Told J) → Settles node old mid a b → Settles node mid new b c → Settles node old new a c
+  settles_join node a b c old mid new s t =
+      let stored : stored_of (s.came ++ t.came) ≡ stored_of s.came ++ stored_of t.came = stored-append s.came t.came in
+      let done : List (Try J) = settle_tries node (stored_of s.came) s.gave in
+      let more : List (Try J) = settle_tries node (stored_of t.came) t.gave in
+      record {
+        came = s.came ++ t.came;
+        gave = s.gave ++ t.gave;
+        each = rw stored (let e = s.each in let f = t.each in omega (arith, length-append s.gave t.gave, length-append (stored_of s.came) (stored_of t.came)));
+        replies = t.replies ∙ (ap (λ rs. rs ++ t.came) s.replies ∙ append_assoc old.replies s.came t.came);
+        tries = t.tries ∙ (ap (λ ts. ts ++ more) s.tries ∙ (append_assoc old.tries done more ∙ ap (λ ts. old.tries ++ ts)
+            (sym (ap (λ xs. settle_tries node xs (s.gave ++ t.gave)) stored ∙ settle-append node (stored_of s.came) (stored_of t.came) s.gave t.gave s.each))));
+        after_is = t.after_is ∙ (ap (λ n. fold (λ (n : ℕ) (g : Result ℕ Fault). min (n + released_of g) (2 ^ 64 - 1)) n t.gave) s.after_is
+            ∙ sym (fold-append (λ (n : ℕ) (g : Result ℕ Fault). min (n + released_of g) (2 ^ 64 - 1)) a s.gave t.gave));
+      }
+
+  -- for each settle there is room
+  pub tries_within : (told : Told J) (done : Pass) → IsUnderWay told done → length told.tries ≤ 1 + told.room
+  tries_within told done way =
+      let stored = stored_few told.asks told.replies way.known way.apart in
+      let tries = way.tries in
+      let few = way.few in
       omega arith
+
+  -- a settle more where an answer brought receipts, and none where it did not
+  pub tries_one : (old : List (Reply J)) (n m : ℕ) (more : List (Reply J)) (r : Reply J) (x : ReceiptList) → n ≤ 1 + length (stored_of old) → m ≡ n + 1
+      → stored_in r.answer.value ≡ x ∷ [] → more ≡ old ++ r ∷ [] → m ≤ 1 + length (stored_of more)
+  tries_one old n m more r x few e is more_is =
+      let l : length (stored_of old) + 1 ≡ length (stored_of more) = stored_count old more r x (length (stored_of old)) refl is more_is in
+      omega arith
+
+  -- an answer more that brought receipts, which were settled
+  pub way_stored : (old new : Told J) (offers stored released after : ℕ) (r : Reply J) (x : ReceiptList) → IsUnderWay old (record { offers = offers; stored = stored; released = released })
+      → IsReplyTo old.asks r → IsAwaited old.replies r.number → stored_in r.answer.value ≡ x ∷ [] → new.asks ≡ old.asks → new.replies ≡ old.replies ++ r ∷ []
+      → length new.tries ≡ length old.tries + 1 → new.room ≡ old.room → IsUnderWay new (record { offers = offers; stored = stored + 1; released = after })
+  way_stored old new offers stored released after r x way is awaited e now more count room = record {
+    known = known_more old.asks new.asks old.replies new.replies r way.known is now more;
+    apart = apart_more old.replies new.replies r way.apart awaited more;
+    homes = (let P : List Asked → Type 0 = λ xs. All (λ a. a.to ≡ a.home) xs in subst P (sym now) way.homes);
+    few = rw (now, room) way.few;
+    tries = tries_one old.replies (length old.tries) (length new.tries) new.replies r x way.tries count e more;
+    offers_are = way.offers_are ∙ ap length (sym now);
+    stored_are = stored_count old.replies new.replies r x stored way.stored_are e more;
+  }
+
+  -- an answer more that brought none
+  pub way_unstored : (old new : Told J) (done : Pass) (r : Reply J) → IsUnderWay old done → IsReplyTo old.asks r → IsAwaited old.replies r.number → stored_in r.answer.value ≡ []
+      → new.asks ≡ old.asks → new.replies ≡ old.replies ++ r ∷ [] → new.tries ≡ old.tries → new.room ≡ old.room → IsUnderWay new done
+  way_unstored old new done r way is awaited e now more same room =
+      let stored : stored_of new.replies ≡ stored_of old.replies = stored_none old.replies new.replies r e more in
+      record {
+        known = known_more old.asks new.asks old.replies new.replies r way.known is now more;
+        apart = apart_more old.replies new.replies r way.apart awaited more;
+        homes = (let P : List Asked → Type 0 = λ xs. All (λ a. a.to ≡ a.home) xs in subst P (sym now) way.homes);
+        few = rw (now, room) way.few;
+        tries = rw (same, stored) way.tries;
+        offers_are = way.offers_are ∙ ap length (sym now);
+        stored_are = way.stored_are ∙ ap length (sym stored);
+      }

@@ -1,5 +1,5 @@
 -- What a pass asks, settles and counts (Dynamo, section 4.6).
-use Rattle.std.specs.Prelude.{◌≡◌, ◌≤◌, ◌+◌, ◌-◌, ◌^◌, ◌++◌, ◌∷◌, [], ℕ, List, length, map, min}
+use Rattle.std.specs.Prelude.{◌≡◌, ◌≤◌, ◌+◌, ◌-◌, ◌^◌, ◌++◌, ◌∷◌, [], ℕ, List, length, min}
 use Rattle.std.specs.Prelude.{take, Result, Ok, Err}
 use Rattle.std.specs.List.{All, fold}
 use Rattle.std.specs.declared.alloc.Global.{Global}
@@ -10,7 +10,7 @@ use Rattle.dy_shares.specs.Shares.{ReceiptParts}
 use Rattle.dy_node.specs.declared.asks.Answer.{Answer}
 use Rattle.dy_node.specs.declared.asks.Answer.TheVariants.{Stored, Rows, Down, NoAnswer, Refused}
 use Rattle.dy_transport.specs.Snapshots.{snapshot_of}
-use Rattle.dy_transport.specs.Told.{Told}
+use Rattle.dy_transport.specs.Told.{Told, nothing_told, with_none, with_try}
 use Rattle.dy_transport.specs.declared.asked.Asked.{Asked}
 use Rattle.dy_transport.specs.declared.asked.What.TheVariants.{Store}
 use Rattle.dy_transport.specs.declared.replies.Reply.{Reply}
@@ -23,9 +23,9 @@ use Rattle.dy_handoff.specs.declared.counts.Pass.{Pass}
 abbrev pub ReceiptList : Type 0
 ReceiptList = Vec ReceiptParts Global
 
--- the home of a hint is asked to hold its row for itself, before any answer is read
-abbrev pub offer_ask : ℕ × Siblings → Asked
-offer_ask hint = ask_of (Store (snapshot_of hint.1)) hint.0 hint.0 0
+-- the home of a hint is asked to hold its row for itself, after so many answers
+abbrev pub offer_ask : ℕ × Siblings → ℕ → Asked
+offer_ask hint read = ask_of (Store (snapshot_of hint.1)) hint.0 hint.0 read
 
 -- how many dots a settle gave up: by a refusal none
 abbrev pub released_of : Result ℕ Fault → ℕ
@@ -57,15 +57,39 @@ module _ {J : Type 0} where
   settle_tries node (receipts ∷ more) (g ∷ gave) =
       Settle node (snapshot_of receipts) (snapshot_of g) ∷ settle_tries node more gave
 
-  -- the node's hints were listed; the home of each of the first, as many as there was room for, was
-  -- asked to hold the row; each answer was read, and what it brought was settled; it is counted so
+  -- a hint is handed over: its home is asked, after all answers that were read before; answers of
+  -- those asked come until none is left; and what each brings is settled at the node
+  pub record HandsOver (node : ℕ) (hint : ℕ × Siblings) (old new : Told J) : Type 0 where
+    pub came : List (Reply J)
+    pub gave : List (Result ℕ Fault)
+    pub each : length gave ≡ length (stored_of came)
+    pub asks : new.asks ≡ old.asks ++ offer_ask hint (length old.replies) ∷ []
+    pub replies : new.replies ≡ old.replies ++ came
+    pub known : All (IsReplyTo new.asks) came
+    pub out : IsReadOut new
+    pub tries : new.tries ≡ old.tries ++ settle_tries node (stored_of came) gave
+
+  -- hint after hint is handed over, the next one where the last one ended
+  abbrev pub HandsOverInTurn : ℕ → List (ℕ × Siblings) → Told J → Told J → Type 0
+  HandsOverInTurn node [] old new = new ≡ old
+  HandsOverInTurn node (hint ∷ hints) old new =
+      (mid : Told J) × HandsOver node hint old mid × HandsOverInTurn node hints mid new
+
+  -- the hints were listed, and nothing was left to read
+  abbrev pub listed : ℕ → Vec (ℕ × Siblings) Global → ℕ → Told J
+  listed node hints room =
+      with_none (with_try (nothing_told room) (Offer node (snapshot_of (Ok hints))))
+
+  -- the node's hints were listed; the first, as many as there was room for, were handed over in
+  -- turn; each answer was read, and what it brought was settled; it is counted so
   pub record IsPass (node : ℕ) (told : Told J) (done : Pass) : Type 0 where
     pub hints : Vec (ℕ × Siblings) Global
     pub gave : List (Result ℕ Fault)
     pub each : length gave ≡ length (stored_of told.replies)
     pub tries : told.tries ≡ Offer node (snapshot_of (Ok hints))
         ∷ settle_tries node (stored_of told.replies) gave
-    pub asks : told.asks ≡ map offer_ask (take told.room hints.items)
+    pub turns : HandsOverInTurn node (take told.room hints.items)
+        (listed node hints told.room) told
     pub known : All (IsReplyTo told.asks) told.replies
     pub out : IsReadOut told
     pub offers_are : done.offers ≡ length told.asks

@@ -1,15 +1,15 @@
-ghost use Rattle.std.specs.Prelude.{◌≡◌, ◌≤◌, ◌<◌, ◌+◌, ◌∷◌, [], length, map, take};
+ghost use Rattle.std.specs.Prelude.{◌≡◌, ◌<◌, ◌+◌, ◌^◌, ◌∷◌, [], length, take};
 ghost use Rattle.std.specs.Prelude.{Err, IfOk, IfErr, IfNone, IfSome};
 ghost use Rattle.std.specs.List.{All};
 ghost use Rattle.dy_node.specs.Nodes.{AreForHomes};
 ghost use Rattle.dy_transport.specs.Refusals.{IsOfOffer};
 ghost use Rattle.dy_transport.specs.Snapshots.{snapshot_of};
-ghost use Rattle.dy_transport.specs.Told.{Told, with_try};
+ghost use Rattle.dy_transport.specs.Told.{Told, with_none, with_try};
 ghost use Rattle.dy_transport.specs.declared.tries.Try.TheVariants.{Offer};
 ghost use Rattle.dy_transport.specs.declared.transports.TheConstants.{SPARE_TRIES};
-ghost use Rattle.dy_reads.specs.Rules.{IsReadOut, IsReplyTo};
-ghost use Rattle.dy_handoff.specs.Passes.{IsPass, offer_ask, stored_in, stored_of};
-ghost use Rattle.dy_handoff.specs.inside.Settling.{SettlesOne, Settles};
+ghost use Rattle.dy_reads.specs.Rules.{IsReadOut};
+ghost use Rattle.dy_handoff.specs.Passes.{HandsOver, HandsOverInTurn, IsPass, stored_in};
+ghost use Rattle.dy_handoff.specs.inside.Settling.{IsUnderWay, SettlesOne, Settles};
 
 use crate::counts::Pass;
 use dy_dots::{Fault, NodeId};
@@ -29,39 +29,6 @@ fn receipts_in<J: Naming>(answer: Answer<J>) -> Option<Vec<Receipt<J>>>
         Answer::Rows(_seen) => None,
         Answer::Down | Answer::NoAnswer | Answer::Refused(_) => None,
     }
-}
-
-// Asks the home of each of the first hints to hold the row.
-fn ask_offers<J: Naming, T: Transport<J>, R: Wait>(
-    rt: &R,
-    transport: &mut T,
-    hints: &[(NodeId, Row)],
-) -> usize
-    requires fresh_asks { (T.told transport.old).asks ≡ [] }
-    requires fresh_replies { (T.told transport.old).replies ≡ [] }
-    requires for_homes { AreForHomes J.ring J.n hints.now }
-    ensures asks { (T.told transport.new).asks
-        ≡ map offer_ask (take (T.told transport.old).room hints.now) }
-    ensures count { result ≡ length (T.told transport.new).asks }
-    ensures few { result ≤ (T.told transport.old).room }
-    ensures replies { (T.told transport.new).replies ≡ [] }
-    ensures tries { (T.told transport.new).tries ≡ (T.told transport.old).tries }
-    ensures room { (T.told transport.new).room ≡ (T.told transport.old).room }
-{
-    let room = transport.room();
-    let mut offers = 0usize;
-    for i in 0..hints.len() {
-        if i < room {
-            let hint = &hints[i];
-            let ask = Ask::Store {
-                home: hint.0,
-                row: &hint.1,
-            };
-            transport.ask(rt, hint.0, &ask);
-            offers += 1;
-        }
-    }
-    offers
 }
 
 // Lets the node give up what the receipts name, and adds how much it gave up.
@@ -84,30 +51,24 @@ fn settle_one<J: Naming, T: Transport<J>, R: Wait>(
     }
 }
 
-// Reads every answer, and settles the receipts that each brings.
+// Reads every answer that is left, and settles the receipts that each brings.
 fn settle_all<J: Naming, T: Transport<J>, R: Wait>(
     rt: &R,
     transport: &mut T,
     node: NodeId,
-    offers: usize,
+    done: Pass,
 ) -> Pass
-    requires fresh { (T.told transport.old).replies ≡ [] }
-    requires tries { length (T.told transport.old).tries ≡ 1 }
-    requires asks { offers ≡ length (T.told transport.old).asks }
-    requires few { offers ≤ (T.told transport.old).room }
-    requires homes { All (λ a. a.to ≡ a.home) (T.told transport.old).asks }
+    requires way { IsUnderWay (T.told transport.old) done }
+    ensures way { IsUnderWay (T.told transport.new) result }
+    ensures settles { Settles node (T.told transport.old) (T.told transport.new)
+        done.released result.released }
     ensures asks { (T.told transport.new).asks ≡ (T.told transport.old).asks }
     ensures room { (T.told transport.new).room ≡ (T.told transport.old).room }
-    ensures settles { Settles node (T.told transport.old).tries
-        (T.told transport.new) result.released }
-    ensures known { All (IsReplyTo (T.told transport.new).asks) (T.told transport.new).replies }
     ensures out { IsReadOut (T.told transport.new) }
-    ensures offers { result.offers ≡ offers }
-    ensures stored { result.stored ≡ length (stored_of (T.told transport.new).replies) }
-    ensures fewer { result.stored ≤ offers }
+    ensures offers { result.offers ≡ done.offers }
 {
-    let mut stored = 0usize;
-    let mut released = 0usize;
+    let mut stored = done.stored;
+    let mut released = done.released;
     'reading: for _ in rt.forever() {
         let Some((_, _, answer)) = transport.next_reply(rt) else {
             break;
@@ -118,16 +79,89 @@ fn settle_all<J: Naming, T: Transport<J>, R: Wait>(
         }
     }
     Pass {
-        offers,
+        offers: done.offers,
         stored,
         released,
     }
 }
 
-/// Hands over what a node keeps for others: asks the home of each of the first hints, as many as
-/// there is room for, to hold the row, and lets the node give up just what the homes' receipts name
-/// (Dynamo, section 4.6). May wait for locks and for answers. A settle that is refused gives up
-/// nothing, and the pass goes on.
+// Hands over one hint: asks its home to hold the row, and settles all that comes.
+fn hand_over<J: Naming, T: Transport<J>, R: Wait>(
+    rt: &R,
+    transport: &mut T,
+    node: NodeId,
+    hint: &(NodeId, Row),
+    done: Pass,
+) -> Pass
+    requires way { IsUnderWay (T.told transport.old) done }
+    requires room { length (T.told transport.old).asks < (T.told transport.old).room }
+    requires more { done.offers + 1 < 2 ^ 64 }
+    requires for_home { AreForHomes J.ring J.n (hint.now ∷ []) }
+    ensures way { IsUnderWay (T.told transport.new) result }
+    ensures over { HandsOver node hint.now (T.told transport.old) (T.told transport.new) }
+    ensures settles { Settles node (T.told transport.old) (T.told transport.new)
+        done.released result.released }
+    ensures room { (T.told transport.new).room ≡ (T.told transport.old).room }
+    ensures offers { result.offers ≡ done.offers + 1 }
+{
+    let ask = Ask::Store {
+        home: hint.0,
+        row: &hint.1,
+    };
+    transport.ask(rt, hint.0, &ask);
+    let offered = Pass {
+        offers: done.offers + 1,
+        stored: done.stored,
+        released: done.released,
+    };
+    settle_all(rt, transport, node, offered)
+}
+
+// Looks for an answer where nothing was asked: there is none.
+fn find_none<J: Naming, T: Transport<J>, R: Wait>(rt: &R, transport: &mut T)
+    requires { (T.told transport.old).asks ≡ [] }
+    ensures { T.told transport.new ≡ with_none (T.told transport.old) }
+{
+    let _none = transport.next_reply(rt);
+}
+
+// Hands over the first hints, as many as there is room for, one after another.
+fn hand_over_all<J: Naming, T: Transport<J>, R: Wait>(
+    rt: &R,
+    transport: &mut T,
+    node: NodeId,
+    hints: &[(NodeId, Row)],
+) -> Pass
+    requires way { IsUnderWay (T.told transport.old)
+        (record { offers = 0; stored = 0; released = 0 }) }
+    requires out { IsReadOut (T.told transport.old) }
+    requires for_homes { AreForHomes J.ring J.n hints.now }
+    ensures way { IsUnderWay (T.told transport.new) result }
+    ensures turns { HandsOverInTurn node (take (T.told transport.old).room hints.now)
+        (T.told transport.old) (T.told transport.new) }
+    ensures settles { Settles node (T.told transport.old) (T.told transport.new)
+        0 result.released }
+    ensures room { (T.told transport.new).room ≡ (T.told transport.old).room }
+    ensures out { IsReadOut (T.told transport.new) }
+{
+    let room = transport.room();
+    let mut done = Pass {
+        offers: 0,
+        stored: 0,
+        released: 0,
+    };
+    for i in 0..hints.len() {
+        if i < room {
+            done = hand_over(rt, transport, node, &hints[i], done);
+        }
+    }
+    done
+}
+
+/// Hands over what a node keeps for others, hint by hint: asks the home of each of the first, as
+/// many as there is room for, to hold the row, and lets the node give up just what the home's
+/// receipts name before it asks the next (Dynamo, section 4.6). May wait for locks and for answers.
+/// A settle that is refused gives up nothing, and the pass goes on.
 pub fn pass<J: Naming, T: Transport<J>, R: Wait>(
     rt: &R,
     transport: &mut T,
@@ -143,6 +177,7 @@ pub fn pass<J: Naming, T: Transport<J>, R: Wait>(
     ensures room { (T.told transport.new).room ≡ (T.told transport.old).room }
 {
     let hints = transport.offer(rt, node)?;
-    let offers = ask_offers(rt, transport, &hints);
-    Ok(settle_all(rt, transport, node, offers))
+    // So that a pass without hints, too, ends with a look that found no answer.
+    find_none(rt, transport);
+    Ok(hand_over_all(rt, transport, node, &hints))
 }

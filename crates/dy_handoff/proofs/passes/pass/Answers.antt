@@ -1,41 +1,34 @@
--- A pass is whole: what was offered was asked, and what was asked was settled.
-use Rattle.std.proofs.Common.{◌≡◌, ◌++◌, ◌∷◌, [], List, Ok, length, map, take, sym, ◌∙◌, ap, subst}
-use Rattle.std.specs.List.{All}
-use Rattle.dy_transport.specs.Snapshots.{snapshot_of}
-use Rattle.dy_transport.specs.declared.asked.Asked.{Asked}
-use Rattle.dy_transport.specs.declared.tries.Try.TheVariants.{Offer}
-use Rattle.dy_handoff.specs.Passes.{offer_ask, settle_tries, stored_of}
-use Rattle.dy_handoff.proofs.Settlings.{offers_go_home}
+-- A pass is whole: what was listed was handed over, hint by hint.
+use Rattle.std.proofs.Common.{ℕ, List, refl, sym, ◌∙◌, ap, subst, arith}
+use Rattle.dy_siblings.specs.Siblings.{Siblings}
+use Rattle.dy_node.specs.Nodes.{AreForHomes}
+use Rattle.dy_transport.specs.Told.{Told}
+use Rattle.dy_reads.specs.Rules.{IsReadOut}
+use Rattle.dy_handoff.specs.Passes.{listed}
+use Rattle.dy_handoff.specs.inside.Settling.{IsUnderWay}
+use Rattle.dy_handoff.proofs.Handovers.{listed_is, pass_is, way_start}
 use Rattle.dy_handoff.proofs.passes.pass.Goals as goal
 
--- each home was asked for itself
-pub settle_all-requires-clause-homes : goal.settle_all-requires-clause-homes
-settle_all-requires-clause-homes g c =
-    let P : List Asked → Type 0 = λ xs. All (λ a. a.to ≡ a.home) xs in
-    subst P (sym c.ask_offers-offers.ensures.asks) (offers_go_home _)
+pub hand_over_all-requires : goal.hand_over_all-requires
+hand_over_all-requires g c =
+    let old = g.T.Transport.told c.args.transport.now in
+    let mid = g.T.Transport.told c.offer.new.self in
+    let start = g.T.Transport.told c.find_none.new.transport in
+    let hints = c.in_ok-hints.hints in
+    let is = listed_is c.args.node hints old mid start c.requires.fresh_tries c.requires.fresh_asks c.requires.fresh_replies c.in_ok-hints.ensures.told c.find_none.ensures in
+    record {
+      way = subst (λ (t : Told g.row.J.Denot). IsUnderWay t (record { offers = 0; stored = 0; released = 0 })) (sym is) (way_start c.args.node old.room hints);
+      out = subst (λ (t : Told g.row.J.Denot). IsReadOut t) (sym is) (refl, λ k lt. absurd (omega arith));
+      for_homes = (let P : List (ℕ × Siblings) → Type 0 = λ hs. AreForHomes g.J.Naming.ring g.J.Naming.n hs in subst P (sym c.deref.ensures.value) c.in_ok-hints.ensures.for_homes);
+    }
 
 pub returns-clause-ok : goal.returns-clause-ok
 returns-clause-ok g c =
-    let new = g.T.Transport.told c.settle_all.new.transport in
-    let offered = c.ask_offers-offers.ensures in
-    let done = c.settle_all.ensures in
-    let s = done.settles in
+    let old = g.T.Transport.told c.args.transport.now in
+    let mid = g.T.Transport.told c.offer.new.self in
+    let start = g.T.Transport.told c.find_none.new.transport in
+    let new = g.T.Transport.told c.hand_over_all.new.transport in
     let hints = c.in_ok-hints.hints in
-    let node = c.args.node in
-    let first = ap (λ t. t.tries) c.in_ok-hints.ensures.told
-    ∙ ap (λ ts. ts ++ Offer node (snapshot_of (Ok hints)) ∷ []) c.requires.fresh_tries in
-    let room = sym (done.room ∙ offered.room) in
-    record {
-      hints = hints;
-      gave = s.gave;
-      each = s.each;
-      tries = s.tries ∙ ap (λ ts. ts ++ settle_tries node (stored_of new.replies) s.gave) (offered.tries ∙ first);
-      asks = done.asks ∙ (offered.asks ∙ (ap (λ n. map offer_ask (take n c.deref.result.now)) room
-          ∙ ap (λ xs. map offer_ask (take new.room xs)) c.deref.ensures.value));
-      known = done.known;
-      out = done.out;
-      offers_are = done.offers ∙ (offered.count ∙ ap length (sym done.asks));
-      stored_are = done.stored;
-      released_are = s.released_is;
-      fewer = rw done.offers done.fewer;
-    }
+    let done = c.hand_over_all.ensures in
+    let is = listed_is c.args.node hints old mid start c.requires.fresh_tries c.requires.fresh_asks c.requires.fresh_replies c.in_ok-hints.ensures.told c.find_none.ensures in
+    pass_is c.args.node hints c.deref.result.now start new _ (is ∙ ap (λ n. listed c.args.node hints n) (sym (ap (λ t. t.room) is))) done.room c.deref.ensures.value done.way done.turns done.settles done.out
