@@ -58,7 +58,7 @@ module _ {J : Type 0} where
     pub added : List ReceiptParts
     pub answers : List AnswerRead
     pub tries : TriesAt (begin_try list key context value) list.nodes told.tries c (Ok begun)
-    pub begun_is : IsBegun c (home_for (homes_in list) c) key value begun
+    pub begun_is : IsBegun c (home_for (homes_in list) c) key context value begun
     pub spreads : Spreads list begun.row begun.dot c told added answers
     pub ends : EndsAfter key begun.dot w added answers before after result
 

@@ -29,8 +29,8 @@ pub fn begin_somewhere<J: Naming, T: Transport<J>, R: Wait>(
     requires homes { list.now.n ≡ J.n }
     ensures tries { TriesEnd (begin_try list.now key.now context.now value.now) IsOfBegin
         list.now.nodes (T.told transport.new).tries result }
-    ensures begun { IfAt result
-        (λ c b. IsBegun c (home_for (homes_in list.now) c) key.now value.now b) }
+    ensures begun { IfAt result (λ c b.
+        IsBegun c (home_for (homes_in list.now) c) key.now context.now value.now b) }
     ensures asks { (T.told transport.new).asks ≡ (T.told transport.old).asks }
     ensures replies { (T.told transport.new).replies ≡ (T.told transport.old).replies }
     ensures room { (T.told transport.new).room ≡ (T.told transport.old).room }

@@ -104,7 +104,8 @@ impl<'a, J: Naming> Lossy<'a, J> {
         value: &Option<Value>,
     ) -> Result<Begun<J>, Fault>
         requires { IsTrue (may_hold (homes_of J.ring J.n key.now) node home) }
-        ensures begun { IfOk result (λ b. IsBegun node home key.now value.now b) }
+        ensures begun { IfOk result
+            (λ b. IsBegun node home key.now context.now value.now b) }
         ensures refused { IfErr result IsOfBegin }
     {
         let mut direct = self.direct()?;

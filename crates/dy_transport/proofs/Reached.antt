@@ -1,8 +1,11 @@
 -- What a node gives is what is asked for: whatever its mode, its first answer fits, and a second one
 -- comes only after the news that nothing came; and what it begins has the version in its row.
-use Rattle.std.proofs.Common.{◌≡◌, ℕ, List, Bool, true, false, None, Some, Option, refl, sym, ◌∙◌}
-use Rattle.std.proofs.Common.{ap, subst, Result, Ok, Err, IfOk, IfSome, OnOk}
+use Rattle.std.proofs.Common.{◌≡◌, ℕ, List, Bool, true, false, not, None, Some, Option, refl, sym}
+use Rattle.std.proofs.Common.{◌∙◌}
+use Rattle.std.proofs.Common.{ap, subst, Result, Ok, Err, IfOk, IfSome, IsTrue, OnOk}
+use Rattle.std.specs.FinSet as set
 use Rattle.std.specs.List.{Contains}
+use Rattle.dy_dots.specs.Dots.{DotSet}
 use Rattle.dy_dots.specs.declared.faults.Fault.{Fault}
 use Rattle.dy_siblings.specs.declared.versions.Version.{Version}
 use Rattle.dy_shares.specs.Shares.{NodePart, receipt_parts}
@@ -17,6 +20,11 @@ use Rattle.dy_node.specs.declared.begun.Begun.{Begun}
 use Rattle.dy_node.specs.declared.modes.Mode.{Mode}
 use Rattle.dy_node.specs.declared.modes.Mode.TheVariants.{Plain, Mute, Late, Repeat, Delay}
 use Rattle.dy_transport.specs.Asking.{IsAnswerTo, IsBegun}
+
+-- what is not false is true
+pub not_false : (b : Bool) → false ≡ not b → b ≡ true
+not_false true e = refl
+not_false false e = absurd (cc)
 
 -- what holds at some number holds at one
 pub at_some : {T E : Type 0} (P : ℕ → Type 0) (r : Result T E) (n : ℕ) → OnOk r (P n) →
@@ -175,18 +183,20 @@ module _ {J : Type 0} where
       (by_flag old.is_up ask old b new c first second refl down nothing up)
 
   -- what is begun, from the version that was made
-  pub begun_fits : (node home : ℕ) (key : List ℕ) (value : Option (List ℕ)) (v : Version)
-      (r : Result (Begun J) Fault) → v.value ≡ value → IfOk r (λ b. b.dot ≡ v.dot) →
+  pub begun_fits : (node home : ℕ) (key : List ℕ) (context : DotSet) (value : Option (List ℕ))
+      (v : Version) (r : Result (Begun J) Fault) → v.value ≡ value →
+      OnOk r (IsTrue (set.is_subset context v.past)) → IfOk r (λ b. b.dot ≡ v.dot) →
       IfOk r (λ b. b.row.key ≡ key) → IfOk r (λ b. Contains b.row.versions v) →
       IfOk r (λ b. b.receipt ≡ receipt_parts key v.dot node home) →
-      IfOk r (λ b. IsBegun node home key value b)
-  begun_fits node home key value v (Ok b) stores dot row_key in_row receipt =
+      IfOk r (λ b. IsBegun node home key context value b)
+  begun_fits node home key context value v (Ok b) stores follows dot row_key in_row receipt =
       record {
         receipt_is = receipt ∙ ap (λ d. receipt_parts key d node home) (sym dot);
         key_is = row_key;
         version = v;
         in_row = in_row;
         dot_is = sym dot;
+        follows = follows;
         value_is = stores;
       }
-  begun_fits node home key value v (Err f) stores dot row_key in_row receipt = tt
+  begun_fits node home key context value v (Err f) stores follows dot row_key in_row receipt = tt

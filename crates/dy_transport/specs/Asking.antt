@@ -1,6 +1,8 @@
 -- What is asked of a node, and which answers fit.
-use Rattle.std.specs.Prelude.{◌≡◌, ◌<◌, ℕ, List, Option}
+use Rattle.std.specs.Prelude.{◌≡◌, ◌<◌, ℕ, IsTrue, List, Option}
+use Rattle.std.specs.FinSet as set
 use Rattle.std.specs.List.{Contains}
+use Rattle.dy_dots.specs.Dots.{DotSet}
 use Rattle.dy_siblings.specs.declared.versions.Version.{Version}
 use Rattle.dy_core.specs.Logs.{Answer as SeenParts}
 use Rattle.dy_shares.specs.Shares.{receipt_parts}
@@ -38,14 +40,16 @@ module _ {J : Type 0} where
   asked to a read = record { to = to; home = home_of a; what = what_of a; read = read }
 
   -- what a begin at the node for the home gives: the row has a version of the dot with this value,
-  -- and the receipt is of that dot
-  pub record IsBegun (node home : ℕ) (key : List ℕ) (value : Option (List ℕ)) (b : Begun J) : Type 0
+  -- which has each dot of the context in its past; and the receipt is of that dot
+  pub record IsBegun (node home : ℕ) (key : List ℕ) (context : DotSet) (value : Option (List ℕ))
+      (b : Begun J) : Type 0
     where
       pub receipt_is : b.receipt ≡ receipt_parts key b.dot node home
       pub key_is : b.row.key ≡ key
       pub version : Version
       pub in_row : Contains b.row.versions version
       pub dot_is : version.dot ≡ b.dot
+      pub follows : IsTrue (set.is_subset context version.past)
       pub value_is : version.value ≡ value
 
   -- an answer of a node to what it was asked for a home: a receipt for each version of the row, or

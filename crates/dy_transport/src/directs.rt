@@ -2,7 +2,7 @@ ghost use Rattle.std.specs.Prelude.{◌≡◌, ◌<◌, ◌^◌, true, IsTrue, I
 ghost use Rattle.std.specs.List.{All};
 ghost use Rattle.dy_preference.specs.Preferences.{homes_of, may_hold};
 ghost use Rattle.dy_node.specs.Answers.{AnsweredBy, MayAsk};
-ghost use Rattle.dy_node.specs.Nodes.{AreForHomes};
+ghost use Rattle.dy_node.specs.Nodes.{AreForHomes, AreForOthers, hints_of};
 ghost use Rattle.dy_node.specs.declared.asks.Answer.TheVariants.{NoAnswer};
 ghost use Rattle.dy_transport.specs.Asking.{IsAnswerTo, IsBegun, IsSeenAt};
 ghost use Rattle.dy_transport.specs.Refusals.{IsOfBegin, IsOfNode, IsOfOffer};
@@ -94,10 +94,25 @@ fn begin_by<J: Naming>(
 ) -> Result<Begun<J>, Fault>
     requires number { held.old.part.node ≡ node }
     requires may_hold { IsTrue (may_hold (homes_of J.ring J.n key.now) node home) }
-    ensures begun { IfOk result (λ b. IsBegun node home key.now value b) }
+    ensures begun { IfOk result (λ b. IsBegun node home key.now context.now value b) }
     ensures refused { IfErr result IsOfBegin }
 {
     held.begin(book, home, key, context, value)
+}
+
+// The hints of this node, which has this number.
+fn offer_by<J: Naming>(
+    held: &mut Node<J>,
+    book: &mut Book<J>,
+    node: NodeId,
+) -> Result<Vec<(NodeId, Row)>, Fault>
+    requires { held.old.part.node ≡ node }
+    ensures hints { IfOk result (λ hints. hints.items ≡ hints_of held.old) }
+    ensures for_homes { IfOk result (λ hints. AreForHomes J.ring J.n hints.items) }
+    ensures for_others { IfOk result (λ hints. AreForOthers node hints.items) }
+    ensures refused { IfErr result IsOfOffer }
+{
+    held.offer(book)
 }
 
 // What this node, which has this number, answers at first and later.
@@ -130,7 +145,8 @@ impl<J: Naming> Direct<'_, J> {
         value: &Option<Value>,
     ) -> Result<Begun<J>, Fault>
         requires { IsTrue (may_hold (homes_of J.ring J.n key.now) node home) }
-        ensures begun { IfOk result (λ b. IsBegun node home key.now value.now b) }
+        ensures begun { IfOk result
+            (λ b. IsBegun node home key.now context.now value.now b) }
         ensures refused { IfErr result IsOfBegin }
     {
         let Some(place) = self.nodes.get(usize::from(node.number())) else {
@@ -171,6 +187,7 @@ impl<J: Naming> Direct<'_, J> {
     // Lists hints, under the node's lock and the book's.
     fn offer_at<R: Wait>(&self, rt: &R, node: NodeId) -> Result<Vec<(NodeId, Row)>, Fault>
         ensures for_homes { IfOk result (λ hints. AreForHomes J.ring J.n hints.items) }
+        ensures for_others { IfOk result (λ hints. AreForOthers node hints.items) }
         ensures refused { IfErr result IsOfOffer }
     {
         let Some(place) = self.nodes.get(usize::from(node.number())) else {
@@ -181,7 +198,7 @@ impl<J: Naming> Direct<'_, J> {
             return Err(Fault::Down);
         }
         let mut open = self.book.lock(rt);
-        held.offer(&mut open)
+        offer_by(&mut held, &mut open, node)
     }
 
     // Gives up what the receipts name, under the node's lock and the book's.

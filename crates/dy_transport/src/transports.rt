@@ -7,7 +7,7 @@ ghost use Rattle.dy_core.specs.declared.steps.Step.TheVariants.{Ack};
 ghost use Rattle.dy_shares.specs.Shares.{with_ack};
 ghost use Rattle.dy_book.specs.Books.{AreOf};
 ghost use Rattle.dy_node.specs.Answers.{MayAsk};
-ghost use Rattle.dy_node.specs.Nodes.{AreForHomes};
+ghost use Rattle.dy_node.specs.Nodes.{AreForHomes, AreForOthers};
 ghost use Rattle.dy_transport.specs.Snapshots.{snapshot_of};
 ghost use Rattle.dy_transport.specs.Asking.{IsBegun, IsSeenAt};
 ghost use Rattle.dy_transport.specs.Refusals.{IsOfBegin, IsOfNode, IsOfOffer, IsOfStep};
@@ -46,7 +46,7 @@ pub trait Transport<J: Naming> {
     ) -> Result<Begun<J>, Fault>
         requires room { length (told self.old).tries < (told self.old).room + SPARE_TRIES }
         requires may_hold { IsTrue (may_hold (homes_of J.ring J.n key.now) node home) }
-        ensures begun { IfOk result (λ b. IsBegun node home key.now value.now b) }
+        ensures begun { IfOk result (λ b. IsBegun node home key.now context.now value.now b) }
         ensures refused { IfErr result IsOfBegin }
         ensures told { told self.new ≡ with_try (told self.old)
             (Begin node home (snapshot_of key.now) (snapshot_of context.now)
@@ -71,6 +71,7 @@ pub trait Transport<J: Naming> {
     fn offer<R: Wait>(&mut self, rt: &R, node: NodeId) -> Result<Vec<(NodeId, Row)>, Fault>
         requires { length (told self.old).tries < (told self.old).room + SPARE_TRIES }
         ensures for_homes { IfOk result (λ hints. AreForHomes J.ring J.n hints.items) }
+        ensures for_others { IfOk result (λ hints. AreForOthers node hints.items) }
         ensures refused { IfErr result IsOfOffer }
         ensures told { told self.new ≡ with_try (told self.old) (Offer node (snapshot_of result)) };
 

@@ -6,7 +6,9 @@ use Rattle.dy_transport.proofs.directs.begin_by.Goals as goal
 -- the version is the one that the node made
 pub returns-clause-begun : goal.returns-clause-begun
 returns-clause-begun g c =
-    subst (λ n. IfOk c.begin.result (λ b. IsBegun n c.args.home c.args.key.now c.args.value b))
+    subst (λ n. IfOk c.begin.result
+    (λ b. IsBegun n c.args.home c.args.key.now c.args.context.now c.args.value b))
     c.requires.number
-    (begun_fits _ c.args.home c.args.key.now c.args.value _ c.begin.result refl
-    c.begin.ensures.dot c.begin.ensures.key c.begin.ensures.in_row c.begin.ensures.receipt)
+    (begun_fits _ c.args.home c.args.key.now c.args.context.now c.args.value _ c.begin.result refl
+    c.begin.ensures.follows c.begin.ensures.dot c.begin.ensures.key c.begin.ensures.in_row
+    c.begin.ensures.receipt)

@@ -1,11 +1,8 @@
-use Rattle.std.proofs.Common.{◌≡◌, ◌==◌, not, Bool, true, false, refl, subst, sym, ◌∙◌, ap, IfOk}
+use Rattle.std.proofs.Common.{◌==◌, subst, IfOk}
 use Rattle.std.proofs.lemmas.Bool.{eqb-true}
 use Rattle.dy_transport.specs.Asking.{IsBegun}
+use Rattle.dy_transport.proofs.Reached.{not_false}
 use Rattle.dy_transport.proofs.directs.Direct.begin_at.Goals as goal
-
-not_false : (b : Bool) → false ≡ not b → b ≡ true
-not_false true e = refl
-not_false false e = absurd (cc)
 
 -- the node that was found has the number that was asked
 pub begin_by-requires-clause-number : goal.begin_by-requires-clause-number
@@ -17,5 +14,6 @@ begin_by-requires-clause-number g c =
 -- the copy is the value that was given
 pub returns-clause-begun : goal.returns-clause-begun
 returns-clause-begun g c =
-    subst (λ v. IfOk c.begin_by.result (λ b. IsBegun c.args.node c.args.home c.args.key.now v b))
+    subst (λ v. IfOk c.begin_by.result
+    (λ b. IsBegun c.args.node c.args.home c.args.key.now c.args.context.now v b))
     c.in_ok-copy.ensures.value c.begin_by.ensures.begun
