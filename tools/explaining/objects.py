@@ -1,0 +1,145 @@
+"""Each line as a JSON object, by docs/FORMATS.md."""
+from typing import Any, Dict, Iterable, List, Optional, Sequence
+
+from .forms import (
+    COMMAND_FORMS, Acked, Answer, Delivered, End, Got, Held, Listed, Passed, Place, Refusal,
+    Refused, Said, Settled, Shown, Token, Written,
+)
+from .refusals import meaning_of
+from .runs import Line, Run
+from .scripts import Command
+from .texts import count_of, text_of
+from .turnouts import turnout_of
+from .words import say, wanted_by
+
+Object = Dict[str, Any]
+
+
+def bytes_in(name: str, data: Optional[bytes]) -> Object:
+    """Returns the bytes as a text, null where they are none, and in hexadecimal."""
+    return {} if data is None else {name: text_of(data), f"{name}hex": data.hex()}
+
+
+def places_in(places: Iterable[Place]) -> List[Object]:
+    return [{"holder": place.holder, "home": place.home} for place in places]
+
+
+def worded(answers: Sequence[Answer]) -> List[Object]:
+    places = places_in(answer.place for answer in answers)
+    return [{**place, "word": answer.word} for place, answer in zip(places, answers)]
+
+
+def answers_in(answers: Sequence[Answer]) -> Object:
+    """Returns the answers, and who stood in, was late, did not answer, was down or refused."""
+    turnout = turnout_of(answers)
+    return {
+        "answers": worded(answers),
+        "homes": turnout.homes,
+        "stood_in": places_in(turnout.stood_in),
+        "late": places_in(turnout.late),
+        "silent": places_in(turnout.silent),
+        "down": places_in(turnout.down),
+        "refused": worded(turnout.refused),
+    }
+
+
+def refusal_in(refusal: Optional[Refusal], run: Run) -> Object:
+    if refusal is None:
+        return {"refusal": None}
+    meaning = meaning_of(run.meanings, refusal)
+    said = {"cause": meaning.cause, "stands": meaning.stands, "to_do": meaning.to_do}
+    numbered = {"number": refusal.number, "name": refusal.name, "text": refusal.text}
+    return {"refusal": {**numbered, **said}}
+
+
+def command_in(command: Command) -> Object:
+    """Returns what the script has of the command."""
+    found: Object = {"do": command.word}
+    if command.word in ("put", "delete", "get", "show"):
+        found.update(bytes_in("key", command.key))
+    if command.word in ("put", "delete", "get"):
+        found["session"] = command.session
+    else:
+        found["node"] = command.node
+    if command.word in ("put", "delete"):
+        found.update({**bytes_in("value", command.value), "follows": command.context})
+    if command.word == "fault":
+        found["mode"] = command.mode
+    return found
+
+
+def outcome_in(line: Line, run: Run) -> Object:
+    """Returns what came of the command."""
+    form = line.form
+    if isinstance(form, Written):
+        return {"dot": form.dot, "wanted": wanted_by(line, run), **answers_in(form.answers)}
+    if isinstance(form, Got):
+        return got_in(form, line, run)
+    if isinstance(form, Delivered):
+        return {"stored": form.stored}
+    if isinstance(form, Passed):
+        return {"offers": form.offers, "stored": form.stored, "released": form.released}
+    if isinstance(form, Shown):
+        hints = [{"home": home, "dots": dots} for home, dots in form.hints]
+        return {"own": form.own, "hints": hints}
+    if isinstance(form, Refused):
+        answers = answers_in(form.answers) if form.answers else {}
+        wanted = {"wanted": wanted_by(line, run)} if form.answers else {}
+        return {**refusal_in(form.refusal, run), "dot": form.dot, **wanted, **answers}
+    return {}
+
+
+def got_in(form: Got, line: Line, run: Run) -> Object:
+    """Returns what a get was answered."""
+    makers = run.belonging.makers
+    values = [
+        {"dot": dot, **bytes_in("value", value), "command": makers.get((line.command.key, dot))}
+        for dot, value in form.values
+    ]
+    places = {"from": places_in(form.places), "wanted": run.script.r}
+    return {"context": form.context, **places, "values": values, "mended": line.mended}
+
+
+def audit_in(line: Line, run: Run) -> Object:
+    """Returns a line of the audit, of standard error, or of a ring."""
+    form = line.form
+    if isinstance(form, Held):
+        held = {**bytes_in("key", form.key), "dots": form.dots, "count": count_of(form.dots)}
+        return {"kind": "held", "holder": form.place.holder, "home": form.place.home, **held}
+    if isinstance(form, Acked):
+        maker = run.belonging.makers.get((form.key, form.dot))
+        acked = {**bytes_in("key", form.key), "dot": form.dot, "command": maker}
+        w = run.script.w if form.w is None else form.w
+        return {"kind": "acked", **acked, "wanted": w, "places": places_in(form.places)}
+    if isinstance(form, Settled):
+        return {"kind": "settled", **bytes_in("key", form.key)}
+    if isinstance(form, End):
+        sums = {"held": form.held, "acked": form.acked, "gets": form.gets, "steps": form.steps}
+        return {"kind": "end", **sums}
+    if isinstance(form, Said):
+        return {"kind": "said", "text": form.text, **refusal_in(form.refusal, run)}
+    if isinstance(form, Token):
+        return {"kind": "token", "position": form.position, "node": form.node}
+    n = run.script.n or 0
+    nodes = {"homes": form.nodes[:n], "stand_ins": form.nodes[n:]}
+    return {"kind": "key", **bytes_in("key", form.key), "position": form.position, **nodes}
+
+
+def object_of(line: Line, run: Run) -> Object:
+    """Returns a line as a JSON object."""
+    if line.form is None:
+        return {"line": line.at, "kind": "stranger", "text": line.text, "words": line.complaint}
+    if isinstance(line.form, COMMAND_FORMS):
+        numbered = {"kind": "command", "number": line.form.number, **command_in(line.command)}
+        is_ok = not isinstance(line.form, Refused)
+        told = {**numbered, "ok": is_ok, **outcome_in(line, run)}
+    else:
+        told = audit_in(line, run)
+    return {"line": line.at, **told, "words": " ".join(say(line, run))}
+
+
+def objects_of(run: Run) -> List[Object]:
+    """Returns the objects of all lines, and one more where the output ends early."""
+    rest = run.rest()
+    last = [{"line": None, "kind": "rest", "words": rest}] if rest else []
+    return [*(object_of(line, run) for line in run.lines), *last]
