@@ -16,7 +16,7 @@ from .texts import count_of, dots_of
 Row = FrozenSet[str]
 Rows = Dict[Tuple[int, bytes], Row]
 EMPTY: Row = frozenset()
-MAX_EFFORT = 5_000_000
+MAX_EFFORT = 1_000_000
 
 
 def place_in(held: Held) -> Tuple[int, int]:
@@ -37,6 +37,7 @@ class Holdings:
 
     def follow(self, form: CommandForm, command: Command) -> Optional[List[int]]:
         """Follows a line; of a get it returns the homes that were mended, where that is known."""
+        self.is_sure = self.is_sure and self.effort <= MAX_EFFORT
         if not self.is_sure:
             return None
         if isinstance(form, Done):

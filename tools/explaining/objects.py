@@ -2,7 +2,7 @@
 from typing import Any, Dict, Iterable, List, Optional, Sequence
 
 from .forms import (
-    COMMAND_FORMS, Acked, Answer, Delivered, End, Got, Held, Listed, Passed, Place, Refusal,
+    COMMAND_FORMS, Acked, Answer, Delivered, End, Got, Held, Passed, Place, Refusal,
     Refused, Said, Settled, Shown, Token, Written,
 )
 from .refusals import meaning_of

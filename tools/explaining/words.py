@@ -2,7 +2,7 @@
 from typing import Callable, Dict, List, Optional, Sequence, Type
 
 from .forms import (
-    Acked, Answer, Delivered, Done, End, Form, Got, Held, Listed, Passed, Refusal, Refused, Said,
+    Acked, Answer, Delivered, Done, End, Got, Held, Listed, Passed, Refusal, Refused, Said,
     Settled, Shown, Token, Written,
 )
 from .refusals import meaning_of, name_of
