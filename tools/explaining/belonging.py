@@ -126,9 +126,10 @@ class Belonging:
     def fault_of_audit(self, form: Form) -> Optional[str]:
         if isinstance(form, (Held, Acked, Settled)) and form.key not in self.keys:
             return f"the script writes no key {shown(form.key)}"
-        if isinstance(form, Acked) and self.is_whole and (form.key, form.dot) not in self.makers:
-            return f"no line before it made {form.dot} of {shown(form.key)}"
-        return None
+        if not isinstance(form, Acked) or not self.is_whole or self.gap(form):
+            return None
+        is_made = (form.key, form.dot) in self.makers
+        return None if is_made else f"no line before it made {form.dot} of {shown(form.key)}"
 
 
 def commands_named(first: int, last: int) -> str:

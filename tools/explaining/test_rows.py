@@ -133,6 +133,37 @@ PLAYED: List[Row] = [
          "Hints without a receipt stay until a later pass."],
     ),
     (
+        "a put that names its own number of homes", {}, [put("x", w=1)],
+        [PUT, *held(*HOMES), ACKED.replace(" covered", " w 1 covered"),
+         "end held 3 acked 1 gets 0 steps 5"],
+        [f"{MADE} n0:1; 3 homes have it, and 1 was wanted. Homes 0, 1 and 2 stored it."],
+    ),
+    (
+        "a home that had stored without an answer", {},
+        [at("fault", 1, mode="mute"), put("x"), at("fault", 1, mode="none"), GET],
+        ["1 fault ok", "2 put ok n0:1 answers 0/0=stored 1/1=noanswer 2/2=stored 3/1=stored",
+         "3 fault ok", "4 get ok context n0:1 from 0/0 1/1 values n0:1=78", *held(*HOMES, "3/1"),
+         "acked 61 n0:1 covered 0/0 1/1 3/1 2/2", "end held 4 acked 1 gets 1 steps 9"],
+        ['The value is "x" (n0:1, put by command 2). Homes 0 and 1 answered. '
+         f"{NONE_MENDED} The context for a put that follows is n0:1."],
+    ),
+    (
+        "a hint of two versions, offered twice", {},
+        [at("down", 1), put("x"), put("y"), at("up", 1), at("fault", 1, mode="mute"),
+         at("handoff", 3), at("fault", 1, mode="none"), at("handoff", 3), GET],
+        ["1 down ok", "2 put ok n0:1 answers 0/0=stored 1/1=down 2/2=stored 3/1=stored",
+         "3 put ok n0:2 answers 0/0=stored 1/1=down 2/2=stored 3/1=stored", "4 up ok", "5 fault ok",
+         "6 handoff ok offers 1 stored 0 released 0", "7 fault ok",
+         "8 handoff ok offers 1 stored 1 released 2",
+         "9 get ok context n0:1-2 from 0/0 1/1 values n0:1=78 n0:2=79",
+         *held(*HOMES, dots="n0:1-2"), ACKED, ACKED.replace("n0:1", "n0:2"),
+         "end held 6 acked 2 gets 1 steps 17"],
+        ["Node 3 offered 1 hint to its home: receipts came for 1, and 2 versions left its hints.",
+         '2 values stand beside each other: "x" (n0:1, put by command 2) and "y" (n0:2, put by '
+         "command 3). A put with the context of this get reconciles them. Homes 0 and 1 answered. "
+         f"{NONE_MENDED} The context for a put that follows is n0:1-2."],
+    ),
+    (
         "a get from a stand-in", {"r": 3}, [put("x"), at("down", 1), GET],
         [PUT, "2 down ok", "3 get ok context n0:1 from 0/0 2/2 3/1 values n0:1=78", *held(*HOMES),
          ACKED, "end held 3 acked 1 gets 1 steps 8"],
