@@ -38,23 +38,3 @@ pub fn three_nodes(alloc: Global, n: u8) -> Result<World, Fault>
     }
     World::new(alloc, ring, n)
 }
-
-// A ring of five nodes. The key `a` lies at 0cc1.. (RFC 1321, A.5), so its nodes are 0 to 4, in
-// this order, and the first n are its homes.
-pub fn five_nodes(alloc: Global, n: u8) -> Result<World, Fault>
-    ensures nodes { IfOk result (λ world. world.ring.nodes ≡ 5) }
-    ensures steps { IfOk result (λ world. world.steps ≡ []) }
-{
-    let positions = [
-        0x20000000000000000000000000000000,
-        0x60000000000000000000000000000000,
-        0xa0000000000000000000000000000000,
-        0xd0000000000000000000000000000000,
-        0xf0000000000000000000000000000000,
-    ];
-    let ring = ring_of(alloc, &positions)?;
-    if n < 1 || n > 5 || ring.nodes() != 5 {
-        return Err(Fault::TooMany);
-    }
-    World::new(alloc, ring, n)
-}
