@@ -10,6 +10,7 @@ use dy_node::{Answer, Ask, Begun, Node, answer};
 use dy_preference::Preference;
 use dy_shares::{Naming, Receipt};
 use dy_siblings::{Key, Row};
+use std::alloc::Global;
 
 // The node makes a version of the key, a deletion, and holds it for the home.
 pub fn put<J: Naming>(
@@ -114,4 +115,41 @@ pub fn spend<J: Naming>(
         return Err(Fault::NoNode);
     }
     node.settle(book, receipts)
+}
+
+// The row of a begin.
+fn row_of<J: Naming>(begun: Begun<J>) -> Row
+    ensures { result ≡ begun.row }
+{
+    begun.row
+}
+
+// The node makes a version of the key for itself, by no context.
+pub fn blind<J: Naming>(
+    alloc: Global,
+    node: &mut Node<J>,
+    book: &mut Book<J>,
+    list: &Preference,
+    key: &Key,
+) -> Result<Row, Fault>
+    requires { take list.now.n list.now.nodes ≡ homes_of J.ring J.n key.now }
+    ensures { IfOk result (λ row. row.key ≡ key.now) }
+{
+    let home = node.number();
+    let none = Context::new(alloc);
+    let begun = put(node, book, list, home, key, &none)?;
+    Ok(row_of(begun))
+}
+
+// The node stores the row for home 0.
+pub fn stores<J: Naming>(
+    node: &mut Node<J>,
+    book: &mut Book<J>,
+    list: &Preference,
+    row: &Row,
+) -> Result<(), Fault>
+    requires { take list.now.n list.now.nodes ≡ homes_of J.ring J.n row.now.key }
+{
+    let _receipts = keep(node, book, list, NodeId::nth(0), row)?;
+    Ok(())
 }

@@ -3,10 +3,9 @@
 ghost use Rattle.std.specs.Prelude.{◌≡◌, take, IfOk};
 ghost use Rattle.dy_preference.specs.Preferences.{homes_of};
 
-use crate::calls::{keep, put_by, spend};
+use crate::calls::{blind, keep, put_by, spend, stores};
 use crate::members::Members;
 use crate::plays::{Scene, play_scene};
-use crate::scenes::{blind, stores};
 use dy_book::Book;
 use dy_dots::{Fault, NodeId};
 use dy_node::Node;

@@ -11,5 +11,3 @@ mod members;
 mod modes;
 #[cfg(test)]
 mod plays;
-#[cfg(test)]
-mod scenes;

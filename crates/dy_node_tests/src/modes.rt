@@ -2,9 +2,8 @@
 ghost use Rattle.std.specs.Prelude.{◌≡◌, take};
 ghost use Rattle.dy_preference.specs.Preferences.{homes_of};
 
-use crate::calls::{ask_fetch, ask_store};
+use crate::calls::{ask_fetch, ask_store, blind};
 use crate::members::Members;
-use crate::scenes::blind;
 use dy_book::Book;
 use dy_dots::{Fault, NodeId};
 use dy_node::{Answer, Mode, Node};

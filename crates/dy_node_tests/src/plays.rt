@@ -5,7 +5,6 @@ ghost use Rattle.dy_preference.specs.Preferences.{homes_of};
 use crate::growths::all_are_done;
 use crate::members::{Members, give_all_back, nodes_of, put_together};
 use crate::modes::answers_as_it_should;
-use crate::scenes::{a_handoff, an_old_message};
 use dy_book::{Audit, Book, CloseRefused, Options};
 use dy_dots::Fault;
 use dy_node::Mode;
@@ -20,8 +19,6 @@ use std::marker::Brand;
 #[derive(Clone, Copy)]
 pub enum Scene {
     Growths,
-    Handoff,
-    OldMessage,
     Asked { mode: Mode, is_up: bool },
 }
 
@@ -75,8 +72,6 @@ fn goes<J: Naming>(
 {
     match scene {
         Scene::Growths => Ok(all_are_done(rt, book, nodes, list, key)),
-        Scene::Handoff => a_handoff(rt.alloc(), book, nodes, list, key),
-        Scene::OldMessage => an_old_message(rt.alloc(), book, nodes, list, key),
         Scene::Asked { mode, is_up } => {
             answers_as_it_should(rt.alloc(), book, nodes, list, key, mode, is_up)
         }
@@ -138,18 +133,6 @@ pub fn play_scene(rt: &HostRuntime, scene: Scene) -> Result<(bool, usize), Fault
     let list = preference(alloc, &ring, &key, 3)?;
     let blank = Blank::new(alloc)?;
     play::<Brand>(rt, blank, ring, &list, &key, scene)
-}
-
-#[test]
-fn a_handoff_races_a_put(rt: HostRuntime) -> Result<(), Fault> {
-    assert_eq!(rt; play_scene(&rt, Scene::Handoff)?, (true, 8));
-    Ok(())
-}
-
-#[test]
-fn a_message_comes_after_a_newer_put(rt: HostRuntime) -> Result<(), Fault> {
-    assert_eq!(rt; play_scene(&rt, Scene::OldMessage)?, (true, 6));
-    Ok(())
 }
 
 #[test]
