@@ -1,7 +1,6 @@
 ghost use Rattle.std.specs.Prelude.{List, OnOk, Some, ◌≡◌, ◌≢◌, ◌++◌, ℕ, codes};
 ghost use Rattle.std.specs.Io.KnownBytes.{Appends};
 ghost use Rattle.std.specs.IoError.{error_kind};
-ghost use Rattle.dy_dots.specs.declared.faults.Fault.{Fault};
 ghost use Rattle.dy_lines.specs.Refusals.{refusal_text};
 ghost use Rattle.dy_lines.specs.Stops.{stopped_text};
 ghost use Rattle.dy_lines.specs.Texts.{line};
