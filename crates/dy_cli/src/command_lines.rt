@@ -15,7 +15,7 @@ const MORE_HELP: &str = "\
 Examples:
   dynamo run examples/scripts/put_then_get.json
   dynamo ring examples/scripts/ring_wraps.json
-  dynamo run /dev/stdin < script.json
+  dynamo run - < script.json
   dynamo storm 1 8 100 --faults
 
 Status:
@@ -109,7 +109,7 @@ fn file_arg<'a>(alloc: Global) -> Arg<'a> {
     Arg::new(alloc, "file")
         .required(true)
         .value_name("FILE")
-        .help("A script, as docs/FORMATS.md describes it")
+        .help("A script, as docs/FORMATS.md describes it; - is standard input")
 }
 
 /// The command that plays a storm.

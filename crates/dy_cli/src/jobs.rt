@@ -12,7 +12,7 @@ pub enum Job {
 }
 
 impl Job {
-    /// The file that it reads; a storm reads none. Takes no memory.
+    /// The file that it reads, `-` for standard input; a storm reads none. Takes no memory.
     pub fn file(&self) -> Option<&str> {
         match self {
             Job::Run(file) => Some(file.as_str()),

@@ -42,12 +42,16 @@ fn status_of_words<R: Threads + Wait + Sync>(rt: &HostRuntime, leave: &R) -> u8 
     }
 }
 
-/// Opens the file of the job, where it has one, does the job, and gives the status.
+/// Opens the file of the job, where it has one, or standard input for `-`, does the job, and gives
+/// the status.
 fn status_of_job<R: Threads + Wait + Sync>(rt: &HostRuntime, leave: &R, job: &Job) -> u8 {
     let Some(file) = job.file() else {
         let mut nothing: &[u8] = &[];
         return status_over(rt, leave, job, &mut nothing);
     };
+    if file == "-" {
+        return status_over(rt, leave, job, &mut rt.stdin());
+    }
     match File::open(rt, file) {
         Ok(mut input) => status_over(rt, leave, job, &mut input),
         Err(error) => refusing::refuse_file(&mut rt.stderr(), file, &error),

@@ -1,0 +1,21 @@
+# Completes the words of dynamo in bash: `source tools/completion.bash`.
+_dynamo() {
+    local word=${COMP_WORDS[COMP_CWORD]}
+    COMPREPLY=()
+    if [ "$COMP_CWORD" = 1 ]; then
+        mapfile -t COMPREPLY < <(compgen -W 'run ring storm build help --help --version' -- "$word")
+        return
+    fi
+    case ${COMP_WORDS[1]} in
+    run | ring)
+        [ "$COMP_CWORD" = 2 ] || return
+        compopt -o filenames 2>/dev/null
+        mapfile -t COMPREPLY < <(compgen -f -X '!*.json' -- "$word"; compgen -d -- "$word")
+        ;;
+    storm)
+        [ "$COMP_CWORD" -lt 5 ] || mapfile -t COMPREPLY < <(compgen -W '--faults' -- "$word")
+        ;;
+    help) mapfile -t COMPREPLY < <(compgen -W 'run ring storm' -- "$word") ;;
+    esac
+}
+complete -F _dynamo dynamo ./dynamo
