@@ -6,7 +6,7 @@ ghost use Rattle.dy_preference.specs.inside.Walks.{met};
 
 use crate::lists::Preference;
 use dy_dots::{Fault, NodeId};
-use dy_ring::Ring;
+use dy_ring::{Ring, Token};
 use dy_siblings::Key;
 use std::alloc::Global;
 
@@ -40,7 +40,7 @@ fn in_order(alloc: Global, ring: &Ring, key: &Key) -> Result<Vec<NodeId>, Fault>
 }
 
 /// Each node of the tokens that isn't there yet is put at the end, until there are so many.
-fn meet(nodes: &mut Vec<NodeId>, tokens: &[(u128, NodeId)], count: usize) -> Result<(), Fault>
+fn meet(nodes: &mut Vec<NodeId>, tokens: &[Token], count: usize) -> Result<(), Fault>
     requires { length nodes.old.items ≤ count }
     ensures ok { OnOk result (nodes.new.items ≡ take count (met nodes.old.items tokens.now)) }
     ensures memory { IsOkUnless result Fault.OutOfMemory }

@@ -7,7 +7,7 @@ ghost use Rattle.dy_ring.specs.Lists.{IsLeast, has_too_many, lacks_token};
 ghost use Rattle.dy_ring.specs.Lists.{derived_token, derived_list, derived_lists};
 ghost use Rattle.dy_ring.specs.inside.Making.{pairs_from, clash_of};
 
-use crate::rings::MAX_TOKENS_PER_NODE;
+use crate::rings::{MAX_TOKENS_PER_NODE, Token};
 use dy_dots::{Fault, MAX_NODES, NodeId};
 use md5::{Digest, Md5};
 use std::alloc::Global;
@@ -46,7 +46,7 @@ pub(crate) fn first_without(lists: &[Vec<u128>]) -> Option<NodeId>
 }
 
 /// Each position of the list with its node is put at the tokens' end.
-fn add(tokens: &mut Vec<(u128, NodeId)>, node: NodeId, list: &[u128]) -> Result<(), Fault>
+fn add(tokens: &mut Vec<Token>, node: NodeId, list: &[u128]) -> Result<(), Fault>
     ensures ok { OnOk result
         (tokens.new.items ≡ tokens.old.items ++ map (λ p. (p, node)) list.now) }
     ensures positions { All (λ p. p < 2 ^ 128) list.now }
@@ -59,7 +59,7 @@ fn add(tokens: &mut Vec<(u128, NodeId)>, node: NodeId, list: &[u128]) -> Result<
 }
 
 /// Each position of the lists with its node.
-pub(crate) fn pairs_of(alloc: Global, lists: &[Vec<u128>]) -> Result<Vec<(u128, NodeId)>, Fault>
+pub(crate) fn pairs_of(alloc: Global, lists: &[Vec<u128>]) -> Result<Vec<Token>, Fault>
     requires { length lists.now ≤ MAX_NODES }
     ensures ok { let given = map (λ list. list.items) lists.now in
         IfOk result (λ tokens. tokens.items ≡ pairs_from 0 given) }
@@ -74,7 +74,7 @@ pub(crate) fn pairs_of(alloc: Global, lists: &[Vec<u128>]) -> Result<Vec<(u128, 
 }
 
 /// The tokens are put in the order of their positions.
-pub(crate) fn sort(tokens: &mut Vec<(u128, NodeId)>)
+pub(crate) fn sort(tokens: &mut Vec<Token>)
     ensures permutation { IsPermutation tokens.old.items tokens.new.items }
     ensures sorted { IsNonDecreasingBy (λ t. t.0) tokens.new.items }
 {
@@ -82,7 +82,7 @@ pub(crate) fn sort(tokens: &mut Vec<(u128, NodeId)>)
 }
 
 /// The first position that stands twice in a row.
-pub(crate) fn first_clash(tokens: &[(u128, NodeId)]) -> Option<u128>
+pub(crate) fn first_clash(tokens: &[Token]) -> Option<u128>
     ensures { result ≡ clash_of tokens.now }
 {
     let (first, rest) = tokens.split_first()?;

@@ -4,4 +4,4 @@
 mod givens;
 mod rings;
 
-pub use rings::{MAX_TOKENS_PER_NODE, Ring};
+pub use rings::{MAX_TOKENS_PER_NODE, Ring, Token};

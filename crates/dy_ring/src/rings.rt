@@ -17,11 +17,14 @@ use std::marker::Model;
 /// How many tokens a node has at most.
 pub const MAX_TOKENS_PER_NODE: usize = 64;
 
+/// A token of a ring: its position, and its node.
+pub type Token = (u128, NodeId);
+
 /// A fixed ring of positions, each a token of one node (Dynamo, section 4.2).
 #[derive(Debug, Drop)]
 pub struct Ring {
     nodes: u8,
-    tokens: Vec<(u128, NodeId)>,
+    tokens: Vec<Token>,
 }
 
 impl Model for Ring {
@@ -106,7 +109,7 @@ impl Ring {
     }
 
     /// Each token's position and its node, in rising position. Takes no memory.
-    pub fn tokens(&self) -> &[(u128, NodeId)]
+    pub fn tokens(&self) -> &[Token]
         ensures value { result.now ≡ self.now.tokens }
         ensures valid { IsRing self.now }
     {
