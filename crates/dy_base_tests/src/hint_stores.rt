@@ -1,6 +1,6 @@
 use crate::rows::{dot_of, row_of};
 use dy_dots::{Dot, NodeId};
-use dy_hint_store::HintStore;
+use dy_hint_store::{HintStore, RowRefFor};
 use dy_siblings::{Key, Row};
 use std::alloc::Global;
 
@@ -17,7 +17,7 @@ fn is_of(home: NodeId, row: &Row, wanted: &(u8, &[u8])) -> bool {
 }
 
 // Whether these are the homes and keys of the hints.
-fn are_of(hints: &[(NodeId, &Row)], wanted: &[(u8, &[u8])]) -> bool {
+fn are_of(hints: &[RowRefFor<'_>], wanted: &[(u8, &[u8])]) -> bool {
     for (hint, wanted) in hints.iter().zip(wanted) {
         if !is_of(hint.0, hint.1, wanted) {
             return false;

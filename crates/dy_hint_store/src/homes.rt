@@ -3,6 +3,7 @@ ghost use Rattle.dy_dots.specs.declared.nodes.TheConstants.{MAX_NODES};
 ghost use Rattle.dy_hint_store.specs.Hints.{shown};
 ghost use Rattle.dy_hint_store.specs.inside.Homes.{HaveSameRows};
 
+use crate::stores::RowRefFor;
 use dy_dots::{Fault, NodeId};
 use dy_node_store::RowMap;
 use dy_siblings::Row;
@@ -26,7 +27,7 @@ pub(crate) fn make_room(alloc: Global, homes: &mut Vec<RowMap>, home: usize) -> 
 
 // Lists the rows as hints for the home.
 pub(crate) fn add_hints<'a>(
-    hints: &mut Vec<(NodeId, &'a Row)>,
+    hints: &mut Vec<RowRefFor<'a>>,
     home: NodeId,
     rows: &[&'a Row],
 ) -> Result<(), Fault>

@@ -4,4 +4,4 @@
 mod homes;
 mod stores;
 
-pub use stores::HintStore;
+pub use stores::{HintStore, RowRefFor};

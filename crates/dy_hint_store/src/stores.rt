@@ -15,6 +15,9 @@ use dy_siblings::{Key, Row};
 use std::alloc::Global;
 use std::marker::Model;
 
+/// A home, and the row that is held for it, borrowed.
+pub type RowRefFor<'a> = (NodeId, &'a Row);
+
 /// The rows that a node holds for other nodes, by home and key. A row that has no version is none:
 /// it is not kept.
 #[derive(Drop)]
@@ -128,7 +131,7 @@ impl HintStore {
 
     /// The rows with their homes, in the order of the homes' numbers, and of their keys' bytes for
     /// each.
-    pub fn list(&self, alloc: Global) -> Result<Vec<(NodeId, &Row)>, Fault>
+    pub fn list(&self, alloc: Global) -> Result<Vec<RowRefFor<'_>>, Fault>
         ensures value { IfOk result
             (λ hints. map shown hints.items ≡ map home_and_row (maps.entries self.now)) }
         ensures kept { IfOk result
