@@ -2,12 +2,13 @@
 use Rattle.std.proofs.Common.{◌≡◌, ℕ, zero, suc, ◌<◌, ◌≤◌, true, false, eqb, List, [], ◌∷◌, ◌++◌, length, map, get_or, take, refl, sym, ap, ◌∙◌, subst, ⊎_elim, arith}
 use Rattle.std.specs.Prelude.{nat_eq}
 use Rattle.std.specs.Cmp.{nat_eq_equiv}
-use Rattle.std.specs.List.{AllByRecursion, Contains, IsDistinct, list_any}
+use Rattle.std.specs.List.{All, AllByRecursion, Contains, IsDistinct, list_any}
 use Rattle.std.proofs.lemmas.Bool.{or_left, or_right, true≢false, eqb-true, eq-eqb}
 use Rattle.std.proofs.lemmas.List.{length-take, take-append-drop}
-use Rattle.std.proofs.lemmas.List.Elements.{Contains-append_left, Contains-push_cases}
+use Rattle.std.proofs.lemmas.List.Elements.{All-contains, Contains-append_left, Contains-push_cases}
 use Rattle.std.proofs.lemmas.Map.Keys.{IsDistinct-push}
-use Rattle.dy_core.specs.Worlds.{World}
+use Rattle.dy_preference.specs.Preferences.{is_home}
+use Rattle.dy_core.specs.Worlds.{Layout, World}
 use Rattle.dy_core.specs.Covers.{CoversAt, HasCover}
 use Rattle.dy_core.specs.inside.Meanings.{AreChosen, clashes}
 use Rattle.dy_core.specs.Listings.{ListsCovers}
@@ -59,17 +60,21 @@ front_distinct f zero xs d = tt
 front_distinct f (suc n) [] d = tt
 front_distinct f (suc n) (x ∷ xs) d = (front_all (λ y. nat_eq (f x) y ≡ false) f n xs d.0, front_distinct f n xs d.1)
 
-pub chosen_cover : (w : World) (key : List ℕ) (d : Dot) (places chosen : List Place) → ListsCovers w key d places → AreChosen places chosen →
-    (n : ℕ) → n ≤ length chosen → HasCover w key d n
-chosen_cover w key d places chosen lists are n le =
+pub chosen_cover : (layout : Layout) (w : World) (key : List ℕ) (d : Dot) (places chosen : List Place) → ListsCovers w key d places →
+    All (λ p. is_home (layout.homes key) p.home ≡ true) places → AreChosen places chosen →
+    (n : ℕ) → n ≤ length chosen → HasCover layout w key d n
+chosen_cover layout w key d places chosen lists homes are n le =
     record {
       places = take n chosen;
       is_cover = record {
         count_is = omega (arith, length-take n chosen);
         homes_distinct = front_distinct (λ p. p.home) n chosen are.homes_distinct;
         holders_distinct = front_distinct (λ p. p.holder) n chosen are.holders_distinct;
-        each_covers = all_from (λ p. CoversAt w key d p.holder p.home) (take n chosen) (λ p inside.
-            (lists.same p).0
-            (are.inside p (subst (λ xs. Contains xs p) (take-append-drop n chosen) (Contains-append_left (take n chosen) _ p inside))));
+        each_home = all_from (λ p. is_home (layout.homes key) p.home ≡ true) (take n chosen)
+            (λ p inside. All-contains (λ p. is_home (layout.homes key) p.home ≡ true) places p homes (among p inside));
+        each_covers = all_from (λ p. CoversAt w key d p.holder p.home) (take n chosen) (λ p inside. (lists.same p).0 (among p inside));
       };
     }
+  where
+    among : (p : Place) → Contains (take n chosen) p → Contains places p
+    among p inside = are.inside p (subst (λ xs. Contains xs p) (take-append-drop n chosen) (Contains-append_left (take n chosen) _ p inside))

@@ -254,8 +254,8 @@ module _ (layout : Layout) (w : World) (sound : IsSound layout w) where
 
   pub step_sound : (s : Step) → IsAllowed layout w s → IsSound layout (world_after_step w s)
   step_sound (Issue node key context value) a = issue_sound node key context value
-  step_sound (Hold holder home row) a = hold_sound holder home row a.0 a.1
-  step_sound (Release holder home key d) a = release_sound holder home key d
-  step_sound (Fetch holder home key) a = sound
+  step_sound (Hold p row) a = hold_sound p.holder p.home row a.0 a.1
+  step_sound (Release p key d) a = release_sound p.holder p.home key d
+  step_sound (Fetch p key) a = sound
   step_sound (Ack key d count) a =
       record { ordered = sound.ordered; counted = sound.counted; every_counter = sound.every_counter; held_sound = sound.held_sound }

@@ -8,6 +8,7 @@ use Rattle.std.specs.Cmp.{both_ways as both_ways_same}
 use Rattle.dy_dots.specs.Dots.{same_dot}
 use Rattle.dy_siblings.specs.Versions.{in_history}
 use Rattle.dy_siblings.specs.Siblings.{IsSameRow, has_dot, same_key, covers}
+use Rattle.dy_preference.specs.Preferences.{is_home}
 use Rattle.dy_core.specs.Worlds.{Layout, World, AreMadeOf, IsSettled, is_issued, row_at}
 use Rattle.dy_core.specs.Covers.{covers_at}
 use Rattle.dy_core.specs.Logs.{world_after}
@@ -26,6 +27,7 @@ use Rattle.dy_siblings.proofs.SameKeys.{same_key_is, same_key_self}
 use Rattle.dy_core.proofs.Standing.{stands_from, stands_in}
 use Rattle.dy_core.proofs.Kept.{IsSound}
 use Rattle.dy_core.proofs.OverLogs.{log_sound}
+use Rattle.dy_core.proofs.Receipts.{cover_home}
 use Rattle.dy_core.proofs.NextVersion.{last_is}
 use Rattle.dy_core.proofs.Gathering.{gathered_from, gathered_has, gathered_sorted}
 use Rattle.dy_core.proofs.Held.{Spot, at_from, keys_tie, place_cmp_total, places_tie, row_in-of, row_in-from}
@@ -180,6 +182,13 @@ module _ (layout : Layout) (steps : List Step) (versions : List Version) (held :
 
   pub keys_listed : ListsSettled (world_after steps) (gathered key_cmp (λ v. settled_in held v.key) (λ v. v.key) versions)
   keys_listed = settled_listed (world_after steps) versions held acked after.meets layout (log_sound layout steps after.is_legal)
+
+  -- the places that cover are of homes of the key
+  pub covers_homes : (key : List ℕ) (d : Dot) → All (λ p. is_home (layout.homes key) p.home ≡ true) (gathered place_cmp (is_covering key d) place_of held)
+  covers_homes key d =
+      all_from (λ p. is_home (layout.homes key) p.home ≡ true) (gathered place_cmp (is_covering key d) place_of held) (λ p inside.
+      cover_home layout (world_after steps) (log_sound layout steps after.is_legal) key d p.home p.holder
+      (((covers_listed (world_after steps) versions held acked after.meets key d).same p).0 inside))
 
   -- a row that is in the list of holdings has a version
   pub row_some : (h : Holding) → Contains held h → 0 < length h.row.versions

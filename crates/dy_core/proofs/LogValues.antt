@@ -5,6 +5,7 @@ use Rattle.dy_siblings.specs.Siblings.{Siblings}
 use Rattle.dy_preference.specs.Preferences.{may_hold}
 use Rattle.dy_core.specs.Worlds.{Layout}
 use Rattle.dy_core.specs.Covers.{covers_at}
+use Rattle.dy_core.specs.Steps.{place_for}
 use Rattle.dy_core.specs.Logs.{world_after}
 use Rattle.dy_dots.specs.declared.dots.Dot.{Dot}
 use Rattle.dy_core.specs.declared.steps.Step.{Step}
@@ -17,7 +18,7 @@ abbrev row : Siblings
 row = record { key = 97 ∷ []; versions = record { key = 97 ∷ []; dot = first; past = set.empty; value = Some (120 ∷ []) } ∷ [] }
 
 abbrev steps : List Step
-steps = Issue 0 (97 ∷ []) set.empty (Some (120 ∷ [])) ∷ Hold 0 0 row ∷ Hold 1 1 row ∷ Hold 3 1 row ∷ []
+steps = Issue 0 (97 ∷ []) set.empty (Some (120 ∷ [])) ∷ Hold (place_for 0 0) row ∷ Hold (place_for 1 1) row ∷ Hold (place_for 3 1) row ∷ []
 
 own_home : covers_at (world_after steps) (97 ∷ []) first 0 0 ≡ true
 own_home = simp (set.contains-empty)
@@ -28,7 +29,7 @@ stand_in = simp (set.contains-empty)
 not_asked : covers_at (world_after steps) (97 ∷ []) first 2 2 ≡ false
 not_asked = refl
 
-released : covers_at (world_after (steps ++ Release 3 1 (97 ∷ []) first ∷ [])) (97 ∷ []) first 3 1 ≡ false
+released : covers_at (world_after (steps ++ Release (place_for 3 1) (97 ∷ []) first ∷ [])) (97 ∷ []) first 3 1 ≡ false
 released = simp (set.contains-empty)
 
 abbrev three : Layout

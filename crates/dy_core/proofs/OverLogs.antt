@@ -47,37 +47,37 @@ kept_from layout P step w sound (s ∷ ss) r p = kept_from layout P step (world_
 
 -- a step keeps a cover, in other pairs where one of them was released
 pub step_keeps_cover : (layout : Layout) (w : World) → IsSound layout w → (s : Step) → IsAllowed layout w s →
-    (key : List ℕ) (d : Dot) (n : ℕ) → HasCover w key d n → HasCover (world_after_step w s) key d n
+    (key : List ℕ) (d : Dot) (n : ℕ) → HasCover layout w key d n → HasCover layout (world_after_step w s) key d n
 step_keeps_cover layout w sound s a key d n has =
     let c = has.is_cover in
-    subst (HasCover (world_after_step w s) key d) c.count_is
+    subst (HasCover layout (world_after_step w s) key d) c.count_is
     (cover_from_receipts layout (world_after_step w s) (step_sound layout w sound s a) key d has.places
     (All-weaker (λ p. covers_at w key d p.holder p.home ≡ true) (λ p. receipt_holds (world_after_step w s) key d p.holder p.home ≡ true)
     (λ p covers. step_keeps_receipt layout w sound key d p.home p.holder s a (or_left (covers_at w key d p.holder p.home) (covers_at w key d p.home p.home) covers))
     has.places c.each_covers)
     c.homes_distinct c.holders_distinct)
 
-still_covered : (layout : Layout) (w : World) → IsSound layout w → (s : Step) → IsAllowed layout w s → AcksAreCovered w →
-    All (λ a. HasCover (world_after_step w s) a.key a.dot a.w) w.acks
+still_covered : (layout : Layout) (w : World) → IsSound layout w → (s : Step) → IsAllowed layout w s → AcksAreCovered layout w →
+    All (λ a. HasCover layout (world_after_step w s) a.key a.dot a.w) w.acks
 still_covered layout w sound s a covered =
-    All-weaker (λ a. HasCover w a.key a.dot a.w) (λ a. HasCover (world_after_step w s) a.key a.dot a.w)
+    All-weaker (λ a. HasCover layout w a.key a.dot a.w) (λ a. HasCover layout (world_after_step w s) a.key a.dot a.w)
     (λ t has. step_keeps_cover layout w sound s a t.key t.dot t.w has) w.acks covered
 
-step_keeps_acks : (layout : Layout) (w : World) → IsSound layout w → (s : Step) → IsAllowed layout w s → AcksAreCovered w → AcksAreCovered (world_after_step w s)
+step_keeps_acks : (layout : Layout) (w : World) → IsSound layout w → (s : Step) → IsAllowed layout w s → AcksAreCovered layout w → AcksAreCovered layout (world_after_step w s)
 step_keeps_acks layout w sound (Issue node key context value) a covered = still_covered layout w sound (Issue node key context value) a covered
-step_keeps_acks layout w sound (Hold holder home row) a covered = still_covered layout w sound (Hold holder home row) a covered
-step_keeps_acks layout w sound (Release holder home key d) a covered = still_covered layout w sound (Release holder home key d) a covered
-step_keeps_acks layout w sound (Fetch holder home key) a covered = covered
+step_keeps_acks layout w sound (Hold p row) a covered = still_covered layout w sound (Hold p row) a covered
+step_keeps_acks layout w sound (Release p key d) a covered = still_covered layout w sound (Release p key d) a covered
+step_keeps_acks layout w sound (Fetch p key) a covered = covered
 step_keeps_acks layout w sound (Ack key d n) a covered =
-    All-cons (λ t. HasCover (world_after_step w (Ack key d n)) t.key t.dot t.w) (record { key = key; dot = d; w = n }) w.acks
+    All-cons (λ t. HasCover layout (world_after_step w (Ack key d n)) t.key t.dot t.w) (record { key = key; dot = d; w = n }) w.acks
     (step_keeps_cover layout w sound (Ack key d n) a key d n a.2)
     (still_covered layout w sound (Ack key d n) a covered)
 
 -- each acked triple has its cover, after every run
-pub acks_covered_from : (layout : Layout) (w : World) → IsSound layout w → AcksAreCovered w → (ss : List Step) → IsLegalFrom layout w ss → AcksAreCovered (world_from w ss)
-acks_covered_from layout w sound covered ss r = kept_from layout AcksAreCovered (step_keeps_acks layout) w sound ss r covered
+pub acks_covered_from : (layout : Layout) (w : World) → IsSound layout w → AcksAreCovered layout w → (ss : List Step) → IsLegalFrom layout w ss → AcksAreCovered layout (world_from w ss)
+acks_covered_from layout w sound covered ss r = kept_from layout (AcksAreCovered layout) (step_keeps_acks layout) w sound ss r covered
 
-pub acks_covered : (layout : Layout) (ss : List Step) → IsLegal layout ss → AcksAreCovered (world_after ss)
+pub acks_covered : (layout : Layout) (ss : List Step) → IsLegal layout ss → AcksAreCovered layout (world_after ss)
 acks_covered layout ss r = acks_covered_from layout empty_world (empty_sound layout) (λ k x lt. absurd (omega (arith, lt))) ss r
 
 -- what each step keeps stays from the world after some steps to that after more
@@ -100,9 +100,9 @@ receipt_stays layout steps more legal key d home holder =
 
 step_keeps_issued : (layout : Layout) (v : Version) (w : World) → IsSound layout w → (s : Step) → IsAllowed layout w s → Contains w.versions v → Contains (world_after_step w s).versions v
 step_keeps_issued layout v w sound (Issue node key context value) a h = in_tail (version_made w node key context value) v w.versions h
-step_keeps_issued layout v w sound (Hold holder home row) a h = h
-step_keeps_issued layout v w sound (Release holder home key d) a h = h
-step_keeps_issued layout v w sound (Fetch holder home key) a h = h
+step_keeps_issued layout v w sound (Hold p row) a h = h
+step_keeps_issued layout v w sound (Release p key d) a h = h
+step_keeps_issued layout v w sound (Fetch p key) a h = h
 step_keeps_issued layout v w sound (Ack key d n) a h = h
 
 -- what was made stays made

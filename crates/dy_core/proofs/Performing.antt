@@ -15,6 +15,7 @@ use Rattle.dy_dots.specs.declared.dots.Dot.{Dot}
 use Rattle.dy_siblings.specs.declared.versions.Version.{Version}
 use Rattle.dy_core.specs.declared.acks.Acked.{Acked}
 use Rattle.dy_core.specs.declared.holdings.Holding.{Holding}
+use Rattle.dy_core.specs.declared.places.Place.{Place}
 use Rattle.dy_core.specs.declared.steps.Step.{Step}
 use Rattle.dy_core.specs.declared.steps.Step.TheVariants.{Issue, Hold, Release, Fetch, Ack}
 use Rattle.dy_dots.proofs.SameDots.{same_dot_is}
@@ -88,41 +89,41 @@ module _ (layout : Layout) (steps : List Step) (versions : List Version) (held :
       (meets_issue layout (world_after steps) sound versions held acked old.meets node key context value v
       (version_is layout (world_after steps) sound versions held acked old.meets node key context value v key_is node_is counter_is past_is value_is)))
 
-  pub agree_is : (holder home : ℕ) (row : Siblings) → s ≡ Hold holder home row → AreOneByDot (row_in held holder home row.key ++ row.versions)
-  agree_is holder home row is u v in_u in_v dots =
+  pub agree_is : (p : Place) (row : Siblings) → s ≡ Hold p row → AreOneByDot (row_in held p.holder p.home row.key ++ row.versions)
+  agree_is p row is u v in_u in_v dots =
       same_version (world_after steps).versions sound.ordered u v (of u in_u).0 (of v in_v).0 ((of u in_u).1 ∙ sym (of v in_v).1) dots
     where
-      of : (x : Version) → Contains (row_in held holder home row.key ++ row.versions) x → Contains (world_after steps).versions x × (x.key ≡ row.key)
+      of : (x : Version) → Contains (row_in held p.holder p.home row.key ++ row.versions) x → Contains (world_after steps).versions x × (x.key ≡ row.key)
       of x inside =
           ⊎_elim
-          (λ l. let at = stands_from (world_after steps) holder home row.key x ((old.meets.rows_are holder home row.key x).0 l) in (at.made, at.key_is))
+          (λ l. let at = stands_from (world_after steps) p.holder p.home row.key x ((old.meets.rows_are p.holder p.home row.key x).0 l) in (at.made, at.key_is))
           (λ r.
           let a = subst (IsAllowed layout (world_after steps)) is allowed in
           let m = All-contains (λ x. (x.key ≡ row.key) × Contains (world_after steps).versions x) row.versions x a.1 r in (m.1, m.0))
-          (Contains-append_cases (row_in held holder home row.key) row.versions x inside)
+          (Contains-append_cases (row_in held p.holder p.home row.key) row.versions x inside)
 
-  pub hold_goes : (holder home : ℕ) (row : Siblings) → s ≡ Hold holder home row → (new : List Holding) →
-      ((merged : Siblings) × (merged.key ≡ row.key) × IsSameRow merged.versions (merge (row_in held holder home row.key) row.versions)
-      × (new ≡ kept held (record { holder = holder; home = home; row = merged }))) →
+  pub hold_goes : (p : Place) (row : Siblings) → s ≡ Hold p row → (new : List Holding) →
+      ((merged : Siblings) × (merged.key ≡ row.key) × IsSameRow merged.versions (merge (row_in held p.holder p.home row.key) row.versions)
+      × (new ≡ kept held (record { holder = p.holder; home = p.home; row = merged }))) →
       IsAfter layout (steps ++ s ∷ []) versions new acked
-  hold_goes holder home row is new h =
+  hold_goes p row is new h =
       let a = subst (IsAllowed layout (world_after steps)) is allowed in
       subst (λ hs. IsAfter layout (steps ++ s ∷ []) versions hs acked) (sym h.3)
-      (goes (Hold holder home row) is versions (kept held (record { holder = holder; home = home; row = h.0 })) acked
-      (meets_hold (world_after steps) sound.ordered versions held acked old.meets holder home row a.1 h.0 h.1 h.2))
+      (goes (Hold p row) is versions (kept held (record { holder = p.holder; home = p.home; row = h.0 })) acked
+      (meets_hold (world_after steps) sound.ordered versions held acked old.meets p.holder p.home row a.1 h.0 h.1 h.2))
 
-  pub release_goes : (holder home : ℕ) (key : List ℕ) (d : Dot) → s ≡ Release holder home key d → (new : List Holding) →
-      new ≡ kept held (record { holder = holder; home = home; row = record { key = key; versions = without (row_in held holder home key) d } }) →
+  pub release_goes : (p : Place) (key : List ℕ) (d : Dot) → s ≡ Release p key d → (new : List Holding) →
+      new ≡ kept held (record { holder = p.holder; home = p.home; row = record { key = key; versions = without (row_in held p.holder p.home key) d } }) →
       IsAfter layout (steps ++ s ∷ []) versions new acked
-  release_goes holder home key d is new h =
+  release_goes p key d is new h =
       subst (λ hs. IsAfter layout (steps ++ s ∷ []) versions hs acked) (sym h)
-      (goes (Release holder home key d) is versions
-      (kept held (record { holder = holder; home = home; row = record { key = key; versions = without (row_in held holder home key) d } })) acked
-      (meets_release (world_after steps) versions held acked old.meets holder home key d
-      (record { key = key; versions = without (row_in held holder home key) d }) refl refl))
+      (goes (Release p key d) is versions
+      (kept held (record { holder = p.holder; home = p.home; row = record { key = key; versions = without (row_in held p.holder p.home key) d } })) acked
+      (meets_release (world_after steps) versions held acked old.meets p.holder p.home key d
+      (record { key = key; versions = without (row_in held p.holder p.home key) d }) refl refl))
 
-  pub fetch_goes : (holder home : ℕ) (key : List ℕ) → s ≡ Fetch holder home key → IsAfter layout (steps ++ s ∷ []) versions held acked
-  fetch_goes holder home key is = goes (Fetch holder home key) is versions held acked old.meets
+  pub fetch_goes : (p : Place) (key : List ℕ) → s ≡ Fetch p key → IsAfter layout (steps ++ s ∷ []) versions held acked
+  fetch_goes p key is = goes (Fetch p key) is versions held acked old.meets
 
   pub ack_goes : (key : List ℕ) (d : Dot) (count : ℕ) → s ≡ Ack key d count → (new : List Acked) →
       new ≡ put ack_cmp acked (record { key = key; dot = d; w = count }) → IsAfter layout (steps ++ s ∷ []) versions held new
@@ -132,7 +133,7 @@ module _ (layout : Layout) (steps : List Step) (versions : List Version) (held :
       (meets_ack (world_after steps) versions held acked old.meets (record { key = key; dot = d; w = count })))
 
 pub fetch_answers : (layout : Layout) (steps : List Step) (versions : List Version) (held : List Holding) (acked : List Acked) →
-    IsAfter layout steps versions held acked → (s : Step) (holder home : ℕ) (key : List ℕ) → s ≡ Fetch holder home key →
-    IsSameRow (row_in held holder home key) (row_answered (world_after steps) s)
-fetch_answers layout steps versions held acked old s holder home key is =
-    subst (λ x. IsSameRow (row_in held holder home key) (row_answered (world_after steps) x)) (sym is) (old.meets.rows_are holder home key)
+    IsAfter layout steps versions held acked → (s : Step) (p : Place) (key : List ℕ) → s ≡ Fetch p key →
+    IsSameRow (row_in held p.holder p.home key) (row_answered (world_after steps) s)
+fetch_answers layout steps versions held acked old s p key is =
+    subst (λ x. IsSameRow (row_in held p.holder p.home key) (row_answered (world_after steps) x)) (sym is) (old.meets.rows_are p.holder p.home key)

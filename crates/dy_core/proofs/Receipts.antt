@@ -3,7 +3,7 @@ use Rattle.std.proofs.Common.{◌≡◌, ℕ, suc, Bool, true, false, cond, ◌|
 use Rattle.std.specs.List.{All, AllByRecursion, IsDistinct}
 use Rattle.std.specs.Prelude.{nat_eq}
 use Rattle.std.proofs.lemmas.Bool.{cases_Bool, or_cases, or_left, or_right, and_parts, true≢false, eqb-true, ne_eqb, eqb-false, not-true}
-use Rattle.std.proofs.lemmas.List.Elements.{All-from_recursion, recursion_from_All}
+use Rattle.std.proofs.lemmas.List.Elements.{All-from_recursion, All-weaker, recursion_from_All}
 use Rattle.dy_preference.specs.Preferences.{is_home, may_hold}
 use Rattle.dy_core.specs.Worlds.{Layout, World}
 use Rattle.dy_core.specs.Covers.{covers_at, HasCover, receipt_holds}
@@ -20,31 +20,31 @@ module _ (layout : Layout) (w : World) (sound : IsSound layout w) (key : List �
   pub step_keeps_place : (home holder : ℕ) (s : Step) → IsAllowed layout w s → (IsReleaseAt holder home key s → ⊥) →
       covers_at w key d holder home ≡ true → covers_at (world_after_step w s) key d holder home ≡ true
   step_keeps_place home holder (Issue n k context value) a elsewhere c = issue_keeps w (version_made w n k context value) key d home holder c
-  step_keeps_place home holder (Hold p o row) a elsewhere c = hold_keeps w p o row sound.ordered a.1 key d home holder c
-  step_keeps_place home holder (Release p o k e) a elsewhere c =
-      release_keeps w p o k e key d home holder
+  step_keeps_place home holder (Hold p row) a elsewhere c = hold_keeps w p.holder p.home row sound.ordered a.1 key d home holder c
+  step_keeps_place home holder (Release p k e) a elsewhere c =
+      release_keeps w p.holder p.home k e key d home holder
       (⊎_elim
-      (λ here. let place = place_is p o k holder home key here in absurd (elsewhere (sym place.holder_is, sym place.home_is, sym place.key_is)))
+      (λ here. let place = place_is p.holder p.home k holder home key here in absurd (elsewhere (sym place.holder_is, sym place.home_is, sym place.key_is)))
       (λ apart. apart)
-      (cases_Bool (same_place p o k holder home key)))
+      (cases_Bool (same_place p.holder p.home k holder home key)))
       c
-  step_keeps_place home holder (Fetch p o k) a elsewhere c = c
+  step_keeps_place home holder (Fetch p k) a elsewhere c = c
   step_keeps_place home holder (Ack k e n) a elsewhere c = c
 
   -- a home's own cover is never lost
   pub step_keeps_own : (home : ℕ) (s : Step) → IsAllowed layout w s → covers_at w key d home home ≡ true → covers_at (world_after_step w s) key d home home ≡ true
   step_keeps_own home (Issue n k context value) a c = issue_keeps w (version_made w n k context value) key d home home c
-  step_keeps_own home (Hold p o row) a c = hold_keeps w p o row sound.ordered a.1 key d home home c
-  step_keeps_own home (Release p o k e) a c = release_keeps_own w p o k e a.0 key d home c
-  step_keeps_own home (Fetch p o k) a c = c
+  step_keeps_own home (Hold p row) a c = hold_keeps w p.holder p.home row sound.ordered a.1 key d home home c
+  step_keeps_own home (Release p k e) a c = release_keeps_own w p.holder p.home k e a.0 key d home c
+  step_keeps_own home (Fetch p k) a c = c
   step_keeps_own home (Ack k e n) a c = c
 
   step_keeps_either : (home holder : ℕ) (s : Step) → IsAllowed layout w s → covers_at w key d holder home ≡ true →
       (covers_at (world_after_step w s) key d holder home ≡ true) ⊎ (covers_at (world_after_step w s) key d home home ≡ true)
   step_keeps_either home holder (Issue n k context value) a c = inl (issue_keeps w (version_made w n k context value) key d home holder c)
-  step_keeps_either home holder (Hold p o row) a c = inl (hold_keeps w p o row sound.ordered a.1 key d home holder c)
-  step_keeps_either home holder (Release p o k e) a c = release_keeps_either w sound.ordered p o k e a.0 a.2 key d home holder c
-  step_keeps_either home holder (Fetch p o k) a c = inl c
+  step_keeps_either home holder (Hold p row) a c = inl (hold_keeps w p.holder p.home row sound.ordered a.1 key d home holder c)
+  step_keeps_either home holder (Release p k e) a c = release_keeps_either w sound.ordered p.holder p.home k e a.0 a.2 key d home holder c
+  step_keeps_either home holder (Fetch p k) a c = inl c
   step_keeps_either home holder (Ack k e n) a c = inl c
 
   pub step_keeps_receipt : (home holder : ℕ) (s : Step) → IsAllowed layout w s →
@@ -62,11 +62,16 @@ module _ (layout : Layout) (w : World) (sound : IsSound layout w) (key : List �
   cover_may home holder c =
       let v = covering_from w key d home holder c in (sound.held_sound holder home key v.version.dot v.stands.is_held).0
 
+  -- who covers, covers for a home of the key
+  pub cover_home : (home holder : ℕ) → covers_at w key d holder home ≡ true → is_home (layout.homes key) home ≡ true
+  cover_home home holder c =
+      (and_parts (is_home (layout.homes key) home) (eqb holder home || not (is_home (layout.homes key) holder)) (cover_may home holder c)).0
+
   -- a stand-in for one home is not another home that covers for itself
   no_clash : (home holder other : ℕ) → covers_at w key d holder home ≡ true → covers_at w key d other other ≡ true → holder ≡ other → home ≡ other
   no_clash home holder other c own same =
       let may = and_parts (is_home (layout.homes key) home) (eqb holder home || not (is_home (layout.homes key) holder)) (cover_may home holder c) in
-      let other_home = (and_parts (is_home (layout.homes key) other) (eqb other other || not (is_home (layout.homes key) other)) (cover_may other other own)).0 in
+      let other_home = cover_home other other own in
       ⊎_elim
       (λ is_own. sym (eqb-true holder home is_own) ∙ same)
       (λ no_home. absurd (true≢false (sym (ap (is_home (layout.homes key)) same ∙ other_home) ∙ not-true (is_home (layout.homes key) holder) no_home)))
@@ -141,15 +146,19 @@ module _ (layout : Layout) (w : World) (sound : IsSound layout w) (key : List �
 
   -- true receipts of distinct homes and distinct holders give a cover
   pub cover_from_receipts : (ps : List Place) → All (λ p. receipt_holds w key d p.holder p.home ≡ true) ps →
-      IsDistinct nat_eq (map (λ p. p.home) ps) → IsDistinct nat_eq (map (λ p. p.holder) ps) → HasCover w key d (length ps)
+      IsDistinct nat_eq (map (λ p. p.home) ps) → IsDistinct nat_eq (map (λ p. p.holder) ps) → HasCover layout w key d (length ps)
   cover_from_receipts ps rs homes holders =
       let by_list = recursion_from_All (λ p. receipt_holds w key d p.holder p.home ≡ true) ps rs in
+      let covering = All-from_recursion (λ p. covers_at w key d p.holder p.home ≡ true) (map covering_place ps) (all_covering ps by_list) in
       record {
         places = map covering_place ps;
         is_cover = record {
           count_is = count_kept ps;
+          each_home =
+              All-weaker (λ p. covers_at w key d p.holder p.home ≡ true) (λ p. is_home (layout.homes key) p.home ≡ true)
+              (λ p c. cover_home p.home p.holder c) (map covering_place ps) covering;
           homes_distinct = subst (IsDistinct nat_eq) (sym (homes_kept ps)) homes;
           holders_distinct = all_apart ps by_list homes holders;
-          each_covers = All-from_recursion (λ p. covers_at w key d p.holder p.home ≡ true) (map covering_place ps) (all_covering ps by_list);
+          each_covers = covering;
         };
       }

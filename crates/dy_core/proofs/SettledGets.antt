@@ -1,7 +1,7 @@
 -- Reads from the homes themselves, once a key is settled.
-use Rattle.std.proofs.Common.{◌≡◌, ℕ, ◌+◌, ◌-◌, ◌<◌, ◌≤◌, true, ◌||◌, not, eqb, List, [], ◌∷◌, ◌++◌, length, map, take, drop, sym, ap, ◌∙◌, subst, ⊎_elim, arith}
+use Rattle.std.proofs.Common.{◌≡◌, ℕ, ◌+◌, ◌-◌, ◌<◌, ◌≤◌, true, eqb, List, [], ◌∷◌, ◌++◌, length, map, take, drop, sym, ap, ◌∙◌, subst, ⊎_elim, arith}
 use Rattle.std.specs.List.{Contains}
-use Rattle.std.proofs.lemmas.Bool.{and_parts, eqb-true}
+use Rattle.std.proofs.lemmas.Bool.{eqb-true}
 use Rattle.std.proofs.lemmas.List.{take-append-drop, take-take, length-map, length-take}
 use Rattle.std.proofs.lemmas.List.Elements.{All-contains, Contains-append_left, Contains-append_right, Contains-append_cases}
 use Rattle.dy_siblings.specs.Versions.{in_history}
@@ -17,7 +17,6 @@ use Rattle.dy_core.specs.declared.steps.Step.{Step}
 use Rattle.dy_siblings.proofs.Members.{Mapped, map_from, not_in_nil, in_head, in_tail, in_cases, any_gives, any_from}
 use Rattle.dy_core.proofs.Ordered.{AreOf, newest_covers}
 use Rattle.dy_core.proofs.Standing.{covering_from, stands_in, stands_from}
-use Rattle.dy_core.proofs.Receipts.{cover_may}
 use Rattle.dy_core.proofs.OverLogs.{log_sound, acks_covered, legal_front, own_stays, issued_stays}
 use Rattle.dy_core.proofs.Pigeons.{Shared, shared}
 
@@ -94,7 +93,7 @@ module _ (layout : Layout) (steps : List Step) (legal : IsLegal layout steps) wh
         c.reaches
 
     settled_answer : AreOfHomes (layout.homes key) answers → length (layout.homes key) ≤ layout.count → IsSettled (world_after (take since steps)) key → (d : Dot) (w : ℕ) →
-        HasCover (world_after (take since steps)) key d w → layout.count < r + w → covers (newest (rows_of answers)) d ≡ true
+        HasCover layout (world_after (take since steps)) key d w → layout.count < r + w → covers (newest (rows_of answers)) d ≡ true
     settled_answer homes few settled d w has enough =
         newest_covers (world_after steps).versions (log_sound layout steps legal).ordered key (rows_of answers) answers_made d
         (answer_covers homes d a.item a.in_list
@@ -124,9 +123,9 @@ module _ (layout : Layout) (steps : List Step) (legal : IsLegal layout steps) wh
             let read_from : length rs ≡ r = length-map answers (λ a. a.home) ∙ get.count_is in
             shared hs rs (layout.homes key) has.is_cover.homes_distinct get.homes_distinct
             (λ h in_hs.
-            home_in key h
-            (and_parts (is_home (layout.homes key) h) (eqb h h || not (is_home (layout.homes key) h))
-            (cover_may layout then (log_sound layout (take since steps) (front_legal since)) key d h h (own h in_hs))).0)
+            let p = map_from (λ p. p.home) has.places h in_hs in
+            subst (Contains (layout.homes key)) p.gives
+            (home_in key p.item.home (All-contains (λ p. is_home (layout.homes key) p.home ≡ true) has.places p.item has.is_cover.each_home p.in_list)))
             (λ h in_rs.
             let a = map_from (λ a. a.home) answers h in_rs in
             subst (Contains (layout.homes key)) a.gives
@@ -147,6 +146,6 @@ pub settled_get : (ring : Tokens) (n : ℕ) (steps : List Step) → IsLegal (lay
     covers (newest (rows_of answers)) d ≡ true
 settled_get ring n steps legal key since settled d w acked r answers get homes enough =
     let covered = acks_covered (layout_of ring n) (take since steps) (front_legal (layout_of ring n) steps legal since) in
-    let has = All-contains (λ a. HasCover (world_after (take since steps)) a.key a.dot a.w) (world_after (take since steps)).acks
+    let has = All-contains (λ a. HasCover (layout_of ring n) (world_after (take since steps)) a.key a.dot a.w) (world_after (take since steps)).acks
     (record { key = key; dot = d; w = w }) covered acked in
     settled_answer (layout_of ring n) steps legal key r since answers get homes (few_homes ring n key) settled d w has enough

@@ -2,7 +2,8 @@
 use Rattle.std.specs.Prelude.{◌≡◌, ℕ, Bool, ◌||◌, IsTrue, nat_eq, length, map, List}
 use Rattle.std.specs.List.{All, IsDistinct}
 use Rattle.dy_siblings.specs.Siblings.{covers}
-use Rattle.dy_core.specs.Worlds.{World, row_at}
+use Rattle.dy_preference.specs.Preferences.{is_home}
+use Rattle.dy_core.specs.Worlds.{Layout, World, row_at}
 use Rattle.dy_dots.specs.declared.dots.Dot.{Dot}
 use Rattle.dy_core.specs.declared.places.Place.{Place}
 
@@ -15,23 +16,30 @@ covers_at w key d holder home = covers (row_at w holder home key) d
 abbrev pub CoversAt : World → List ℕ → Dot → ℕ → ℕ → Type 0
 CoversAt w key d holder home = IsTrue (covers_at w key d holder home)
 
--- places, each a home with its holder, that cover the dot: so many, with distinct homes and
--- distinct holders (Dynamo, sections 4.5 and 4.6, with each node and each home counted once)
-pub record IsCover (w : World) (key : List ℕ) (d : Dot) (count : ℕ) (places : List Place)
+-- places are a cover for these homes, where `Covers` says which holder covers for which home: so
+-- many, each of one of the homes, with distinct homes and distinct holders, and each covers
+-- (Dynamo, sections 4.5 and 4.6, with each node and each home counted once)
+pub record AreCover (homes : List ℕ) (Covers : ℕ → ℕ → Type 0) (count : ℕ) (places : List Place)
     : Type 0 where
   pub count_is : length places ≡ count
+  pub each_home : All (λ p. IsTrue (is_home homes p.home)) places
   pub homes_distinct : IsDistinct nat_eq (map (λ p. p.home) places)
   pub holders_distinct : IsDistinct nat_eq (map (λ p. p.holder) places)
-  pub each_covers : All (λ p. CoversAt w key d p.holder p.home) places
+  pub each_covers : All (λ p. Covers p.holder p.home) places
+
+-- places are a cover of the dot: for the homes of the key, by what the places hold in this world
+abbrev pub IsCover : Layout → World → List ℕ → Dot → ℕ → List Place → Type 0
+IsCover layout w key d count places = AreCover (layout.homes key) (CoversAt w key d) count places
 
 -- there is a cover of so many places
-pub record HasCover (w : World) (key : List ℕ) (d : Dot) (count : ℕ) : Type 0 where
+pub record HasCover (layout : Layout) (w : World) (key : List ℕ) (d : Dot) (count : ℕ)
+    : Type 0 where
   pub places : List Place
-  pub is_cover : IsCover w key d count places
+  pub is_cover : IsCover layout w key d count places
 
 -- each ack that w homes were told of has a cover of w places (Dynamo, sections 4.5 and 4.6)
-abbrev pub AcksAreCovered : World → Type 0
-AcksAreCovered w = All (λ a. HasCover w a.key a.dot a.w) w.acks
+abbrev pub AcksAreCovered : Layout → World → Type 0
+AcksAreCovered layout w = All (λ a. HasCover layout w a.key a.dot a.w) w.acks
 
 -- whether the holder, or the home itself, covers the dot for the home
 abbrev pub receipt_holds : World → List ℕ → Dot → ℕ → ℕ → Bool

@@ -9,7 +9,7 @@ use Rattle.dy_siblings.specs.Siblings.{IsSameRow}
 use Rattle.dy_ring.specs.Rings.{Tokens, tokens_code}
 use Rattle.dy_preference.specs.Preferences.{is_home}
 use Rattle.dy_core.specs.Worlds.{Layout, World, empty_world, row_at}
-use Rattle.dy_core.specs.Steps.{IsAllowed, world_after_step}
+use Rattle.dy_core.specs.Steps.{IsAllowed, place_for, world_after_step}
 use Rattle.dy_dots.specs.declared.dots.Dot.{Dot}
 use Rattle.dy_siblings.specs.declared.versions.Version.{Version}
 use Rattle.dy_core.specs.contracts.steps.Step as step
@@ -54,7 +54,7 @@ pub record Answer : Type 0 where
 -- the step of the answer's number is that fetch, with that row
 pub record IsAnswer (steps : List Step) (a : Answer) : Type 0 where
   pub from_one : 1 ≤ a.at
-  pub is_fetch : slice_get steps (a.at - 1) ≡ Some (Fetch a.holder a.home a.key)
+  pub is_fetch : slice_get steps (a.at - 1) ≡ Some (Fetch (place_for a.holder a.home) a.key)
   pub is_row : IsSameRow a.row (row_at (world_after (take (a.at - 1) steps)) a.holder a.home a.key)
 
 -- the versions of all the answers

@@ -11,8 +11,13 @@ use Rattle.dy_core.specs.Worlds.{Layout, World, AreMadeOf, is_issued, row_at}
 use Rattle.dy_core.specs.Covers.{CoversAt, HasCover}
 use Rattle.dy_dots.specs.declared.dots.Dot.{Dot}
 use Rattle.dy_siblings.specs.declared.versions.Version.{Version}
+use Rattle.dy_core.specs.declared.places.Place.{Place}
 use Rattle.dy_core.specs.declared.steps.Step.{Step}
 use Rattle.dy_core.specs.declared.steps.Step.TheVariants.{Issue, Hold, Release, Fetch, Ack}
+
+-- the place of the holder for the home
+abbrev pub place_for : ℕ → ℕ → Place
+place_for holder home = record { holder = holder; home = home }
 
 -- the past that a context gives: the histories, together, of the versions of the key that it names
 -- (Preguiça et al., section 4)
@@ -45,12 +50,13 @@ IsKnown w key context =
 abbrev pub IsAllowed : Layout → World → Step → Type 0
 IsAllowed layout w (Issue node key context value) =
     IsKnown w key context × (w.counters node key < MAX_COUNTER)
-IsAllowed layout w (Hold holder home row) =
-    IsTrue (may_hold (layout.homes row.key) holder home) × AreMadeOf w row.key row.versions
-IsAllowed layout w (Release holder home key d) =
-    (holder ≢ home) × IsTrue (w.holdings holder home key d) × CoversAt w key d home home
-IsAllowed layout w (Fetch holder home key) = Unit {0}
-IsAllowed layout w (Ack key d count) = (1 ≤ count) × (count ≤ layout.count) × HasCover w key d count
+IsAllowed layout w (Hold p row) =
+    IsTrue (may_hold (layout.homes row.key) p.holder p.home) × AreMadeOf w row.key row.versions
+IsAllowed layout w (Release p key d) =
+    (p.holder ≢ p.home) × IsTrue (w.holdings p.holder p.home key d) × CoversAt w key d p.home p.home
+IsAllowed layout w (Fetch p key) = Unit {0}
+IsAllowed layout w (Ack key d count) =
+    (1 ≤ count) × (count ≤ layout.count) × HasCover layout w key d count
 
 -- whether these are the holder, the home and the key of a place
 abbrev pub same_place : ℕ → ℕ → List ℕ → ℕ → ℕ → List ℕ → Bool
@@ -87,40 +93,40 @@ after_release w holder home key e =
 abbrev pub world_after_step : World → Step → World
 world_after_step w (Issue node key context value) =
     after_issue w (version_made w node key context value)
-world_after_step w (Hold holder home row) = after_hold w holder home row
-world_after_step w (Release holder home key d) = after_release w holder home key d
-world_after_step w (Fetch holder home key) = w
+world_after_step w (Hold p row) = after_hold w p.holder p.home row
+world_after_step w (Release p key d) = after_release w p.holder p.home key d
+world_after_step w (Fetch p key) = w
 world_after_step w (Ack key d count) =
     record w { acks = record { key = key; dot = d; w = count } ∷ w.acks }
 
 -- the row that a step answers: a fetch answers the row at its place, and any other step no version
 abbrev pub row_answered : World → Step → List Version
 row_answered w (Issue node key context value) = []
-row_answered w (Hold holder home row) = []
-row_answered w (Release holder home key d) = []
-row_answered w (Fetch holder home key) = row_at w holder home key
+row_answered w (Hold p row) = []
+row_answered w (Release p key d) = []
+row_answered w (Fetch p key) = row_at w p.holder p.home key
 row_answered w (Ack key d count) = []
 
 -- the key of a step
 abbrev pub key_of : Step → List ℕ
 key_of (Issue node key context value) = key
-key_of (Hold holder home row) = row.key
-key_of (Release holder home key d) = key
-key_of (Fetch holder home key) = key
+key_of (Hold p row) = row.key
+key_of (Release p key d) = key
+key_of (Fetch p key) = key
 key_of (Ack key d count) = key
 
 -- the step is no ack
 abbrev pub IsNoAck : Step → Type 0
 IsNoAck (Issue node key context value) = Unit {0}
-IsNoAck (Hold holder home row) = Unit {0}
-IsNoAck (Release holder home key d) = Unit {0}
-IsNoAck (Fetch holder home key) = Unit {0}
+IsNoAck (Hold p row) = Unit {0}
+IsNoAck (Release p key d) = Unit {0}
+IsNoAck (Fetch p key) = Unit {0}
 IsNoAck (Ack key d count) = ⊥
 
 -- the step is a release at this place
 abbrev pub IsReleaseAt : ℕ → ℕ → List ℕ → Step → Type 0
-IsReleaseAt p o k (Issue node key context value) = ⊥
-IsReleaseAt p o k (Hold holder home row) = ⊥
-IsReleaseAt p o k (Release holder home key d) = (holder ≡ p) × (home ≡ o) × (key ≡ k)
-IsReleaseAt p o k (Fetch holder home key) = ⊥
-IsReleaseAt p o k (Ack key d count) = ⊥
+IsReleaseAt holder home key (Issue node k context value) = ⊥
+IsReleaseAt holder home key (Hold p row) = ⊥
+IsReleaseAt holder home key (Release p k d) = (p.holder ≡ holder) × (p.home ≡ home) × (k ≡ key)
+IsReleaseAt holder home key (Fetch p k) = ⊥
+IsReleaseAt holder home key (Ack k d count) = ⊥

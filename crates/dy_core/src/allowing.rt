@@ -37,16 +37,13 @@ impl World {
                 context,
                 ..
             } => Ok(self.may_issue(*node, key, context)),
-            Step::Hold { holder, home, row } => {
-                let yes = self.may_hold(alloc, *holder, *home, row)?;
+            Step::Hold { place, row } => {
+                let yes = self.may_hold(alloc, place.holder, place.home, row)?;
                 Ok(yes)
             }
-            Step::Release {
-                holder,
-                home,
-                key,
-                dot,
-            } => { Ok(self.may_release(*holder, *home, key, *dot)) }
+            Step::Release { place, key, dot } => {
+                Ok(self.may_release(place.holder, place.home, key, *dot))
+            }
             Step::Fetch { .. } => Ok(true),
             Step::Ack { key, dot, w } => {
                 let yes = self.may_ack(alloc, key, *dot, *w)?;
@@ -107,7 +104,8 @@ impl World {
     // Whether a cover of w places was found.
     fn may_ack(&self, alloc: Global, key: &Key, dot: Dot, w: u8) -> Result<bool, Fault>
         ensures ok { IfOk result (λ yes. IsTrue yes →
-            (1 ≤ w) × (w ≤ self.now.n) × HasCover (world_after self.now.steps) key.now dot w) }
+            (1 ≤ w) × (w ≤ self.now.n) × HasCover (layout_of self.now.ring self.now.n)
+            (world_after self.now.steps) key.now dot w) }
         ensures memory { IsOkUnless result Fault.OutOfMemory }
     {
         let count = self.count_covered(alloc, key, dot)?;
@@ -123,7 +121,8 @@ impl World {
     // How many places of a cover were found.
     fn count_covered(&self, alloc: Global, key: &Key, dot: Dot) -> Result<usize, Fault>
         ensures ok { IfOk result
-            (λ count. (n : ℕ) → n ≤ count → HasCover (world_after self.now.steps) key.now dot n) }
+            (λ count. (n : ℕ) → n ≤ count → HasCover (layout_of self.now.ring self.now.n)
+            (world_after self.now.steps) key.now dot n) }
         ensures memory { IsOkUnless result Fault.OutOfMemory }
     {
         let places = self.covers(alloc, key, dot)?;

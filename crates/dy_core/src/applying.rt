@@ -4,7 +4,9 @@ ghost use Rattle.dy_core.specs.Worlds.{Layout, layout_of};
 ghost use Rattle.dy_core.specs.Steps.{IsAllowed, row_answered, key_of};
 ghost use Rattle.dy_core.specs.Logs.{IsLegal, world_after, with_step};
 ghost use Rattle.dy_core.specs.inside.Meanings.{IsAfter};
+ghost use Rattle.dy_core.specs.declared.acks.Acked.{Acked as AckedParts};
 ghost use Rattle.dy_core.specs.declared.steps.Step.{Step as StepParts};
+ghost use Rattle.dy_siblings.specs.declared.versions.Version.{Version as VersionParts};
 
 use crate::acks::Acked;
 use crate::holdings::{self, Holding};
@@ -30,7 +32,8 @@ impl World {
         ensures memory { IsOkUnless result Fault.OutOfMemory }
     {
         self.steps.reserve(1)?;
-        let row = perform(
+        let row = answer(alloc, self.held.as_slice(), &step)?;
+        perform(
             alloc,
             &mut self.versions,
             &mut self.held,
@@ -42,6 +45,27 @@ impl World {
     }
 }
 
+// The row that the step answers where this is held: for a fetch a copy of that at its place, and
+// for another step the empty row of its key.
+fn answer(alloc: Global, held: &[Holding], step: &Step) -> Result<Row, Fault>
+    ensures row { IfOk result (λ row. (layout : Layout) (steps : List StepParts)
+        (versions : List VersionParts) (acked : List AckedParts) →
+        IsAfter layout steps versions held.now acked →
+        IsSameRow row.versions (row_answered (world_after steps) step.now)) }
+    ensures key { IfOk result (λ row. row.key ≡ key_of step.now) }
+    ensures memory { IsOkUnless result Fault.OutOfMemory }
+{
+    match step {
+        Step::Issue { key, .. } => Ok(Row::new(alloc, key.try_clone(alloc)?)),
+        Step::Hold { row, .. } => Ok(Row::new(alloc, row.key().try_clone(alloc)?)),
+        Step::Release { key, .. } => Ok(Row::new(alloc, key.try_clone(alloc)?)),
+        Step::Fetch { place, key } => {
+            holdings::copy_at(alloc, held, place.holder, place.home, key)
+        }
+        Step::Ack { key, .. } => Ok(Row::new(alloc, key.try_clone(alloc)?)),
+    }
+}
+
 // Makes the step in the lists of a world in which it is allowed.
 fn perform(
     alloc: Global,
@@ -49,7 +73,7 @@ fn perform(
     held: &mut Vec<Holding>,
     acked: &mut Vec<Acked>,
     step: &Step,
-) -> Result<Row, Fault>
+) -> Result<(), Fault>
     requires { (layout : Layout) × (steps : List StepParts)
         × IsAfter layout steps versions.old.items held.old.items acked.old.items
         × IsAllowed layout (world_after steps) step.now }
@@ -57,10 +81,6 @@ fn perform(
         IsAfter layout steps versions.old.items held.old.items acked.old.items →
         IsAllowed layout (world_after steps) step.now →
         IsAfter layout (steps ++ step.now ∷ []) versions.new.items held.new.items acked.new.items) }
-    ensures row { IfOk result (λ row. (layout : Layout) (steps : List StepParts) →
-        IsAfter layout steps versions.old.items held.old.items acked.old.items →
-        IsSameRow row.versions (row_answered (world_after steps) step.now)) }
-    ensures key { IfOk result (λ row. row.key ≡ key_of step.now) }
     ensures versions_stay { OnErr result (versions.new.items ≡ versions.old.items) }
     ensures held_stays { OnErr result (held.new.items ≡ held.old.items) }
     ensures acked_stays { OnErr result (acked.new.items ≡ acked.old.items) }
@@ -73,47 +93,24 @@ fn perform(
             context,
             value,
         } => {
-            let answer = Row::new(alloc, key.try_clone(alloc)?);
-            let version = issuing::next_version(
-                alloc,
-                versions.as_slice(),
-                *node,
-                key,
-                context,
-                value,
-            )?;
+            let list = versions.as_slice();
+            let version = issuing::next_version(alloc, list, *node, key, context, value)?;
             versions.push(version)?;
-            Ok(answer)
+            Ok(())
         }
-        Step::Hold { holder, home, row } => {
-            let answer = Row::new(alloc, row.key().try_clone(alloc)?);
-            holdings::hold(alloc, held, *holder, *home, row)?;
-            Ok(answer)
+        Step::Hold { place, row } => holdings::hold(alloc, held, place.holder, place.home, row),
+        Step::Release { place, key, dot } => {
+            holdings::release(alloc, held, place.holder, place.home, key, *dot)
         }
-        Step::Release {
-            holder,
-            home,
-            key,
-            dot,
-        } => {
-            let answer = Row::new(alloc, key.try_clone(alloc)?);
-            holdings::release(alloc, held, *holder, *home, key, *dot)?;
-            Ok(answer)
-        }
-        Step::Fetch { holder, home, key } => {
-            let answer = holdings::copy_at(alloc, held.as_slice(), *holder, *home, key)?;
-            Ok(answer)
-        }
+        Step::Fetch { .. } => Ok(()),
         Step::Ack { key, dot, w } => {
-            let answer = Row::new(alloc, key.try_clone(alloc)?);
             let key = key.try_clone(alloc)?;
             let ack = Acked {
                 key,
                 dot: *dot,
                 w: *w,
             };
-            lists::put(acked, ack)?;
-            Ok(answer)
+            lists::put(acked, ack)
         }
     }
 }

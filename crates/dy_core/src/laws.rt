@@ -73,20 +73,20 @@ pub fn receipts_last()
 {}
 
 /// Receipts of one key and dot that hold, with distinct homes and distinct holders, make a cover of
-/// as many places.
+/// as many places: their homes are homes of the key.
 pub fn receipts_make_a_cover()
     ensures { (layout : Layout) (steps : List Step) → IsLegal layout steps →
         (key : List ℕ) (d : Dot) (receipts : List Place) →
         All (λ p. ReceiptHolds (world_after steps) key d p.holder p.home) receipts →
         IsDistinct nat_eq (map (λ p. p.home) receipts) →
         IsDistinct nat_eq (map (λ p. p.holder) receipts) →
-        HasCover (world_after steps) key d (length receipts) }
+        HasCover layout (world_after steps) key d (length receipts) }
 {}
 
 /// Each ack keeps its cover, whatever steps come.
 pub fn acks_stay_covered()
     ensures { (layout : Layout) (steps : List Step) → IsLegal layout steps →
-        AcksAreCovered (world_after steps) }
+        AcksAreCovered layout (world_after steps) }
 {}
 
 /// Once a key is settled and a put of it was told of w homes, each later get of r homes themselves,
@@ -118,40 +118,42 @@ pub fn rows_merge_in_any_order()
 /// What a hold brings is covered at its place.
 pub fn holds_cover()
     ensures { (layout : Layout) (steps : List Step) → IsLegal layout steps →
-        (holder home : ℕ) (row : Siblings) →
-        IsAllowed layout (world_after steps) (Hold holder home row) →
+        (place : Place) (row : Siblings) →
+        IsAllowed layout (world_after steps) (Hold place row) →
         (v : Version) → Contains row.versions v →
-        CoversAt (world_after_step (world_after steps) (Hold holder home row))
-        row.key v.dot holder home }
+        CoversAt (world_after_step (world_after steps) (Hold place row))
+        row.key v.dot place.holder place.home }
 {}
 
 /// After a hold its place has the merge, and each other place has what it had.
 pub fn holds_merge()
     ensures place { (layout : Layout) (steps : List Step) → IsLegal layout steps →
-        (holder home : ℕ) (row : Siblings) →
-        IsAllowed layout (world_after steps) (Hold holder home row) →
+        (place : Place) (row : Siblings) →
+        IsAllowed layout (world_after steps) (Hold place row) →
         IsSameRow
-        (row_at (world_after_step (world_after steps) (Hold holder home row)) holder home row.key)
-        (merge (row_at (world_after steps) holder home row.key) row.versions) }
+        (row_at (world_after_step (world_after steps) (Hold place row))
+        place.holder place.home row.key)
+        (merge (row_at (world_after steps) place.holder place.home row.key) row.versions) }
     ensures others { (layout : Layout) (steps : List Step) → IsLegal layout steps →
-        (holder home : ℕ) (row : Siblings) →
-        IsAllowed layout (world_after steps) (Hold holder home row) →
-        (p o : ℕ) (k : List ℕ) → same_place holder home row.key p o k ≡ false →
-        IsSameRow (row_at (world_after_step (world_after steps) (Hold holder home row)) p o k)
+        (place : Place) (row : Siblings) →
+        IsAllowed layout (world_after steps) (Hold place row) →
+        (p o : ℕ) (k : List ℕ) → same_place place.holder place.home row.key p o k ≡ false →
+        IsSameRow (row_at (world_after_step (world_after steps) (Hold place row)) p o k)
         (row_at (world_after steps) p o k) }
 {}
 
 /// After a release its place has its row without the dot, and each other place has what it had.
 pub fn releases_drop()
     ensures place { (layout : Layout) (steps : List Step) → IsLegal layout steps →
-        (holder home : ℕ) (key : List ℕ) (d : Dot) →
+        (place : Place) (key : List ℕ) (d : Dot) →
         IsSameRow
-        (row_at (world_after_step (world_after steps) (Release holder home key d)) holder home key)
-        (without (row_at (world_after steps) holder home key) d) }
+        (row_at (world_after_step (world_after steps) (Release place key d))
+        place.holder place.home key)
+        (without (row_at (world_after steps) place.holder place.home key) d) }
     ensures others { (layout : Layout) (steps : List Step) → IsLegal layout steps →
-        (holder home : ℕ) (key : List ℕ) (d : Dot) →
-        (p o : ℕ) (k : List ℕ) → same_place holder home key p o k ≡ false →
-        IsSameRow (row_at (world_after_step (world_after steps) (Release holder home key d)) p o k)
+        (place : Place) (key : List ℕ) (d : Dot) →
+        (p o : ℕ) (k : List ℕ) → same_place place.holder place.home key p o k ≡ false →
+        IsSameRow (row_at (world_after_step (world_after steps) (Release place key d)) p o k)
         (row_at (world_after steps) p o k) }
 {}
 

@@ -17,6 +17,7 @@ mod worlds;
 pub use acks::Acked;
 pub use applying::run_steps;
 pub use holdings::Holding;
+pub use lists::{Ranked, put, put_reserved};
 pub use places::Place;
 pub use steps::Step;
 pub use worlds::World;

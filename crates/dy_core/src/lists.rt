@@ -1,5 +1,5 @@
 ghost use Rattle.std.specs.Prelude.{◌≡◌, ◌≢◌, ◌≤◌, ◌<◌, ◌++◌, length, take, drop, slice_index_or};
-ghost use Rattle.std.specs.Prelude.{OnOk, OnErr, IsOkUnless};
+ghost use Rattle.std.specs.Prelude.{vec_len, vec_capacity, OnOk, OnErr, IsOkUnless};
 ghost use Rattle.std.specs.declared.cmp.Ordering.{Ordering};
 ghost use Rattle.dy_core.specs.Orders.{put};
 
@@ -7,10 +7,11 @@ use dy_dots::Fault;
 use dy_siblings::Key;
 use std::cmp::Ordering;
 
-/// The order in which a world lists its items.
-pub(crate) trait Ranked {
+/// What is listed in an order.
+pub trait Ranked {
     ghost ranked: { Self → Self → Ordering };
 
+    /// How it compares with the other in this order. Takes no memory.
     fn rank(&self, other: &Self) -> Ordering
         ensures { result ≡ ranked self.now other.now };
 }
@@ -43,17 +44,28 @@ fn place_in<T: Ranked>(list: &[T], item: &T) -> usize
     at
 }
 
-/// Puts the item in its place, instead of one that ties with it.
-pub(crate) fn put<T: Ranked + Drop>(list: &mut Vec<T>, item: T) -> Result<(), Fault>
-    ensures ok { OnOk result (list.new.items ≡ put T.ranked list.old.items item) }
-    ensures err { OnErr result (list.new.items ≡ list.old.items) }
-    ensures memory { IsOkUnless result Fault.OutOfMemory }
+/// Puts the item in its place, instead of one that ties with it. There is room for it. Takes no
+/// memory.
+pub fn put_reserved<T: Ranked + Drop>(list: &mut Vec<T>, item: T)
+    requires { vec_len list.old < vec_capacity list.old }
+    ensures { list.new.items ≡ put T.ranked list.old.items item }
 {
     let at = place_in(list.as_slice(), &item);
     if at < list.len() && item.rank(&list[at]) == Ordering::Equal {
         list[at] = item;
     } else {
-        list.insert(at, item)?;
+        let inserted = list.insert(at, item);
+        prove!(inserted.is_ok());
     }
+}
+
+/// Puts the item in its place, instead of one that ties with it.
+pub fn put<T: Ranked + Drop>(list: &mut Vec<T>, item: T) -> Result<(), Fault>
+    ensures ok { OnOk result (list.new.items ≡ put T.ranked list.old.items item) }
+    ensures err { OnErr result (list.new.items ≡ list.old.items) }
+    ensures memory { IsOkUnless result Fault.OutOfMemory }
+{
+    list.reserve(1)?;
+    put_reserved(list, item);
     Ok(())
 }

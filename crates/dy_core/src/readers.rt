@@ -1,8 +1,9 @@
 ghost use Rattle.std.specs.Prelude.{◌≡◌, ◌↔◌, ◌<◌, length, IsTrue, IfOk, IsOkUnless, MatchOption};
 ghost use Rattle.std.specs.Prelude.{false};
-ghost use Rattle.std.specs.List.{Contains};
+ghost use Rattle.std.specs.List.{All, Contains};
 ghost use Rattle.dy_siblings.specs.Siblings.{IsSameRow};
 ghost use Rattle.dy_siblings.specs.declared.versions.Version.{Version as VersionParts};
+ghost use Rattle.dy_preference.specs.Preferences.{homes_of, is_home};
 ghost use Rattle.dy_core.specs.Worlds.{IsSettled, is_issued, row_at};
 ghost use Rattle.dy_core.specs.Covers.{covers_at};
 ghost use Rattle.dy_core.specs.Steps.{IsKnown};
@@ -70,10 +71,12 @@ impl World {
         }
     }
 
-    /// All places that cover the dot, by home and holder.
+    /// All places that cover the dot, by home and holder. Each is of a home of the key.
     pub fn covers(&self, alloc: Global, key: &Key, dot: Dot) -> Result<Vec<Place>, Fault>
         ensures ok { IfOk result
             (λ places. ListsCovers (world_after self.now.steps) key.now dot places.items) }
+        ensures homes { IfOk result (λ places. All (λ p. IsTrue
+            (is_home (homes_of self.now.ring self.now.n key.now) p.home)) places.items) }
         ensures memory { IsOkUnless result Fault.OutOfMemory }
     {
         let places = holdings::covering(alloc, self.held.as_slice(), key, dot)?;

@@ -1,3 +1,4 @@
+use crate::places::Place;
 use dy_dots::{Context, Dot, NodeId};
 use dy_siblings::{Key, Row, Value};
 
@@ -15,21 +16,18 @@ pub enum Step {
     },
     /// The holder merges the row into what it holds for the home (Dynamo, sections 4.4 and 4.6).
     Hold {
-        holder: NodeId,
-        home: NodeId,
+        place: Place,
         row: Row,
     },
     /// The holder gives up one dot of the hint that it keeps for the home (Dynamo, section 4.6).
     Release {
-        holder: NodeId,
-        home: NodeId,
+        place: Place,
         key: Key,
         dot: Dot,
     },
     /// The holder answers the row that it holds for the home (Dynamo, section 4.5).
     Fetch {
-        holder: NodeId,
-        home: NodeId,
+        place: Place,
         key: Key,
     },
     /// A put is told that w homes have its version (Dynamo, section 4.5).

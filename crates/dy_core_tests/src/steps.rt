@@ -27,6 +27,13 @@ pub(crate) fn dot(name: (u8, u32)) -> Result<Dot, Fail> {
     Ok(Dot::new(node(name.0)?, name.1).ok_or("a dot")?)
 }
 
+pub(crate) fn place(holder: u8, home: u8) -> Result<Place, Fail> {
+    Ok(Place {
+        holder: node(holder)?,
+        home: node(home)?,
+    })
+}
+
 pub(crate) fn key(alloc: Global, bytes: &[u8]) -> Result<Key, Fail> {
     Ok(Key::new(alloc, bytes)?)
 }
@@ -60,16 +67,14 @@ pub(crate) fn own_row(alloc: Global, world: &World, key: &Key, home: u8) -> Resu
 
 pub(crate) fn hold(holder: u8, home: u8, row: Row) -> Result<Step, Fail> {
     Ok(Step::Hold {
-        holder: node(holder)?,
-        home: node(home)?,
+        place: place(holder, home)?,
         row,
     })
 }
 
 pub(crate) fn release(key: Key, holder: u8, home: u8, name: (u8, u32)) -> Result<Step, Fail> {
     Ok(Step::Release {
-        holder: node(holder)?,
-        home: node(home)?,
+        place: place(holder, home)?,
         key,
         dot: dot(name)?,
     })
@@ -77,8 +82,7 @@ pub(crate) fn release(key: Key, holder: u8, home: u8, name: (u8, u32)) -> Result
 
 pub(crate) fn fetch(key: Key, holder: u8, home: u8) -> Result<Step, Fail> {
     Ok(Step::Fetch {
-        holder: node(holder)?,
-        home: node(home)?,
+        place: place(holder, home)?,
         key,
     })
 }

@@ -4,5 +4,5 @@ use Rattle.dy_core.proofs.Following.{hold_covers}
 use Rattle.dy_core.proofs.laws.holds_cover.Goals as goal
 
 pub returns : goal.returns
-returns c = λ layout steps legal holder home row allowed v h. hold_covers (world_after steps)
-    (log_sound layout steps legal).ordered holder home row allowed.1 v h
+returns c = λ layout steps legal p row allowed v h. hold_covers (world_after steps)
+    (log_sound layout steps legal).ordered p.holder p.home row allowed.1 v h

@@ -6,10 +6,10 @@ use Rattle.dy_core.proofs.laws.holds_merge.Goals as goal
 
 pub returns-clause-place : goal.returns-clause-place
 returns-clause-place c =
-    λ layout steps legal holder home row allowed. same_row_back _ _
-    (hold_row (world_after steps) (log_sound layout steps legal).ordered holder home row allowed.1)
+    λ layout steps legal place row allowed. same_row_back _ _
+    (hold_row (world_after steps) (log_sound layout steps legal).ordered place.holder place.home row allowed.1)
 
 pub returns-clause-others : goal.returns-clause-others
 returns-clause-others c =
-    λ layout steps legal holder home row allowed p o k apart. same_row_back _ _
-    (hold_elsewhere (world_after steps) holder home row p o k apart)
+    λ layout steps legal place row allowed p o k apart. same_row_back _ _
+    (hold_elsewhere (world_after steps) place.holder place.home row p o k apart)

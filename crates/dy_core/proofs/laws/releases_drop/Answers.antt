@@ -4,9 +4,9 @@ use Rattle.dy_core.proofs.laws.releases_drop.Goals as goal
 
 pub returns-clause-place : goal.returns-clause-place
 returns-clause-place c =
-    λ layout steps legal holder home key d. release_row (world_after steps) holder home key d
+    λ layout steps legal place key d. release_row (world_after steps) place.holder place.home key d
 
 pub returns-clause-others : goal.returns-clause-others
 returns-clause-others c =
-    λ layout steps legal holder home key d p o k apart. release_elsewhere
-    (world_after steps) holder home key d p o k apart
+    λ layout steps legal place key d p o k apart. release_elsewhere
+    (world_after steps) place.holder place.home key d p o k apart

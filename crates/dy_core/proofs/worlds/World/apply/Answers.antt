@@ -25,10 +25,12 @@ invariant_of-self-2 c =
       enough = c.self.invariant.enough;
       after =
           subst (λ steps. IsAfter (layout_of w.ring w.n) steps c.perform.new.versions.items c.perform.new.held.items c.perform.new.acked.items)
-          (sym steps_are) (c.in_ok-row.ensures.log _ _ c.self.invariant.after allowed);
+          (sym steps_are) (c.in_ok-perform.ensures.log _ _ c.self.invariant.after allowed);
     }
 
 pub returns-clause-row : goal.returns-clause-row
 returns-clause-row c =
     subst (λ log. IsSameRow c.in_ok-row.row.versions (row_answered (world_after log.steps) c.args.step)) c.self.view_is
-    (c.in_ok-row.ensures.row _ _ c.self.invariant.after)
+    (c.in_ok-row.ensures.row _ _ _ _
+    (subst (λ hs. IsAfter (layout_of c.self.inside.ring c.self.inside.n) c.self.inside.steps.items c.self.inside.versions.items hs c.self.inside.acked.items)
+    (sym c.as_slice.ensures.value) c.self.invariant.after))
