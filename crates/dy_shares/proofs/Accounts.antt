@@ -28,9 +28,9 @@ module _ (nodes : ℕ) (layout : Layout) where
 
   owned_on : (sessions : ℕ) (told : Option ℕ) (s : Step) → IsOwnedStep nodes sessions told s → IsOwnedStep nodes (sessions + 1) told s
   owned_on sessions told (Issue node key context value) o = o
-  owned_on sessions told (Hold holder home row) o = o
-  owned_on sessions told (Release holder home key d) o = o
-  owned_on sessions told (Fetch holder home key) o = o
+  owned_on sessions told (Hold p row) o = o
+  owned_on sessions told (Release p key d) o = o
+  owned_on sessions told (Fetch p key) o = o
   owned_on sessions told (Ack key d w) o = (o.0, o.1, omega (arith, o.2))
 
   module _ (steps : List Step) (sessions : ℕ) (log : List Entry) (roll : List (List Done)) (is : IsLedger nodes layout steps sessions log roll) where
@@ -79,7 +79,7 @@ module _ (nodes : ℕ) (layout : Layout) where
     pub session_belongs : (r : ℕ) (s : SessionPart) → AgreesAsSession nodes r roll log s → SessionBelongsTo log r s
     session_belongs r s a =
         let m = roll_means nodes log (nodes + sessions) roll (nodes + s.session) a.part is.roll_is a.seat_has in
-        record { acks_are = a.acks_are ∙ (ap done_acks m.1 ∙ place_of_session nodes sessions s.session log is.owned); gets_match = a.gets_match; gets_later = a.gets_later }
+        record { acks_are = a.acks_are ∙ (ap done_acks m.1 ∙ place_of_session nodes sessions s.session log is.owned); spent_are = a.spent_are; gets_match = a.gets_match; in_turn = a.in_turn }
 
     pub all_are : (r : ℕ) (parts : List NodePart) (tellings : List SessionPart) → All (λ p. p.node < nodes) parts → All (AgreesAsNode roll) parts → All (AgreesAsSession nodes r roll log) tellings
         → ((node : ℕ) → node < nodes → HasNode node parts) → ((session : ℕ) → session < sessions → HasSession session tellings)

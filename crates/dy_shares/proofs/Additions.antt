@@ -27,9 +27,9 @@ some_is a b e = cc e
 
 owned_step : (nodes sessions node : ℕ) (s : Step) → node < nodes → node_of s ≡ Some node → IsOwnedStep nodes sessions None s
 owned_step nodes sessions node (Issue n key context value) low is = (refl, subst (λ k. k < nodes) (sym (some_is n node is)) low)
-owned_step nodes sessions node (Hold n home row) low is = (refl, subst (λ k. k < nodes) (sym (some_is n node is)) low)
-owned_step nodes sessions node (Release n home key d) low is = (refl, subst (λ k. k < nodes) (sym (some_is n node is)) low)
-owned_step nodes sessions node (Fetch holder home key) low is = refl
+owned_step nodes sessions node (Hold p row) low is = (refl, subst (λ k. k < nodes) (sym (some_is p.holder node is)) low)
+owned_step nodes sessions node (Release p key d) low is = (refl, subst (λ k. k < nodes) (sym (some_is p.holder node is)) low)
+owned_step nodes sessions node (Fetch p key) low is = refl
 owned_step nodes sessions node (Ack key d w) low is = absurd (cc is)
 
 pub node_owned : (nodes sessions node : ℕ) (ss : List Step) → node < nodes → All (λ s. node_of s ≡ Some node) ss → AreOwned nodes sessions (entries_of None ss)
@@ -40,9 +40,9 @@ node_owned nodes sessions node ss low all =
 -- a fetch is nobody's
 fetch_is_nobodys : (s : Step) → IsFetch s → node_of s ≡ None
 fetch_is_nobodys (Issue n key context value) is = absurd is
-fetch_is_nobodys (Hold n home row) is = absurd is
-fetch_is_nobodys (Release n home key d) is = absurd is
-fetch_is_nobodys (Fetch holder home key) is = refl
+fetch_is_nobodys (Hold p row) is = absurd is
+fetch_is_nobodys (Release p key d) is = absurd is
+fetch_is_nobodys (Fetch p key) is = refl
 fetch_is_nobodys (Ack key d w) is = absurd is
 
 pub fetch_seat : (nodes : ℕ) (s : Step) → IsFetch s → AreOf nodes None (entries_of None (s ∷ []))
@@ -50,9 +50,9 @@ fetch_seat nodes s is = alone (λ e. seat_of nodes e ≡ None) (untold s) (fetch
 
 fetch_is_owned : (nodes sessions : ℕ) (s : Step) → IsFetch s → IsOwnedStep nodes sessions None s
 fetch_is_owned nodes sessions (Issue n key context value) is = absurd is
-fetch_is_owned nodes sessions (Hold n home row) is = absurd is
-fetch_is_owned nodes sessions (Release n home key d) is = absurd is
-fetch_is_owned nodes sessions (Fetch holder home key) is = refl
+fetch_is_owned nodes sessions (Hold p row) is = absurd is
+fetch_is_owned nodes sessions (Release p key d) is = absurd is
+fetch_is_owned nodes sessions (Fetch p key) is = refl
 fetch_is_owned nodes sessions (Ack key d w) is = absurd is
 
 pub fetch_owned : (nodes sessions : ℕ) (s : Step) → IsFetch s → AreOwned nodes sessions (entries_of None (s ∷ []))
@@ -60,9 +60,9 @@ fetch_owned nodes sessions s is = alone (λ e. IsOwnedStep nodes sessions e.told
 
 fetch_is_allowed : (layout : Layout) (w : World) (s : Step) → IsFetch s → IsAllowed layout w s
 fetch_is_allowed layout w (Issue n key context value) is = absurd is
-fetch_is_allowed layout w (Hold n home row) is = absurd is
-fetch_is_allowed layout w (Release n home key d) is = absurd is
-fetch_is_allowed layout w (Fetch holder home key) is = tt
+fetch_is_allowed layout w (Hold p row) is = absurd is
+fetch_is_allowed layout w (Release p key d) is = absurd is
+fetch_is_allowed layout w (Fetch p key) is = tt
 fetch_is_allowed layout w (Ack key d n) is = absurd is
 
 pub fetch_allowed : (layout : Layout) (w : World) (s : Step) → IsFetch s → IsLegalFrom layout w (s ∷ [])

@@ -1,5 +1,5 @@
 -- What was true of a log stays true of a longer one.
-use Rattle.std.proofs.Common.{◌≡◌, ℕ, zero, suc, ◌-◌, ◌+◌, ◌<◌, List, [], ◌∷◌, ◌++◌, Some, length, slice_get, take, get_or, sym, ap, ◌∙◌, subst, ⊎_elim, arith}
+use Rattle.std.proofs.Common.{◌≡◌, ℕ, zero, suc, ◌-◌, ◌+◌, ◌<◌, List, [], ◌∷◌, ◌++◌, Some, length, length-append, slice_get, take, get_or, sym, ap, ◌∙◌, subst, ⊎_elim, arith}
 use Rattle.std.specs.List.{All, Contains}
 use Rattle.std.proofs.lemmas.List.{take-append-le, take_more}
 use Rattle.std.proofs.lemmas.List.Elements.{All-contains, All-weaker, Contains-append_cases}
@@ -8,13 +8,14 @@ use Rattle.dy_core.proofs.Keeping.{all_from}
 use Rattle.std.proofs.lemmas.Option.{slice_get_within}
 use mathlib.Core.List.{IsPrefix}
 use Rattle.dy_core.specs.Worlds.{Layout, row_at}
+use Rattle.dy_core.specs.Steps.{place_for}
 use Rattle.dy_core.specs.Logs.{world_after, IsLegal, Answer, IsAnswer}
 use Rattle.dy_core.specs.declared.steps.Step.{Step}
 use Rattle.dy_core.specs.declared.steps.Step.TheVariants.{Fetch}
 use Rattle.dy_siblings.specs.Siblings.{IsSameRow}
 use Rattle.dy_core.proofs.OverLogs.{receipt_stays}
 use Rattle.dy_shares.specs.declared.entries.Entry.{Entry}
-use Rattle.dy_shares.specs.Shares.{steps_of, ReceiptParts, IsReceipt, GetTold, GetMatches}
+use Rattle.dy_shares.specs.Shares.{steps_of, ReceiptParts, IsReceipt, AckTold, GetTold, GetMatches, AreSpentFor, AreSpent}
 use Rattle.dy_shares.proofs.Owners.{steps_of-append}
 
 got_stays : {X : Type 0} (xs ys : List X) (k : ℕ) (x : X) → slice_get xs k ≡ Some x → slice_get (xs ++ ys) k ≡ Some x
@@ -35,11 +36,11 @@ receipt_later layout front log r legal p holds =
 
 answer_on : (ss more : List Step) (a : Answer) → IsAnswer ss a → IsAnswer (ss ++ more) a
 answer_on ss more a is =
-    let within = slice_get_within ss (a.at - 1) (Fetch a.holder a.home a.key) is.is_fetch in
+    let within = slice_get_within ss (a.at - 1) (Fetch (place_for a.holder a.home) a.key) is.is_fetch in
     let before : take (a.at - 1) (ss ++ more) ≡ take (a.at - 1) ss = take-append-le (a.at - 1) ss more (omega (arith, within)) in
     record {
       from_one = is.from_one;
-      is_fetch = got_stays ss more (a.at - 1) (Fetch a.holder a.home a.key) is.is_fetch;
+      is_fetch = got_stays ss more (a.at - 1) (Fetch (place_for a.holder a.home) a.key) is.is_fetch;
       is_row = subst (λ xs. IsSameRow a.row (row_at (world_after xs) a.holder a.home a.key)) (sym before) is.is_row;
     }
 
@@ -62,6 +63,25 @@ get_later front log r g p is = (
 
 pub gets_later : (front log : List Entry) (r : ℕ) (gs : List GetTold) → IsPrefix front log → All (GetMatches (steps_of front) r) gs → All (GetMatches (steps_of log) r) gs
 gets_later front log r gs p all = All-weaker (GetMatches (steps_of front) r) (GetMatches (steps_of log) r) (λ g. get_later front log r g p) gs all
+
+-- what was spent for an ack is so at a longer log
+spent_on : (ss more : List Step) (t : AckTold) (receipts : List ReceiptParts) → AreSpentFor ss t receipts → AreSpentFor (ss ++ more) t receipts
+spent_on ss more t receipts is =
+    let before : take (t.at - 1) (ss ++ more) ≡ take (t.at - 1) ss = take-append-le (t.at - 1) ss more (omega (arith, is.reached)) in
+    record {
+      make = is.make;
+      reached = omega (arith, is.reached, length-append ss more);
+      hold = subst (λ xs. All (IsReceipt xs) receipts) (sym before) is.hold;
+    }
+
+spents_on : (ss more : List Step) (acks : List AckTold) (spent : List (List ReceiptParts)) → AreSpent ss acks spent → AreSpent (ss ++ more) acks spent
+spents_on ss more [] [] all = tt
+spents_on ss more [] (rs ∷ spent) all = absurd all
+spents_on ss more (t ∷ acks) [] all = absurd all
+spents_on ss more (t ∷ acks) (rs ∷ spent) all = (spent_on ss more t rs all.0, spents_on ss more acks spent all.1)
+
+pub spents_later : (front log : List Entry) (acks : List AckTold) (spent : List (List ReceiptParts)) → IsPrefix front log → AreSpent (steps_of front) acks spent → AreSpent (steps_of log) acks spent
+spents_later front log acks spent p all = subst (λ ss. AreSpent ss acks spent) (steps_begin front log p) (spents_on (steps_of front) (steps_of p.0) acks spent all)
 
 -- one more
 pub all_more : {X : Type 0} (P : X → Type 0) (xs : List X) (i : ℕ) (x : X) → i < length xs → x ≡ get_or xs i x → All P (take i xs) → P x → All P (take (i + 1) xs)

@@ -7,6 +7,7 @@ pub mod Showing
 pub mod Later
 pub mod Additions
 pub mod Accounts
+pub mod Sent
 pub mod Sessions
 pub mod Scenes
 pub mod Whole

@@ -31,9 +31,9 @@ shift_test m j k = by_test (m + j == m + k) (j == k) refl refl
 -- a node's seat has the steps that are the node's own
 seat_is_node : (nodes sessions k : ℕ) (told : Option ℕ) (s : Step) → k < nodes → IsOwnedStep nodes sessions told s → names k (seat_by nodes told s) ≡ names k (node_of s)
 seat_is_node nodes sessions k told (Issue node key context value) low o = ap (λ t. names k (seat_by nodes t (Issue node key context value))) o.0
-seat_is_node nodes sessions k told (Hold holder home row) low o = ap (λ t. names k (seat_by nodes t (Hold holder home row))) o.0
-seat_is_node nodes sessions k told (Release holder home key d) low o = ap (λ t. names k (seat_by nodes t (Release holder home key d))) o.0
-seat_is_node nodes sessions k told (Fetch holder home key) low o = ap (λ t. names k (seat_by nodes t (Fetch holder home key))) o
+seat_is_node nodes sessions k told (Hold p row) low o = ap (λ t. names k (seat_by nodes t (Hold p row))) o.0
+seat_is_node nodes sessions k told (Release p key d) low o = ap (λ t. names k (seat_by nodes t (Release p key d))) o.0
+seat_is_node nodes sessions k told (Fetch p key) low o = ap (λ t. names k (seat_by nodes t (Fetch p key))) o
 seat_is_node nodes sessions k told (Ack key d w) low o =
     ap (λ t. names k (seat_by nodes t (Ack key d w))) o.1 ∙ apart_test (nodes + o.0) k (λ is. omega (arith, is, low))
 
@@ -41,12 +41,12 @@ seat_is_node nodes sessions k told (Ack key d w) low o =
 seat_is_session : (nodes sessions j : ℕ) (told : Option ℕ) (s : Step) → IsOwnedStep nodes sessions told s → names (nodes + j) (seat_by nodes told s) ≡ names j told
 seat_is_session nodes sessions j told (Issue node key context value) o =
     ap (λ t. names (nodes + j) (seat_by nodes t (Issue node key context value))) o.0 ∙ (apart_test node (nodes + j) (λ is. omega (arith, is, o.1)) ∙ sym (names_none j told o.0))
-seat_is_session nodes sessions j told (Hold holder home row) o =
-    ap (λ t. names (nodes + j) (seat_by nodes t (Hold holder home row))) o.0 ∙ (apart_test holder (nodes + j) (λ is. omega (arith, is, o.1)) ∙ sym (names_none j told o.0))
-seat_is_session nodes sessions j told (Release holder home key d) o =
-    ap (λ t. names (nodes + j) (seat_by nodes t (Release holder home key d))) o.0 ∙ (apart_test holder (nodes + j) (λ is. omega (arith, is, o.1)) ∙ sym (names_none j told o.0))
-seat_is_session nodes sessions j told (Fetch holder home key) o =
-    ap (λ t. names (nodes + j) (seat_by nodes t (Fetch holder home key))) o ∙ sym (names_none j told o)
+seat_is_session nodes sessions j told (Hold p row) o =
+    ap (λ t. names (nodes + j) (seat_by nodes t (Hold p row))) o.0 ∙ (apart_test p.holder (nodes + j) (λ is. omega (arith, is, o.1)) ∙ sym (names_none j told o.0))
+seat_is_session nodes sessions j told (Release p key d) o =
+    ap (λ t. names (nodes + j) (seat_by nodes t (Release p key d))) o.0 ∙ (apart_test p.holder (nodes + j) (λ is. omega (arith, is, o.1)) ∙ sym (names_none j told o.0))
+seat_is_session nodes sessions j told (Fetch p key) o =
+    ap (λ t. names (nodes + j) (seat_by nodes t (Fetch p key))) o ∙ sym (names_none j told o)
 seat_is_session nodes sessions j told (Ack key d w) o =
     ap (λ t. names (nodes + j) (seat_by nodes t (Ack key d w))) o.1 ∙ (shift_test nodes o.0 j ∙ ap (names j) (sym o.1))
 

@@ -5,6 +5,7 @@ use Rattle.std.proofs.lemmas.List.{take-append-le}
 use Rattle.dy_siblings.specs.Siblings.{IsSameRow}
 use Rattle.dy_siblings.specs.declared.versions.Version.{Version}
 use Rattle.dy_core.specs.Worlds.{row_at}
+use Rattle.dy_core.specs.Steps.{place_for}
 use Rattle.dy_core.specs.Logs.{world_after, IsAnswer}
 use Rattle.dy_core.specs.declared.steps.Step.TheVariants.{Fetch}
 use Rattle.dy_shares.specs.declared.entries.Entry.{Entry}
@@ -25,10 +26,10 @@ taken_all (x ∷ xs) = ap (λ ys. x ∷ ys) (taken_all xs)
 
 -- the answer to a fetch is the row that is held there, and the fetch is the last step
 pub answers_last : (log : List Entry) (holder home : ℕ) (key : List ℕ) (row : List Version) → IsSameRow row (row_at (world_after (steps_of log)) holder home key)
-    → IsAnswer (steps_of (log ++ untold (Fetch holder home key) ∷ [])) (record { at = length log + 1; holder = holder; home = home; key = key; row = row })
+    → IsAnswer (steps_of (log ++ untold (Fetch (place_for holder home) key) ∷ [])) (record { at = length log + 1; holder = holder; home = home; key = key; row = row })
 answers_last log holder home key row is =
     let ss = steps_of log in
-    let f = Fetch holder home key in
+    let f = Fetch (place_for holder home) key in
     let all : steps_of (log ++ untold f ∷ []) ≡ ss ++ f ∷ [] = steps_of-append log (untold f ∷ []) in
     let number : length log + 1 - 1 ≡ length ss = omega (arith, steps_of-length log) in
     let before : take (length log + 1 - 1) (ss ++ f ∷ []) ≡ ss = ap (λ n. take n (ss ++ f ∷ [])) number ∙ (take-append-le (length ss) ss (f ∷ []) (omega arith) ∙ taken_all ss) in

@@ -1,7 +1,7 @@
 -- What a session is told, and its since.
-use Rattle.std.proofs.Common.{◌⊎◌, inl, inr, ◌≡◌, ℕ, ◌+◌, ◌<◌, ◌≤◌, max, List, [], ◌∷◌, ◌++◌, length, map, take, slice_index_or, sym, ap, ◌∙◌, subst, arith, nat_eq}
+use Rattle.std.proofs.Common.{◌≡◌, ℕ, suc, ◌+◌, ◌-◌, ◌<◌, ◌≤◌, max, List, [], ◌∷◌, ◌++◌, length, length-append, map, take, drop, slice_index_or, refl, sym, ap, ◌∙◌, subst, arith, nat_eq}
 use Rattle.std.specs.List.{All, IsDistinct}
-use Rattle.std.proofs.lemmas.List.{append-nil, append_assoc, get_or_default, map-append, take_more}
+use Rattle.std.proofs.lemmas.List.{append-nil, append_assoc, drop-append-le, drop_all, get_or_default, map-append, take-append-le, take_all, take_more}
 use Rattle.std.proofs.lemmas.List.Elements.{All-append, All-cons, All-nil}
 use mathlib.Core.List.{IsPrefix}
 use mathlib.Core.Logic.{dite}
@@ -10,9 +10,10 @@ use Rattle.dy_core.specs.Logs.{Answer, IsAnswer}
 use Rattle.dy_core.specs.declared.steps.Step.{Step}
 use Rattle.dy_core.specs.declared.steps.Step.TheVariants.{Issue, Hold, Release, Fetch, Ack}
 use Rattle.dy_shares.specs.declared.entries.Entry.{Entry}
-use Rattle.dy_shares.specs.Shares.{steps_of, greatest, answer_numbers, since_of, ack_at, AckTold, GetTold, SessionPart, GetMatches, IsLater, AreLater, IsAck, with_get, with_ack}
+use Rattle.dy_shares.specs.Shares.{steps_of, greatest, answer_numbers, latest_of, since_of, ack_at, AckTold, GetTold, ReceiptParts, SessionPart, GetMatches, IsInTurn, AreInTurn, IsAck, IsAckBy, IsReceipt, AreSpentFor, AreSpent, with_get, with_ack}
 use Rattle.dy_shares.specs.inside.Parts.{IsSessionShare}
-use Rattle.dy_shares.proofs.Later.{answer_later, gets_later}
+use Rattle.dy_shares.proofs.Later.{answer_later, gets_later, spents_later}
+use Rattle.dy_shares.proofs.Owners.{steps_of-append, steps_of-length}
 
 pub greatest-append : (xs ys : List ℕ) → greatest (xs ++ ys) ≡ max (greatest xs) (greatest ys)
 greatest-append [] ys = omega arith
@@ -24,72 +25,124 @@ numbers-append (g ∷ gs) hs =
     let own = map (λ a. a.at) g.answers in
     omega (arith, numbers-append gs hs, greatest-append own (answer_numbers (gs ++ hs)), greatest-append own (answer_numbers gs))
 
-numbers_one : (since : ℕ) (answers : List Answer) → greatest (answer_numbers (record { since = since; answers = answers } ∷ [])) ≡ greatest (map (λ a. a.at) answers)
-numbers_one since answers = ap greatest (append-nil (map (λ a. a.at) answers))
+numbers_one : (g : GetTold) → greatest (answer_numbers (g ∷ [])) ≡ greatest (map (λ a. a.at) g.answers)
+numbers_one g = ap greatest (append-nil (map (λ a. a.at) g.answers))
 
 ack_number : (at : ℕ) (s : Step) → IsAck s → greatest (map (λ a. a.at) (ack_at at s)) ≡ at
 ack_number at (Issue n key context value) is = absurd is
-ack_number at (Hold n home row) is = absurd is
-ack_number at (Release n home key d) is = absurd is
-ack_number at (Fetch holder home key) is = absurd is
+ack_number at (Hold p row) is = absurd is
+ack_number at (Release p key d) is = absurd is
+ack_number at (Fetch p key) is = absurd is
 ack_number at (Ack key d w) is = omega arith
 
 -- the since after an ack, and after a get
-since_ack : (s : SessionPart) (at : ℕ) (step : Step) → IsAck step → since_of (with_ack s at step) ≡ max (since_of s) at
-since_ack s at step is =
+since_ack : (s : SessionPart) (at : ℕ) (step : Step) (receipts : List ReceiptParts) → IsAck step → since_of (with_ack s at step receipts) ≡ max (since_of s) at
+since_ack s at step receipts is =
     let both = ap greatest (map-append (λ (a : AckTold). a.at) s.acks (ack_at at step)) ∙ greatest-append (map (λ a. a.at) s.acks) (map (λ a. a.at) (ack_at at step)) in
     omega (arith, both, ack_number at step is)
 
 since_get : (s : SessionPart) (since : ℕ) (answers : List Answer) → since_of (with_get s since answers) ≡ max (since_of s) (greatest (map (λ a. a.at) answers))
 since_get s since answers =
-    omega (arith, numbers-append s.gets (record { since = since; answers = answers } ∷ []), numbers_one since answers)
+    let g : GetTold = record { since = since; answers = answers; acks = length s.acks } in
+    omega (arith, numbers-append s.gets (g ∷ []), numbers_one g)
 
--- one get more, which is later than all
-later_push : (acks : List AckTold) (before gs : List GetTold) (g : GetTold) → AreLater acks before gs → IsLater acks (before ++ gs) g → AreLater acks before (gs ++ g ∷ [])
-later_push acks before [] g all is = (subst (λ b. IsLater acks b g) (append-nil before) is, tt)
-later_push acks before (h ∷ gs) g all is =
-    (all.0, later_push acks (before ++ h ∷ []) gs g all.1 (subst (λ b. IsLater acks b g) (sym (append_assoc before (h ∷ []) gs)) is))
+-- one get more, which stands where it was told
+turn_push : (acks : List AckTold) (before gs : List GetTold) (g : GetTold) → AreInTurn acks before gs → IsInTurn acks (before ++ gs) g → AreInTurn acks before (gs ++ g ∷ [])
+turn_push acks before [] g all is = (subst (λ b. IsInTurn acks b g) (append-nil before) is, tt)
+turn_push acks before (h ∷ gs) g all is =
+    (all.0, turn_push acks (before ++ h ∷ []) gs g all.1 (subst (λ b. IsInTurn acks b g) (sym (append_assoc before (h ∷ []) gs)) is))
+
+-- each get is behind no more acks than there are
+turns_behind : (acks : List AckTold) (before gs : List GetTold) → AreInTurn acks before gs → All (λ b. b.acks ≤ length acks) gs
+turns_behind acks before [] all = All-nil (λ b. b.acks ≤ length acks)
+turns_behind acks before (g ∷ gs) all = All-cons (λ b. b.acks ≤ length acks) g gs all.0.behind_acks (turns_behind acks (before ++ g ∷ []) gs all.1)
 
 all_below : (xs : List Answer) (n : ℕ) → greatest (map (λ x. x.at) xs) < n → All (λ x. x.at < n) xs
 all_below [] n low = All-nil (λ x. x.at < n)
 all_below (x ∷ xs) n low = All-cons (λ x. x.at < n) x xs (omega (arith, low)) (all_below xs n (omega (arith, low)))
 
 -- one ack more, which is later than all gets
-later_ack : (acks : List AckTold) (a : AckTold) (before gs : List GetTold) → greatest (answer_numbers gs) < a.at → AreLater acks before gs → AreLater (acks ++ a ∷ []) before gs
-later_ack acks a before [] low all = tt
-later_ack acks a before (g ∷ gs) low all =
+turn_ack : (acks : List AckTold) (a : AckTold) (before gs : List GetTold) → greatest (answer_numbers gs) < a.at → AreInTurn acks before gs → AreInTurn (acks ++ a ∷ []) before gs
+turn_ack acks a before [] low all = tt
+turn_ack acks a before (g ∷ gs) low all =
     let both = greatest-append (map (λ x. x.at) g.answers) (answer_numbers gs) in
-    let P : AckTold → Type 0 = λ b. (b.at ≤ g.since) ⊎ All (λ x. x.at < b.at) g.answers in (
+    let P : AckTold → Type 0 = λ b. All (λ x. x.at < b.at) g.answers in
+    let is = all.0 in (
       record {
-        than_gets = all.0.than_gets;
-        than_acks = All-append P acks (a ∷ []) all.0.than_acks (All-cons P a [] (inr (all_below g.answers a.at (omega (arith, low, both)))) (All-nil P));
+        behind_acks = omega (arith, is.behind_acks, length-append acks (a ∷ []));
+        behind_gets = is.behind_gets;
+        since_is = is.since_is ∙ ap (λ xs. latest_of xs before) (sym (take-append-le g.acks acks (a ∷ []) is.behind_acks));
+        acks_after = subst (All P) (sym (drop-append-le g.acks acks (a ∷ []) is.behind_acks))
+            (All-append P (drop g.acks acks) (a ∷ []) is.acks_after (All-cons P a [] (all_below g.answers a.at (omega (arith, low, both))) (All-nil P)));
       },
-      later_ack acks a (before ++ g ∷ []) gs (omega (arith, low, both)) all.1,
+      turn_ack acks a (before ++ g ∷ []) gs (omega (arith, low, both)) all.1,
     )
 
-later_step : (acks : List AckTold) (gs : List GetTold) (at : ℕ) (s : Step) → IsAck s → greatest (answer_numbers gs) < at → AreLater acks [] gs → AreLater (acks ++ ack_at at s) [] gs
-later_step acks gs at (Issue n key context value) is low all = absurd is
-later_step acks gs at (Hold n home row) is low all = absurd is
-later_step acks gs at (Release n home key d) is low all = absurd is
-later_step acks gs at (Fetch holder home key) is low all = absurd is
-later_step acks gs at (Ack key d w) is low all = later_ack acks (record { at = at; key = key; dot = d; w = w }) [] gs low all
+turn_step : (acks : List AckTold) (gs : List GetTold) (at : ℕ) (s : Step) → IsAck s → greatest (answer_numbers gs) < at → AreInTurn acks [] gs → AreInTurn (acks ++ ack_at at s) [] gs
+turn_step acks gs at (Issue n key context value) is low all = absurd is
+turn_step acks gs at (Hold p row) is low all = absurd is
+turn_step acks gs at (Release p key d) is low all = absurd is
+turn_step acks gs at (Fetch p key) is low all = absurd is
+turn_step acks gs at (Ack key d w) is low all = turn_ack acks (record { at = at; key = key; dot = d; w = w }) [] gs low all
 
-acks_within : (acks : List AckTold) (answers : List Answer) (n : ℕ) → greatest (map (λ a. a.at) acks) ≤ n → All (λ a. (a.at ≤ n) ⊎ All (λ x. x.at < a.at) answers) acks
-acks_within [] answers n low = All-nil (λ a. (a.at ≤ n) ⊎ All (λ x. x.at < a.at) answers)
-acks_within (a ∷ acks) answers n low =
-    All-cons (λ a. (a.at ≤ n) ⊎ All (λ x. x.at < a.at) answers) a acks (inl (omega (arith, low))) (acks_within acks answers n (omega (arith, low)))
+-- what receipts make is an ack
+pub made_ack : (receipts : List ReceiptParts) (s : Step) → IsAckBy receipts s → IsAck s
+made_ack receipts (Issue n key context value) is = absurd is
+made_ack receipts (Hold p row) is = absurd is
+made_ack receipts (Release p key d) is = absurd is
+made_ack receipts (Fetch p key) is = absurd is
+made_ack receipts (Ack key d w) is = tt
+
+-- receipts for one ack more
+spent_push : (steps : List Step) (acks : List AckTold) (spent : List (List ReceiptParts)) (t : AckTold) (receipts : List ReceiptParts) → AreSpent steps acks spent → AreSpentFor steps t receipts
+    → AreSpent steps (acks ++ t ∷ []) (spent ++ receipts ∷ [])
+spent_push steps [] [] t receipts all is = (is, tt)
+spent_push steps [] (rs ∷ spent) t receipts all is = absurd all
+spent_push steps (a ∷ acks) [] t receipts all is = absurd all
+spent_push steps (a ∷ acks) (rs ∷ spent) t receipts all is = (all.0, spent_push steps acks spent t receipts all.1 is)
+
+spent_step : (log rest : List Step) (acks : List AckTold) (spent : List (List ReceiptParts)) (s : Step) (receipts : List ReceiptParts) → IsAckBy receipts s → 0 < length rest
+    → All (IsReceipt log) receipts → AreSpent (log ++ rest) acks spent → AreSpent (log ++ rest) (acks ++ ack_at (length log + 1) s) (spent ++ receipts ∷ [])
+spent_step log rest acks spent (Issue n key context value) receipts is some hold all = absurd is
+spent_step log rest acks spent (Hold p row) receipts is some hold all = absurd is
+spent_step log rest acks spent (Release p key d) receipts is some hold all = absurd is
+spent_step log rest acks spent (Fetch p key) receipts is some hold all = absurd is
+spent_step log rest acks spent (Ack key d w) receipts is some hold all =
+    let t : AckTold = record { at = length log + 1; key = key; dot = d; w = w } in
+    let before : take (t.at - 1) (log ++ rest) ≡ log =
+    ap (λ k. take k (log ++ rest)) (omega arith) ∙ (take-append-le (length log) log rest (omega arith) ∙ take_all (length log) log (omega arith)) in
+    spent_push (log ++ rest) acks spent t receipts all (record {
+      make = is;
+      reached = omega (arith, some, length-append log rest);
+      hold = subst (λ ss. All (IsReceipt ss) receipts) (sym before) hold;
+    })
+
+-- for each ack something was spent
+pub spent_each : (steps : List Step) (acks : List AckTold) (spent : List (List ReceiptParts)) → AreSpent steps acks spent → length spent ≡ length acks
+spent_each steps [] [] all = refl
+spent_each steps [] (rs ∷ spent) all = absurd all
+spent_each steps (a ∷ acks) [] all = absurd all
+spent_each steps (a ∷ acks) (rs ∷ spent) all = ap suc (spent_each steps acks spent all.1)
 
 -- a session's share that is told an ack, or a get
-pub session_acked : (nodes r index since since_new at : ℕ) (front front_new : List Entry) (s : SessionPart) (step : Step) → IsSessionShare nodes r index since front s → IsAck step
-    → since_new ≡ max since at → IsPrefix front front_new → since ≤ length front_new → at ≤ length front_new → since < at
-    → IsSessionShare nodes r index since_new front_new (with_ack s at step)
-session_acked nodes r index since since_new at front front_new s step is ack new p reached within after =
+pub session_acked : (nodes r index since since_new : ℕ) (front log rest : List Entry) (s : SessionPart) (step : Step) (receipts : List ReceiptParts) → IsSessionShare nodes r index since front s → IsAckBy receipts step
+    → since_new ≡ max since (length log + 1) → IsPrefix front (log ++ rest) → 0 < length rest → since ≤ length log → All (IsReceipt (steps_of log)) receipts
+    → IsSessionShare nodes r index since_new (log ++ rest) (with_ack s (length log + 1) step receipts)
+session_acked nodes r index since since_new front log rest s step receipts is by new p some before hold =
+    let ack = made_ack receipts step by in
+    let at : ℕ = length log + 1 in
+    let joined = steps_of-append log rest in
+    let count = steps_of-length log in
     record {
       seat_is = is.seat_is;
-      since_is = new ∙ (ap (λ n. max n at) is.since_is ∙ sym (since_ack s at step ack));
-      reached = omega (arith, new, reached, within);
-      gets_match = gets_later front front_new r s.gets p is.gets_match;
-      gets_later = later_step s.acks s.gets at step ack (omega (arith, after, is.since_is)) is.gets_later;
+      since_is = new ∙ (ap (λ n. max n at) is.since_is ∙ sym (since_ack s at step receipts ack));
+      reached = omega (arith, new, before, some, length-append log rest);
+      spent_are = subst (λ ss. AreSpent ss (s.acks ++ ack_at at step) (s.spent ++ receipts ∷ [])) (sym joined)
+          (subst (λ n. AreSpent (steps_of log ++ steps_of rest) (s.acks ++ ack_at (n + 1) step) (s.spent ++ receipts ∷ [])) count
+          (spent_step (steps_of log) (steps_of rest) s.acks s.spent step receipts by (omega (arith, some, steps_of-length rest)) hold
+          (subst (λ ss. AreSpent ss s.acks s.spent) joined (spents_later front (log ++ rest) s.acks s.spent p is.spent_are))));
+      gets_match = gets_later front (log ++ rest) r s.gets p is.gets_match;
+      in_turn = turn_step s.acks s.gets at step ack (omega (arith, before, is.since_is)) is.in_turn;
     }
 
 pub session_got : (nodes r index since since_new : ℕ) (front front_new : List Entry) (s : SessionPart) (answers : List Answer) → IsSessionShare nodes r index since front s
@@ -97,15 +150,23 @@ pub session_got : (nodes r index since since_new : ℕ) (front front_new : List 
     → length answers ≡ r → ((key : List ℕ) × All (λ a. a.key ≡ key) answers) → IsDistinct nat_eq (map (λ a. a.home) answers) → All (λ a. since_of s < a.at) answers
     → IsSessionShare nodes r index since_new front_new (with_get s (since_of s) answers)
 session_got nodes r index since since_new front front_new s answers is p are new reached count one_key homes later =
+    let g : GetTold = record { since = since_of s; answers = answers; acks = length s.acks } in
+    let P : AckTold → Type 0 = λ a. All (λ x. x.at < a.at) answers in
     record {
       seat_is = is.seat_is;
       since_is = new ∙ (ap (λ n. max n (greatest (map (λ a. a.at) answers))) is.since_is ∙ sym (since_get s (since_of s) answers));
       reached = reached;
-      gets_match = All-append (GetMatches (steps_of front_new) r) s.gets (record { since = since_of s; answers = answers } ∷ [])
+      spent_are = spents_later front front_new s.acks s.spent p is.spent_are;
+      gets_match = All-append (GetMatches (steps_of front_new) r) s.gets (g ∷ [])
           (gets_later front front_new r s.gets p is.gets_match)
-          (All-cons (GetMatches (steps_of front_new) r) (record { since = since_of s; answers = answers }) [] (one_key.0, record { count_is = count; each_is = are; each_later = later; each_key = one_key.1; homes_distinct = homes }) (All-nil (GetMatches (steps_of front_new) r)));
-      gets_later = later_push s.acks [] s.gets (record { since = since_of s; answers = answers }) is.gets_later
-          (record { than_gets = omega arith; than_acks = acks_within s.acks answers (since_of s) (omega arith) });
+          (All-cons (GetMatches (steps_of front_new) r) g [] (one_key.0, record { count_is = count; each_is = are; each_later = later; each_key = one_key.1; homes_distinct = homes }) (All-nil (GetMatches (steps_of front_new) r)));
+      in_turn = turn_push s.acks [] s.gets g is.in_turn
+          (record {
+            behind_acks = omega arith;
+            behind_gets = turns_behind s.acks [] s.gets is.in_turn;
+            since_is = ap (λ xs. latest_of xs s.gets) (sym (take_all (length s.acks) s.acks (omega arith)));
+            acks_after = subst (All P) (sym (drop_all (length s.acks) s.acks (omega arith))) (All-nil P);
+          });
     }
 
 -- one answer more is one of a front that begins with both fronts

@@ -8,7 +8,7 @@ use Rattle.dy_dots.specs.declared.dots.Dot.{Dot}
 use Rattle.dy_siblings.specs.Siblings.{Siblings, same_key, has_dot, merge, IsSameRow}
 use Rattle.dy_siblings.specs.declared.versions.Version.{Version}
 use Rattle.dy_core.specs.Worlds.{Layout, World, empty_world, row_at}
-use Rattle.dy_core.specs.Steps.{IsAllowed, world_after_step, same_place, version_made, after_issue, after_hold, after_release}
+use Rattle.dy_core.specs.Steps.{IsAllowed, place_for, world_after_step, same_place, version_made, after_issue, after_hold, after_release}
 use Rattle.dy_core.specs.Logs.{world_from, world_after, IsLegalFrom, IsLegal}
 use Rattle.dy_core.specs.declared.steps.Step.{Step}
 use Rattle.dy_core.specs.declared.steps.Step.TheVariants.{Issue, Hold, Release, Fetch, Ack}
@@ -178,18 +178,18 @@ module _ (layout : Layout) (i : ℕ) (v w : World) (sound : IsSound layout w) (i
   own_step : (s : Step) → IsAllowed layout w s → names i (node_of s) ≡ true → IsShown i (shown_after_step v s) (world_after_step w s)
   own_step (Issue node key context value) a e =
       subst (λ n. IsShown i (shown_after_step v (Issue n key context value)) (world_after_step w (Issue n key context value))) (sym (named_is i node e)) (own_issue key context value)
-  own_step (Hold holder home row) a e =
-      subst (λ n. IsShown i (shown_after_step v (Hold n home row)) (world_after_step w (Hold n home row))) (sym (named_is i holder e)) (own_hold home row a.1)
-  own_step (Release holder home key d) a e =
-      subst (λ n. IsShown i (shown_after_step v (Release n home key d)) (world_after_step w (Release n home key d))) (sym (named_is i holder e)) (own_release home key d)
-  own_step (Fetch holder home key) a e = absurd (true≢false (sym e))
+  own_step (Hold p row) a e =
+      subst (λ n. IsShown i (shown_after_step v (Hold (place_for n p.home) row)) (world_after_step w (Hold (place_for n p.home) row))) (sym (named_is i p.holder e)) (own_hold p.home row a.1)
+  own_step (Release p key d) a e =
+      subst (λ n. IsShown i (shown_after_step v (Release (place_for n p.home) key d)) (world_after_step w (Release (place_for n p.home) key d))) (sym (named_is i p.holder e)) (own_release p.home key d)
+  own_step (Fetch p key) a e = absurd (true≢false (sym e))
   own_step (Ack key d n) a e = absurd (true≢false (sym e))
 
   other_step : (s : Step) → names i (node_of s) ≡ false → IsShown i v (world_after_step w s)
   other_step (Issue node key context value) e = other_issue node key context value (not_named i node e)
-  other_step (Hold holder home row) e = other_hold holder home row (not_named i holder e)
-  other_step (Release holder home key d) e = other_release holder home key d (not_named i holder e)
-  other_step (Fetch holder home key) e = is
+  other_step (Hold p row) e = other_hold p.holder p.home row (not_named i p.holder e)
+  other_step (Release p key d) e = other_release p.holder p.home key d (not_named i p.holder e)
+  other_step (Fetch p key) e = is
   other_step (Ack key d n) e = record { holdings = is.holdings; counters = is.counters; made = is.made; brought = is.brought }
 
 shown_by : (layout : Layout) (i : ℕ) (v w : World) → IsSound layout w → IsShown i v w → (ss : List Step) → IsLegalFrom layout w ss

@@ -38,14 +38,14 @@ low_step : (nodes sessions : ℕ) (w : World) →
     (p o : ℕ) (k : List ℕ) (d : Dot) → nodes ≤ p → (world_after_step w s).holdings p o k d ≡ false
 low_step nodes sessions w low e own (Issue node key context value) is o p h k d high =
     low p h k d high
-low_step nodes sessions w low e own (Hold holder home row) is o p h k d high =
-    ap (λ b. cond (b && ((h == home) && same_key k row.key))
-    (has_dot (merge (row_at w holder home row.key) row.versions) d) (w.holdings p h k d))
-    (apart nodes p holder high o.1)
+low_step nodes sessions w low e own (Hold place row) is o p h k d high =
+    ap (λ b. cond (b && ((h == place.home) && same_key k row.key))
+    (has_dot (merge (row_at w place.holder place.home row.key) row.versions) d) (w.holdings p h k d))
+    (apart nodes p place.holder high o.1)
     ∙ low p h k d high
-low_step nodes sessions w low e own (Release holder home key x) is o p h k d high =
-    ap (λ b. b && not (same_place holder home key p h k && same_dot d x)) (low p h k d high)
-low_step nodes sessions w low e own (Fetch holder home key) is o p h k d high = low p h k d high
+low_step nodes sessions w low e own (Release place key x) is o p h k d high =
+    ap (λ b. b && not (same_place place.holder place.home key p h k && same_dot d x)) (low p h k d high)
+low_step nodes sessions w low e own (Fetch place key) is o p h k d high = low p h k d high
 low_step nodes sessions w low e own (Ack key x n) is o p h k d high = low p h k d high
 
 module _ (nodes sessions : ℕ) where
@@ -86,9 +86,9 @@ self_named j = eq-eqb j j refl
 acks_grow : (s : Step) (w : World) (x : Acked) → Contains w.acks x →
     Contains (world_after_step w s).acks x
 acks_grow (Issue node key context value) w x h = h
-acks_grow (Hold holder home row) w x h = h
-acks_grow (Release holder home key d) w x h = h
-acks_grow (Fetch holder home key) w x h = h
+acks_grow (Hold place row) w x h = h
+acks_grow (Release place key d) w x h = h
+acks_grow (Fetch place key) w x h = h
 acks_grow (Ack key d n) w x h = in_tail (record { key = key; dot = d; w = n }) x w.acks h
 
 acks_stay : (w : World) (log : List Entry) (x : Acked) → Contains w.acks x →
@@ -112,9 +112,9 @@ told_is w at session (e ∷ es) x t h is =
         Contains (world_after_step w s).acks x
     now false s i = absurd (not_in_nil t i)
     now true (Issue node key context value) i = absurd (not_in_nil t i)
-    now true (Hold holder home row) i = absurd (not_in_nil t i)
-    now true (Release holder home key d) i = absurd (not_in_nil t i)
-    now true (Fetch holder home key) i = absurd (not_in_nil t i)
+    now true (Hold place row) i = absurd (not_in_nil t i)
+    now true (Release place key d) i = absurd (not_in_nil t i)
+    now true (Fetch place key) i = absurd (not_in_nil t i)
     now true (Ack key d n) i =
         ⊎_elim
         (λ same.
@@ -171,9 +171,9 @@ module _ (nodes sessions : ℕ) where
       by_step : (s : Step) → e.step ≡ s → IsOwnedStep nodes sessions e.told s →
           Contains (world_after_step w s).acks x → Contains w.acks x ⊎ ToldOne at (e ∷ es) x
       by_step (Issue node key context value) same own i = inl i
-      by_step (Hold holder home row) same own i = inl i
-      by_step (Release holder home key d) same own i = inl i
-      by_step (Fetch holder home key) same own i = inl i
+      by_step (Hold place row) same own i = inl i
+      by_step (Release place key d) same own i = inl i
+      by_step (Fetch place key) same own i = inl i
       by_step (Ack key d n) same own i =
           ⊎_elim
           (λ here. inr (record {

@@ -1,7 +1,8 @@
 -- Shares: which part of a log is a node's and which a session's, and what each part shows.
-use Rattle.std.specs.Prelude.{◌≡◌, ℕ, zero, suc, ◌+◌, ◌<◌, ◌≤◌, ◌⊎◌, ◌==◌, max, Bool, false, Option}
-use Rattle.std.specs.Prelude.{None, Some, List, [], ◌∷◌, ◌++◌, map, filter, if◌then◌else◌, refl}
-use Rattle.std.specs.List.{All, Any}
+use Rattle.std.specs.Prelude.{◌≡◌, ℕ, zero, suc, ◌+◌, ◌-◌, ◌<◌, ◌≤◌, ◌⊎◌, ◌==◌, max, Bool, false}
+use Rattle.std.specs.Prelude.{Option, None, Some, List, [], ◌∷◌, ◌++◌, map, filter, take, drop}
+use Rattle.std.specs.Prelude.{length, nat_eq, if◌then◌else◌, refl}
+use Rattle.std.specs.List.{All, Any, IsDistinct}
 use Rattle.std.specs.Coded.{Coded, coded×, coded_ℕ, coded_list, code_by}
 use Rattle.logbook.specs.Pages.{Book}
 use Rattle.atomic_table.specs.Seated.{TableId}
@@ -74,25 +75,25 @@ MayFollow ring n log steps = IsLegalFrom (layout_of ring n) (world_after (steps_
 -- changes nothing, and an ack is a session's
 abbrev pub node_of : Step → Option ℕ
 node_of (Issue node key context value) = Some node
-node_of (Hold holder home row) = Some holder
-node_of (Release holder home key d) = Some holder
-node_of (Fetch holder home key) = None
+node_of (Hold p row) = Some p.holder
+node_of (Release p key d) = Some p.holder
+node_of (Fetch p key) = None
 node_of (Ack key d w) = None
 
 -- the step is a fetch
 abbrev pub IsFetch : Step → Type 0
 IsFetch (Issue node key context value) = ⊥
-IsFetch (Hold holder home row) = ⊥
-IsFetch (Release holder home key d) = ⊥
-IsFetch (Fetch holder home key) = Unit {0}
+IsFetch (Hold p row) = ⊥
+IsFetch (Release p key d) = ⊥
+IsFetch (Fetch p key) = Unit {0}
 IsFetch (Ack key d w) = ⊥
 
 -- the step is an ack
 abbrev pub IsAck : Step → Type 0
 IsAck (Issue node key context value) = ⊥
-IsAck (Hold holder home row) = ⊥
-IsAck (Release holder home key d) = ⊥
-IsAck (Fetch holder home key) = ⊥
+IsAck (Hold p row) = ⊥
+IsAck (Release p key d) = ⊥
+IsAck (Fetch p key) = ⊥
 IsAck (Ack key d w) = Unit {0}
 
 -- whether the one named, if any, is this one
@@ -129,10 +130,10 @@ first_parts (suc n) = first_parts n ++ record { node = n; steps = [] } ∷ []
 abbrev pub shown_after_step : World → Step → World
 shown_after_step w (Issue node key context value) =
     record w { counters = (after_issue w (version_made w node key context value)).counters }
-shown_after_step w (Hold holder home row) =
-    after_hold (record w { versions = row.versions ++ w.versions }) holder home row
-shown_after_step w (Release holder home key d) = after_release w holder home key d
-shown_after_step w (Fetch holder home key) = w
+shown_after_step w (Hold p row) =
+    after_hold (record w { versions = row.versions ++ w.versions }) p.holder p.home row
+shown_after_step w (Release p key d) = after_release w p.holder p.home key d
+shown_after_step w (Fetch p key) = w
 shown_after_step w (Ack key d count) = w
 
 -- the world as far as these steps of one node show it, from this one on
@@ -198,15 +199,19 @@ pub record AckTold : Type 0 where
 abbrev pub IsAckOf : AckTold → Acked → Type 0
 IsAckOf t x = (t.key ≡ x.key) × (t.dot ≡ x.dot) × (t.w ≡ x.w)
 
--- a get as a session was told it: the session's since before it, and its answers
+-- a get as a session was told it: the session's since before it, its answers, and how many acks the
+-- session had been told before it
 pub record GetTold : Type 0 where
   pub since : ℕ
   pub answers : List Answer
+  pub acks : ℕ
 
--- what a session's share is seen as: the session, and the acks and the gets that it was told
+-- what a session's share is seen as: the session, the acks that it was told, the receipts that were
+-- spent for each of them, and the gets that it was told
 pub record SessionPart : Type 0 where
   pub session : ℕ
   pub acks : List AckTold
+  pub spent : List (List ReceiptParts)
   pub gets : List GetTold
 
 -- the codes of what a session was told
@@ -228,15 +233,20 @@ answer_code =
 
 abbrev pub get_told_code : Coded GetTold
 get_told_code =
-    code_by (ℕ × List Answer) (coded× coded_ℕ (coded_list answer_code))
-    (λ g. (g.since, g.answers)) (λ p. record { since = p.0; answers = p.1 }) (λ _. refl)
+    code_by (ℕ × (List Answer × ℕ)) (coded× coded_ℕ (coded× (coded_list answer_code) coded_ℕ))
+    (λ g. (g.since, (g.answers, g.acks)))
+    (λ p. record { since = p.0; answers = p.1.0; acks = p.1.1 }) (λ _. refl)
+
+abbrev pub spent_code : Coded (List ReceiptParts)
+spent_code = coded_list receipt_parts_code
 
 abbrev pub session_part_code : Coded SessionPart
 session_part_code =
-    code_by (ℕ × (List AckTold × List GetTold))
-    (coded× coded_ℕ (coded× (coded_list ack_told_code) (coded_list get_told_code)))
-    (λ s. (s.session, (s.acks, s.gets)))
-    (λ p. record { session = p.0; acks = p.1.0; gets = p.1.1 }) (λ _. refl)
+    code_by (ℕ × (List AckTold × (List (List ReceiptParts) × List GetTold)))
+    (coded× coded_ℕ (coded× (coded_list ack_told_code)
+    (coded× (coded_list spent_code) (coded_list get_told_code))))
+    (λ s. (s.session, (s.acks, (s.spent, s.gets))))
+    (λ p. record { session = p.0; acks = p.1.0; spent = p.1.1.0; gets = p.1.1.1 }) (λ _. refl)
 
 -- the answer of this number, holder, home, key and row
 abbrev pub answer_of : ℕ → ℕ → ℕ → List ℕ → Siblings → Answer
@@ -245,14 +255,14 @@ answer_of at holder home key row =
 
 -- the part of a session that was told nothing
 abbrev pub first_session : ℕ → SessionPart
-first_session session = record { session = session; acks = []; gets = [] }
+first_session session = record { session = session; acks = []; spent = []; gets = [] }
 
 -- the step of this number as an ack, where it is one
 abbrev pub ack_at : ℕ → Step → List AckTold
 ack_at at (Issue node key context value) = []
-ack_at at (Hold holder home row) = []
-ack_at at (Release holder home key d) = []
-ack_at at (Fetch holder home key) = []
+ack_at at (Hold p row) = []
+ack_at at (Release p key d) = []
+ack_at at (Fetch p key) = []
 ack_at at (Ack key d w) = record { at = at; key = key; dot = d; w = w } ∷ []
 
 -- the acks that a session was told by these entries, which are numbered from `at`
@@ -265,14 +275,17 @@ acks_from at session (e ∷ es) =
 abbrev pub session_acks : ℕ → List Entry → List AckTold
 session_acks session log = acks_from 1 session log
 
--- the session was told this ack too
-abbrev pub with_ack : SessionPart → ℕ → Step → SessionPart
-with_ack s at step = record s { acks = s.acks ++ ack_at at step }
+-- the session was told this ack too, for which these receipts were spent
+abbrev pub with_ack : SessionPart → ℕ → Step → List ReceiptParts → SessionPart
+with_ack s at step receipts =
+    record s { acks = s.acks ++ ack_at at step; spent = s.spent ++ receipts ∷ [] }
 
--- the session was told this get too
+-- the session was told this get too, after all acks that it was told so far
 abbrev pub with_get : SessionPart → ℕ → List Answer → SessionPart
 with_get s since answers =
-    record s { gets = s.gets ++ record { since = since; answers = answers } ∷ [] }
+    record s {
+      gets = s.gets ++ record { since = since; answers = answers; acks = length s.acks } ∷ [];
+    }
 
 -- the greatest of some numbers, and 0 of none
 abbrev pub greatest : List ℕ → ℕ
@@ -284,32 +297,73 @@ abbrev pub answer_numbers : List GetTold → List ℕ
 answer_numbers [] = []
 answer_numbers (g ∷ gs) = map (λ a. a.at) g.answers ++ answer_numbers gs
 
+-- the greatest step number of some acks and gets, 0 of none
+abbrev pub latest_of : List AckTold → List GetTold → ℕ
+latest_of acks gets = max (greatest (map (λ a. a.at) acks)) (greatest (answer_numbers gets))
+
 -- a session's since: the greatest step number that it was told, 0 where it was told none
 abbrev pub since_of : SessionPart → ℕ
-since_of s = max (greatest (map (λ a. a.at) s.acks)) (greatest (answer_numbers s.gets))
+since_of s = latest_of s.acks s.gets
+
+-- receipts that make an ack of a key and a dot: as many as homes were named, of distinct homes and
+-- distinct holders
+pub record AreSpendable (key : List ℕ) (dot : Dot) (w : ℕ) (receipts : List ReceiptParts) : Type 0
+  where
+    pub count_is : length receipts ≡ w
+    pub of_dot : All (λ r. (r.key ≡ key) × (r.dot ≡ dot)) receipts
+    pub homes_distinct : IsDistinct nat_eq (map (λ r. r.home) receipts)
+    pub holders_distinct : IsDistinct nat_eq (map (λ r. r.holder) receipts)
+
+-- the step is an ack, which these receipts make
+abbrev pub IsAckBy : List ReceiptParts → Step → Type 0
+IsAckBy receipts (Issue node key context value) = ⊥
+IsAckBy receipts (Hold p row) = ⊥
+IsAckBy receipts (Release p key d) = ⊥
+IsAckBy receipts (Fetch p key) = ⊥
+IsAckBy receipts (Ack key d w) = AreSpendable key d w receipts
+
+-- the receipts were spent for the ack that was told: they make it, and each held where it was made
+pub record AreSpentFor (steps : List Step) (t : AckTold) (receipts : List ReceiptParts) : Type 0
+  where
+    pub make : AreSpendable t.key t.dot t.w receipts
+    pub reached : t.at ≤ length steps
+    pub hold : All (IsReceipt (take (t.at - 1) steps)) receipts
+
+-- for each of the acks, in their order, receipts were spent
+abbrev pub AreSpent : List Step → List AckTold → List (List ReceiptParts) → Type 0
+AreSpent steps [] [] = Unit {0}
+AreSpent steps [] (receipts ∷ spent) = ⊥
+AreSpent steps (t ∷ acks) [] = ⊥
+AreSpent steps (t ∷ acks) (receipts ∷ spent) =
+    AreSpentFor steps t receipts × AreSpent steps acks spent
 
 -- the get matches the log: r answers of one key and distinct homes, each a fetch of the log, after
 -- the session's since (Dynamo, section 4.5)
 abbrev pub GetMatches : List Step → ℕ → GetTold → Type 0
 GetMatches steps r g = (key : List ℕ) × MatchesLog steps key r g.since g.answers
 
--- a get is later than what its session was told before it: no number of the gets before it is above
--- its since, and each ack is no later than its since, or later than each of its answers
-pub record IsLater (acks : List AckTold) (before : List GetTold) (g : GetTold) : Type 0 where
-  pub than_gets : greatest (answer_numbers before) ≤ g.since
-  pub than_acks : All (λ a. (a.at ≤ g.since) ⊎ All (λ x. x.at < a.at) g.answers) acks
+-- a get stands where it was told: behind so many of the acks, and behind these gets, none of which
+-- was told behind more; its since is exactly the greatest number that was told before it; and each
+-- ack that was told after it is later than its answers
+pub record IsInTurn (acks : List AckTold) (before : List GetTold) (g : GetTold) : Type 0 where
+  pub behind_acks : g.acks ≤ length acks
+  pub behind_gets : All (λ b. b.acks ≤ g.acks) before
+  pub since_is : g.since ≡ latest_of (take g.acks acks) before
+  pub acks_after : All (λ a. All (λ x. x.at < a.at) g.answers) (drop g.acks acks)
 
--- each of these gets is later than what was told before it
-abbrev pub AreLater : List AckTold → List GetTold → List GetTold → Type 0
-AreLater acks before [] = Unit {0}
-AreLater acks before (g ∷ gs) = IsLater acks before g × AreLater acks (before ++ g ∷ []) gs
+-- each of these gets, behind some others, stands where it was told
+abbrev pub AreInTurn : List AckTold → List GetTold → List GetTold → Type 0
+AreInTurn acks before [] = Unit {0}
+AreInTurn acks before (g ∷ gs) = IsInTurn acks before g × AreInTurn acks (before ++ g ∷ []) gs
 
--- a session's share belongs to a log: its acks are those that the log told the session, and each of
--- its gets matches the log, and is later than what the session was told before it
+-- a session's share belongs to a log: its acks are those that the log told the session, with the
+-- receipts that were spent for each; each of its gets matches the log; and acks and gets stand in
+-- the one order in which they were told
 pub record SessionBelongsTo (log : List Entry) (r : ℕ) (s : SessionPart) : Type 0 where
   pub acks_are : s.acks ≡ session_acks s.session log
+  pub spent_are : AreSpent (steps_of log) s.acks s.spent
   pub gets_match : All (GetMatches (steps_of log) r) s.gets
-  pub gets_later : AreLater s.acks [] s.gets
+  pub in_turn : AreInTurn s.acks [] s.gets
 
 -- the node's part is the same in both logs
 abbrev pub NodeStays : List Entry → List Entry → ℕ → Type 0
@@ -322,9 +376,9 @@ SessionStays old new session = session_acks session new ≡ session_acks session
 -- the step, with whom it was told, is of a node or a session below these numbers, or it is a fetch
 abbrev pub IsOwnedStep : ℕ → ℕ → Option ℕ → Step → Type 0
 IsOwnedStep nodes sessions told (Issue node key context value) = (told ≡ None) × (node < nodes)
-IsOwnedStep nodes sessions told (Hold holder home row) = (told ≡ None) × (holder < nodes)
-IsOwnedStep nodes sessions told (Release holder home key d) = (told ≡ None) × (holder < nodes)
-IsOwnedStep nodes sessions told (Fetch holder home key) = told ≡ None
+IsOwnedStep nodes sessions told (Hold p row) = (told ≡ None) × (p.holder < nodes)
+IsOwnedStep nodes sessions told (Release p key d) = (told ≡ None) × (p.holder < nodes)
+IsOwnedStep nodes sessions told (Fetch p key) = told ≡ None
 IsOwnedStep nodes sessions told (Ack key d w) =
     (session : ℕ) × (told ≡ Some session) × (session < sessions)
 

@@ -7,7 +7,7 @@ ghost use Rattle.dy_dots.specs.declared.nodes.TheConstants.{MAX_NODES};
 ghost use Rattle.dy_core.specs.Worlds.{layout_of};
 ghost use Rattle.dy_core.specs.Logs.{IsAnswer, IsLegal};
 ghost use Rattle.dy_shares.specs.inside.Parts.{AreOf, IsPartOf, entries_of, with_done};
-ghost use Rattle.dy_shares.specs.Shares.{AreAll, HasAll, AreOwned, BelongsTo, IsAck, IsFetch};
+ghost use Rattle.dy_shares.specs.Shares.{AreAll, HasAll, AreOwned, BelongsTo, IsAckBy, IsFetch};
 ghost use Rattle.dy_shares.specs.Shares.{IsMissing, IsReceipt, MayFollow, NodeStays};
 ghost use Rattle.dy_shares.specs.Shares.{SessionBelongsTo, SessionStays, answer_of, empty_account};
 ghost use Rattle.dy_shares.specs.Shares.{first_parts, first_session, node_of, receipt_parts};
@@ -25,7 +25,7 @@ use crate::node_shares::{NodeShare, open_nodes};
 use crate::parts::{Roll, Share};
 use crate::receipts::Receipt;
 use crate::seens::Seen;
-use crate::session_shares::SessionShare;
+use crate::session_shares::{SessionShare, Spent};
 use crate::sinces::Since;
 use dy_core::{Place, Step};
 use dy_dots::{Dot, Fault, NodeId};
@@ -162,14 +162,21 @@ impl<J: Naming> Ledger<J> {
         Ok(())
     }
 
-    /// Adds an ack to the log, and tells it the session whose share is lent.
-    pub fn ack_step(&mut self, share: &mut SessionShare<J>, step: Step) -> Result<(), Fault>
-        requires ack { IsAck step }
+    /// Adds an ack to the log, which these receipts make, and tells it the session whose share is
+    /// lent.
+    pub fn ack_step(
+        &mut self,
+        share: &mut SessionShare<J>,
+        step: Step,
+        receipts: &Vec<Receipt<J>>,
+    ) -> Result<(), Fault>
+        requires ack { IsAckBy receipts.now.items step }
+        requires hold { All (IsReceipt (steps_of self.old.log)) receipts.now.items }
         requires allowed { MayFollow J.ring J.n self.old.log (step ∷ []) }
         ensures log { OnOk result
             (self.new ≡ with_entries self.old (told_to share.old.session step ∷ [])) }
         ensures share { OnOk result
-            (share.new ≡ with_ack share.old (length self.old.log + 1) step) }
+            (share.new ≡ with_ack share.old (length self.old.log + 1) step receipts.now.items) }
         ensures err { OnErr result ((self.new ≡ self.old) × (share.new ≡ share.old)) }
         ensures memory { IsOkUnless result Fault.OutOfMemory }
         ensures belongs { SessionBelongsTo self.old.log J.r share.old }
@@ -179,10 +186,12 @@ impl<J: Naming> Ledger<J> {
     {
         self.agree_session(share);
         self.chronicle.learn(&share.front);
+        share.spent.reserve(1)?;
         let steps = alone(self.alloc, step)?;
         let number = self.steps.len() + 1;
         let session = share.number;
         self.append(&mut share.share, Some(session), steps)?;
+        share.spent.push_reserved(Spent::of(receipts));
         share.since = share.since.max(number);
         share.front.join(&self.chronicle.front());
         Ok(())

@@ -9,17 +9,48 @@ ghost use Rattle.dy_shares.specs.Shares.{first_session, greatest, since_of, step
 use crate::chronicles::{Chronicle, Front};
 use crate::names::Naming;
 use crate::parts::{Roll, Share};
+use crate::receipts::Receipt;
 use crate::seens::Seen;
 use crate::sinces::Since;
 use dy_dots::Fault;
 use std::alloc::Global;
 use std::marker::Model;
+use std::snapshot::Snapshot;
 
-// A get as the session was told it.
+// What was spent for an ack that the session was told. It has no bytes.
+#[derive(Drop)]
+pub struct Spent<J: Naming> {
+    receipts: Snapshot<Vec<Receipt<J>>>,
+}
+
+impl<J: Naming> Model for Spent<J> {
+    ghost use Rattle.std.specs.Prelude.{List};
+    ghost use Rattle.dy_shares.specs.Shares.{ReceiptParts, spent_code};
+
+    ghost Value = { List ReceiptParts };
+
+    ghost coded = { spent_code };
+
+    ghost view = { λ s. s.receipts.value.items };
+}
+
+impl<J: Naming> Spent<J> {
+    // Just these receipts.
+    pub(crate) fn of(receipts: &Vec<Receipt<J>>) -> Spent<J>
+        ensures { result ≡ receipts.now.items }
+    {
+        Spent {
+            receipts: Snapshot::of(receipts),
+        }
+    }
+}
+
+// A get as the session was told it, behind so many acks.
 #[derive(Drop)]
 pub struct Get<J: Naming> {
     since: usize,
     seens: Vec<Seen<J>>,
+    acks: usize,
 }
 
 impl<J: Naming> Model for Get<J> {
@@ -29,7 +60,7 @@ impl<J: Naming> Model for Get<J> {
 
     ghost coded = { get_told_code };
 
-    ghost view = { λ g. record { since = g.since; answers = g.seens.items } };
+    ghost view = { λ g. record { since = g.since; answers = g.seens.items; acks = g.acks } };
 }
 
 /// A session's share of a book: the acks and the gets that the session was told, each with its step
@@ -37,9 +68,10 @@ impl<J: Naming> Model for Get<J> {
 pub struct SessionShare<J: Naming> {
     pub(crate) number: usize,
     pub(crate) share: Share<J>,
+    pub(crate) spent: Vec<Spent<J>>,
     gets: Vec<Get<J>>,
     pub(crate) since: usize,
-    // A front at which each get was seen to match the log.
+    // A front at which receipts were seen to be spent for each ack, and each get to match the log.
     pub(crate) front: Front<J>,
 }
 
@@ -51,15 +83,15 @@ impl<J: Naming> Model for SessionShare<J> {
 
     ghost coded = { session_part_code };
 
-    ghost view = { λ s. told_parts s.number s.share.part s.gets.items };
+    ghost view = { λ s. told_parts s.number s.share.part s.spent.items s.gets.items };
 
     ghost invariant = { λ s.
         IsSessionShare J.ring.nodes J.r s.share.index s.since s.front
-        (told_parts s.number s.share.part s.gets.items) };
+        (told_parts s.number s.share.part s.spent.items s.gets.items) };
 }
 
 impl<J: Naming> SessionShare<J> {
-    ghost use Rattle.dy_shares.specs.Shares.{GetMatches};
+    ghost use Rattle.dy_shares.specs.Shares.{AreSpent, GetMatches};
 
     // The share of a seat as its session's, which was told nothing yet.
     pub(crate) fn new(
@@ -74,6 +106,7 @@ impl<J: Naming> SessionShare<J> {
         SessionShare {
             number,
             share,
+            spent: Vec::new(alloc),
             gets: Vec::new(alloc),
             since: 0,
             front,
@@ -92,6 +125,13 @@ impl<J: Naming> SessionShare<J> {
         ensures { result ≡ self.now.session }
     {
         self.number
+    }
+
+    /// How many acks the session was told. Takes no memory.
+    pub fn acks(&self) -> usize
+        ensures { result ≡ length self.now.acks }
+    {
+        self.spent.len()
     }
 
     /// How many gets the session was told. Takes no memory.
@@ -115,18 +155,21 @@ impl<J: Naming> SessionShare<J> {
         self.gets.reserve(1)?;
         let since = self.since;
         self.since = learn_all(&mut self.front, since, seens.as_slice());
-        self.gets.push_reserved(Get { since, seens });
+        let acks = self.spent.len();
+        self.gets.push_reserved(Get { since, seens, acks });
         Ok(())
     }
 
-    // The log as it stood, at which each get matches it.
+    // The log as it stood, at which receipts were spent for each ack, and each get matches it.
     pub(crate) fn front(&self) -> &Front<J>
-        ensures { All (GetMatches (steps_of result.now) J.r) self.now.gets }
+        ensures spent { AreSpent (steps_of result.now) self.now.acks self.now.spent }
+        ensures gets { All (GetMatches (steps_of result.now) J.r) self.now.gets }
     {
         &self.front
     }
 
-    // Compares the share with its seat of the roll, for the last time, and its gets with the log.
+    // Compares the share with its seat of the roll, for the last time, and what was spent and its
+    // gets with the log.
     pub(crate) fn end(self, roll: &mut Roll<J>, chronicle: &mut Chronicle<J>)
         ensures roll { roll.new ≡ roll.old }
         ensures chronicle { chronicle.new ≡ chronicle.old }
@@ -135,6 +178,7 @@ impl<J: Naming> SessionShare<J> {
         let SessionShare {
             number: _,
             share,
+            spent: _,
             gets: _,
             since: _,
             front,
@@ -148,6 +192,7 @@ impl<J: Naming> SessionShare<J> {
         let SessionShare {
             number: _,
             share,
+            spent: _,
             gets: _,
             since: _,
             front: _,

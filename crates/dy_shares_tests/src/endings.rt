@@ -1,9 +1,35 @@
 ghost use Rattle.std.specs.Prelude.{◌≡◌};
 
+use dy_core::Step;
 use dy_dots::Fault;
 use dy_shares::{Blank, EndRefused, Ledger, Naming, NodeShare, SessionShare};
 use std::alloc::Global;
 use std::marker::Brand;
+
+// Ends the ledger, where each share is handed in.
+pub fn end<J: Naming>(
+    ledger: Ledger<J>,
+    nodes: Vec<NodeShare<J>>,
+    sessions: Vec<SessionShare<J>>,
+) -> Result<Vec<Step>, Fault> {
+    match ledger.end(nodes, sessions) {
+        Ok(steps) => Ok(steps),
+        Err(refused) => {
+            refused.abandon();
+            Err(Fault::SharesMissing)
+        }
+    }
+}
+
+// How many steps the log has, where each share is handed in.
+pub fn end_count<J: Naming>(
+    ledger: Ledger<J>,
+    nodes: Vec<NodeShare<J>>,
+    sessions: Vec<SessionShare<J>>,
+) -> Result<usize, Fault> {
+    let steps = end(ledger, nodes, sessions)?;
+    Ok(steps.len())
+}
 
 // Whether the ledger ends with all its shares, and with no step.
 fn ends_empty<J: Naming>(

@@ -1,4 +1,5 @@
 // A put whose version a stand-in holds, and the handoff of the hint.
+use crate::pairs::{Pair, paired};
 use crate::scenes::issue_and_hold;
 use crate::watched::Watched;
 use dy_core::Place;
@@ -53,15 +54,52 @@ fn zero_puts<J: Naming>(
     }
 }
 
-// The nodes 0 and 2 hold a version of node 0, node 2 for home 1. It gives the receipt of node 2.
+// The receipt of node 0, for itself.
+fn own<J: Naming>(
+    alloc: Global,
+    watched: &Watched<J>,
+    key: &Key,
+    dot: Dot,
+) -> Result<Option<Receipt<J>>, Fault> {
+    let of_receipt = key.try_clone(alloc)?;
+    Ok(watched.receipt(of_receipt, dot, Place::own(NodeId::nth(0))))
+}
+
+// The pair of the two receipts, where there are two.
+fn paired_with<J: Naming>(
+    alloc: Global,
+    own: Option<Receipt<J>>,
+    hinted: Option<Receipt<J>>,
+) -> Result<Option<Pair<J>>, Fault> {
+    match (own, hinted) {
+        (Some(one), Some(two)) => paired(alloc, one, two),
+        _ => Ok(None),
+    }
+}
+
+// Node 2 holds the version of node 0 for home 1. It gives the receipts of nodes 0 and 2.
+fn hinted<J: Naming>(
+    alloc: Global,
+    watched: &mut Watched<J>,
+    nodes: &mut [NodeShare<J>],
+    key: Key,
+    dot: Dot,
+) -> Result<Option<Pair<J>>, Fault> {
+    let of_zero = own(alloc, watched, &key, dot)?;
+    let of_two = hint(alloc, watched, nodes, key, dot)?;
+    paired_with(alloc, of_zero, of_two)
+}
+
+// The nodes 0 and 2 hold a version of node 0, node 2 for home 1. It gives the receipts of both,
+// that of node 2 last.
 pub fn first_put<J: Naming>(
     alloc: Global,
     watched: &mut Watched<J>,
     nodes: &mut [NodeShare<J>],
-) -> Result<Option<Receipt<J>>, Fault> {
+) -> Result<Option<Pair<J>>, Fault> {
     let key = Key::new(alloc, b"a")?;
     match zero_puts(alloc, watched, nodes, &key)? {
-        Some(dot) => hint(alloc, watched, nodes, key, dot),
+        Some(dot) => hinted(alloc, watched, nodes, key, dot),
         None => Ok(None),
     }
 }

@@ -2,9 +2,13 @@
 #![tactic(auto)]
 
 #[cfg(test)]
+mod acks;
+#[cfg(test)]
 mod endings;
 #[cfg(test)]
 mod hints;
+#[cfg(test)]
+mod pairs;
 #[cfg(test)]
 mod rings;
 #[cfg(test)]

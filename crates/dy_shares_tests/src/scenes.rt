@@ -1,7 +1,9 @@
 ghost use Rattle.std.specs.Prelude.{◌≡◌, ◌<◌, [], IfOk, IsTrue, vec_capacity, vec_len};
 ghost use Rattle.dy_shares.specs.Shares.{since_of};
 
+use crate::endings::{end, end_count};
 use crate::hints::{first_put, hand_over};
+use crate::pairs::Pair;
 use crate::rings::three_nodes;
 use crate::watched::{Watched, place_of};
 use dy_core::{Place, Step, World};
@@ -129,21 +131,6 @@ fn beside<J: Naming + Send + Sync, R: Threads + Wait + Sync>(
     for_each_mut(rt, shares, 3, &|_, share| put(rt, alloc, lock, share));
 }
 
-// Ends the ledger, where each share is handed in.
-fn end<J: Naming>(
-    ledger: Ledger<J>,
-    nodes: Vec<NodeShare<J>>,
-    sessions: Vec<SessionShare<J>>,
-) -> Result<Vec<Step>, Fault> {
-    match ledger.end(nodes, sessions) {
-        Ok(steps) => Ok(steps),
-        Err(refused) => {
-            refused.abandon();
-            Err(Fault::SharesMissing)
-        }
-    }
-}
-
 // Three threads with a share each, and one ledger under a lock.
 fn three<J: Naming + Send + Sync, R: Threads + Wait + Sync>(
     rt: &R,
@@ -161,18 +148,21 @@ fn three<J: Naming + Send + Sync, R: Threads + Wait + Sync>(
     end(lock.into_inner().into_ledger(), nodes, Vec::new(alloc))
 }
 
-// The put of the stand-in's receipt is acknowledged, and its hint goes to its home. It says what
-// the receipt is worth then.
+// The put of these receipts is acknowledged, and the hint of the stand-in, whose receipt is the
+// last, goes to its home. It says what the receipt is worth then.
 fn stand_in_of<J: Naming>(
     alloc: Global,
     watched: &mut Watched<J>,
     nodes: &mut [NodeShare<J>],
     session: &mut SessionShare<J>,
-    receipt: &Receipt<J>,
+    pair: &Pair<J>,
 ) -> Result<Option<bool>, Fault>
     requires { J.r ≡ 1 }
 {
-    watched.ack(alloc, session, receipt.key(), receipt.dot(), 2)?;
+    let Some(receipt) = pair.receipts.last() else {
+        return Ok(None);
+    };
+    watched.ack(alloc, session, pair)?;
     hand_over(alloc, watched, nodes, receipt)?;
     tell(alloc, watched, session, receipt)?;
     Ok(watched.spend(receipt))
@@ -189,7 +179,7 @@ fn stand_in<J: Naming>(
     requires { J.r ≡ 1 }
 {
     match first_put(alloc, watched, nodes)? {
-        Some(receipt) => stand_in_of(alloc, watched, nodes, session, &receipt),
+        Some(pair) => stand_in_of(alloc, watched, nodes, session, &pair),
         None => Ok(None),
     }
 }
@@ -287,21 +277,19 @@ fn open_with_session<J: Naming>(
     }
 }
 
-// How many steps the log has, where each share is handed in.
-fn end_count<J: Naming>(
-    ledger: Ledger<J>,
-    nodes: Vec<NodeShare<J>>,
-    sessions: Vec<SessionShare<J>>,
-) -> Result<usize, Fault> {
-    let steps = end(ledger, nodes, sessions)?;
-    Ok(steps.len())
+// What the stand-in's receipt is worth, how many steps the log has, how many acks and gets the
+// session was told, and its since.
+#[derive(Clone, Copy, PartialEq, Eq)]
+struct Worth {
+    spent: Option<bool>,
+    steps: usize,
+    acks: usize,
+    gets: usize,
+    since: usize,
 }
 
 // The scene of the stand-in, and then all shares are handed in.
-fn played<J: Naming>(
-    alloc: Global,
-    opened: Opened<J>,
-) -> Result<(Option<bool>, usize, usize, usize), Fault>
+fn played<J: Naming>(alloc: Global, opened: Opened<J>) -> Result<Worth, Fault>
     requires room { vec_len opened.sessions < vec_capacity opened.sessions }
     requires r { J.r ≡ 1 }
 {
@@ -312,19 +300,20 @@ fn played<J: Naming>(
         mut sessions,
     } = opened;
     let spent = stand_in(alloc, &mut watched, nodes.as_mut_slice(), &mut session);
-    let (gets, since) = (session.gets(), session.since().at());
+    let (acks, gets, since) = (session.acks(), session.gets(), session.since().at());
     sessions.push_reserved(session);
     let steps = end_count(watched.into_ledger(), nodes, sessions)?;
-    Ok((spent?, steps, gets, since))
+    Ok(Worth {
+        spent: spent?,
+        steps,
+        acks,
+        gets,
+        since,
+    })
 }
 
-// What the stand-in's receipt is worth, and how many steps the log has, how many gets the session
-// was told, and its since.
-fn handed_over<J: Naming>(
-    alloc: Global,
-    blank: Blank,
-    world: World,
-) -> Result<(Option<bool>, usize, usize, usize), Fault>
+// The same on a new ledger.
+fn handed_over<J: Naming>(alloc: Global, blank: Blank, world: World) -> Result<Worth, Fault>
     requires named { blank ≡ record { book = J.book; table = J.table } }
     requires world { world ≡ record { ring = J.ring; n = J.n; steps = [] } }
     requires nodes { J.ring.nodes ≡ 3 }
@@ -358,7 +347,7 @@ fn witnesses_are_spent_by_other_threads(rt: HostRuntime) -> Result<(), Fault> {
 }
 
 // The same from nothing, with two homes a key.
-fn stand_in_scene(alloc: Global) -> Result<(Option<bool>, usize, usize, usize), Fault> {
+fn stand_in_scene(alloc: Global) -> Result<Worth, Fault> {
     let blank = Blank::new(alloc)?;
     let world = three_nodes(alloc, 2)?;
     handed_over::<Brand>(alloc, blank, world)
@@ -366,9 +355,17 @@ fn stand_in_scene(alloc: Global) -> Result<(Option<bool>, usize, usize, usize), 
 
 #[test]
 fn a_stand_ins_receipt_outlives_its_hint(rt: HostRuntime) -> Result<(), Fault> {
-    let (spent, steps, gets, since) = stand_in_scene(rt.alloc())?;
-    assert!(&rt; spent == Some(false));
-    assert!(&rt; steps == 7 && gets == 1 && since == 7);
+    let worth = stand_in_scene(rt.alloc())?;
+    assert!(&rt;
+        worth
+            == Worth {
+                spent: Some(false),
+                steps: 7,
+                acks: 1,
+                gets: 1,
+                since: 7,
+            }
+    );
     Ok(())
 }
 

@@ -47,34 +47,26 @@ pub fn making(alloc: Global, node: NodeId, key: &Key, context: &Context) -> Resu
 
 // The row is held at the place.
 pub fn holding(alloc: Global, place: Place, row: &Row) -> Result<Step, Fault>
-    ensures { IfOk result (λ step. step ≡ Hold place.holder place.home row.now) }
+    ensures { IfOk result (λ step. step ≡ Hold place row.now) }
 {
     let row = row.try_clone(alloc)?;
-    let Place { holder, home } = place;
-    Ok(Step::Hold { holder, home, row })
+    Ok(Step::Hold { place, row })
 }
 
 // The dot is given up at the place.
 pub fn releasing(alloc: Global, place: Place, key: &Key, dot: Dot) -> Result<Step, Fault>
-    ensures { IfOk result (λ step. step ≡ Release place.holder place.home key.now dot) }
+    ensures { IfOk result (λ step. step ≡ Release place key.now dot) }
 {
     let key = key.try_clone(alloc)?;
-    let Place { holder, home } = place;
-    Ok(Step::Release {
-        holder,
-        home,
-        key,
-        dot,
-    })
+    Ok(Step::Release { place, key, dot })
 }
 
 // The row of the key at the place is answered.
 pub fn fetching(alloc: Global, place: Place, key: &Key) -> Result<Step, Fault>
-    ensures { IfOk result (λ step. step ≡ Fetch place.holder place.home key.now) }
+    ensures { IfOk result (λ step. step ≡ Fetch place key.now) }
 {
     let key = key.try_clone(alloc)?;
-    let Place { holder, home } = place;
-    Ok(Step::Fetch { holder, home, key })
+    Ok(Step::Fetch { place, key })
 }
 
 // The put is told that w homes have its version.
@@ -104,23 +96,11 @@ pub fn copied(alloc: Global, step: &Step) -> Result<Step, Fault>
             context,
             value,
         } => making_of(alloc, *node, key, context, value),
-        Step::Hold { holder, home, row } => holding(alloc, at(*holder, *home), row),
-        Step::Release {
-            holder,
-            home,
-            key,
-            dot,
-        } => releasing(alloc, at(*holder, *home), key, *dot),
-        Step::Fetch { holder, home, key } => fetching(alloc, at(*holder, *home), key),
+        Step::Hold { place, row } => holding(alloc, *place, row),
+        Step::Release { place, key, dot } => releasing(alloc, *place, key, *dot),
+        Step::Fetch { place, key } => fetching(alloc, *place, key),
         Step::Ack { key, dot, w } => acking(alloc, key, *dot, *w),
     }
-}
-
-// The holder, with the home.
-fn at(holder: NodeId, home: NodeId) -> Place
-    ensures { result ≡ record { holder = holder; home = home } }
-{
-    Place { holder, home }
 }
 
 // A list of this step alone.

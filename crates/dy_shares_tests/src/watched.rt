@@ -5,7 +5,7 @@ ghost use Rattle.dy_core.specs.Logs.{with_step, world_after};
 ghost use Rattle.dy_core.specs.Steps.{IsAllowed, row_answered};
 ghost use Rattle.dy_siblings.specs.Siblings.{IsSameRow};
 ghost use Rattle.dy_shares.specs.Shares.{
-  IsAck,
+  IsAckBy,
   MayFollow,
   empty_account,
   node_of,
@@ -15,6 +15,8 @@ ghost use Rattle.dy_shares.specs.Shares.{
   with_entries,
 };
 
+use crate::acks::both_acked;
+use crate::pairs::Pair;
 use crate::steps::{acking, alone, copied, fetching, holding, making, releasing, row_of};
 use dy_core::{Place, Step, World};
 use dy_dots::{Context, Dot, Fault, NodeId};
@@ -57,7 +59,7 @@ pub fn place_of<J: Naming>(receipt: &Receipt<J>) -> Place
 }
 
 // The world has the step too.
-fn applied(alloc: Global, world: &mut World, step: &Step) -> Result<(), Fault>
+pub fn applied(alloc: Global, world: &mut World, step: &Step) -> Result<(), Fault>
     requires { IsAllowed (layout_of world.old.ring world.old.n)
         (world_after world.old.steps) step.now }
     ensures { OnOk result (world.new ≡ with_step world.old step.now) }
@@ -84,32 +86,12 @@ fn made_in_log<J: Naming>(
     ledger.node_steps(share, steps)
 }
 
-// The ack is made in the world and in the log.
-fn both_acked<J: Naming>(
-    alloc: Global,
-    world: &mut World,
-    ledger: &mut Ledger<J>,
-    share: &mut SessionShare<J>,
-    step: &Step,
-) -> Result<(), Fault>
-    requires ack { IsAck step.now }
-    requires allowed { MayFollow J.ring J.n ledger.old.log (step.now ∷ []) }
-    requires of_log { world.old
-        ≡ record { ring = J.ring; n = J.n; steps = steps_of ledger.old.log } }
-    ensures { OnOk result (world.new
-        ≡ record { ring = J.ring; n = J.n; steps = steps_of ledger.new.log }) }
-{
-    applied(alloc, world, step)?;
-    let copy = copied(alloc, step)?;
-    ledger.ack_step(share, copy)
-}
-
 // What the world answers at the place.
 fn answered(alloc: Global, world: &mut World, place: Place, key: &Key) -> Result<Row, Fault>
     ensures log { OnOk result
-        (world.new ≡ with_step world.old (Fetch place.holder place.home key.now)) }
+        (world.new ≡ with_step world.old (Fetch place key.now)) }
     ensures row { IfOk result (λ row. IsSameRow row.versions (row_answered
-        (world_after world.old.steps) (Fetch place.holder place.home key.now))) }
+        (world_after world.old.steps) (Fetch place key.now))) }
     ensures key { IfOk result (λ row. row.key ≡ key.now) }
 {
     let step = fetching(alloc, place, key)?;
@@ -124,7 +106,7 @@ fn logged<J: Naming>(
     key: &Key,
 ) -> Result<(), Fault>
     ensures { OnOk result (ledger.new
-        ≡ with_entries ledger.old (untold (Fetch place.holder place.home key.now) ∷ [])) }
+        ≡ with_entries ledger.old (untold (Fetch place key.now) ∷ [])) }
 {
     let step = fetching(alloc, place, key)?;
     ledger.fetch_step(step)
@@ -272,15 +254,23 @@ impl<J: Naming> Watched<J> {
         alloc: Global,
         share: &mut SessionShare<J>,
         step: &Step,
+        receipts: &Vec<Receipt<J>>,
     ) -> Result<bool, Fault>
-        requires ack { IsAck step.now }
+        requires ack { IsAckBy receipts.now.items step.now }
         requires allowed { MayFollow J.ring J.n self.old.log (step.now ∷ []) }
     {
         if !self.is_whole {
             return Ok(false);
         }
         self.is_whole = false;
-        both_acked(alloc, &mut self.world, &mut self.ledger, share, step)?;
+        both_acked(
+            alloc,
+            &mut self.world,
+            &mut self.ledger,
+            share,
+            step,
+            receipts,
+        )?;
         self.is_whole = true;
         Ok(true)
     }
@@ -291,27 +281,26 @@ impl<J: Naming> Watched<J> {
         alloc: Global,
         share: &mut SessionShare<J>,
         step: &Step,
+        receipts: &Vec<Receipt<J>>,
     ) -> Result<bool, Fault>
-        requires { IsAck step.now }
+        requires { IsAckBy receipts.now.items step.now }
     {
         match self.allows(alloc, step) {
-            Ok(true) => self.told_step(alloc, share, step),
+            Ok(true) => self.told_step(alloc, share, step, receipts),
             Ok(false) => Ok(false),
             Err(fault) => Err(fault),
         }
     }
 
-    // The same with the parts of an ack.
+    // The same with the two receipts that are spent for it.
     pub fn ack(
         &mut self,
         alloc: Global,
         share: &mut SessionShare<J>,
-        key: &Key,
-        dot: Dot,
-        w: u8,
+        pair: &Pair<J>,
     ) -> Result<bool, Fault> {
-        let step = acking(alloc, key, dot, w)?;
-        self.ack_step(alloc, share, &step)
+        let step = acking(alloc, &pair.key, pair.dot, 2)?;
+        self.ack_step(alloc, share, &step, &pair.receipts)
     }
 
     // What is answered at the place.

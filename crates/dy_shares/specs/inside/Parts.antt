@@ -10,7 +10,8 @@ use Rattle.dy_shares.specs.declared.entries.Entry.{Entry}
 use Rattle.dy_shares.specs.contracts.entries.Done as done
 use Rattle.dy_shares.specs.declared.entries.Done.{Done}
 use Rattle.dy_shares.specs.Shares.{names, node_of, ack_at, steps_of, since_of, Account, AckTold}
-use Rattle.dy_shares.specs.Shares.{GetTold, NodePart, SessionPart, GetMatches, AreLater, AreOwned}
+use Rattle.dy_shares.specs.Shares.{GetTold, NodePart, ReceiptParts, SessionPart, GetMatches}
+use Rattle.dy_shares.specs.Shares.{AreInTurn, AreOwned, AreSpent}
 use Rattle.dy_core.specs.Worlds.{Layout}
 use Rattle.dy_core.specs.Logs.{IsLegal}
 
@@ -91,28 +92,32 @@ pub record AgreesAsNode (parts : List (List Done)) (p : NodePart) : Type 0 where
   pub seat_has : get_elem? parts p.node ≡ some part
   pub steps_are : p.steps ≡ done_steps part
 
--- a session's share agrees with its seat of the roll, and its gets match the log
+-- a session's share agrees with its seat of the roll, its receipts were spent for its acks, and its
+-- gets match the log
 pub record AgreesAsSession (nodes r : ℕ) (parts : List (List Done)) (log : List Entry)
     (s : SessionPart) : Type 0 where
   pub part : List Done
   pub seat_has : get_elem? parts (nodes + s.session) ≡ some part
   pub acks_are : s.acks ≡ done_acks part
+  pub spent_are : AreSpent (steps_of log) s.acks s.spent
   pub gets_match : All (GetMatches (steps_of log) r) s.gets
-  pub gets_later : AreLater s.acks [] s.gets
+  pub in_turn : AreInTurn s.acks [] s.gets
 
--- what a session was told, by its part of the roll and its gets
-abbrev pub told_parts : ℕ → List Done → List GetTold → SessionPart
-told_parts session part gets = record { session = session; acks = done_acks part; gets = gets }
+-- what a session was told, by its part of the roll, what was spent, and its gets
+abbrev pub told_parts : ℕ → List Done → List (List ReceiptParts) → List GetTold → SessionPart
+told_parts session part spent gets =
+    record { session = session; acks = done_acks part; spent = spent; gets = gets }
 
--- a session's share as it is kept: its seat, its since, and a front at which each get was seen to
--- match the log
+-- a session's share as it is kept: its seat, its since, and a front at which receipts were seen to
+-- be spent for each ack, and each get to match the log
 pub record IsSessionShare (nodes r index since : ℕ) (front : List Entry) (s : SessionPart)
     : Type 0 where
   pub seat_is : index ≡ nodes + s.session
   pub since_is : since ≡ since_of s
   pub reached : since ≤ length front
+  pub spent_are : AreSpent (steps_of front) s.acks s.spent
   pub gets_match : All (GetMatches (steps_of front) r) s.gets
-  pub gets_later : AreLater s.acks [] s.gets
+  pub in_turn : AreInTurn s.acks [] s.gets
 
 -- a ledger as it is kept: its stored steps are those of the log, its roll has the log's parts, each
 -- entry is somebody's, and the log is legal

@@ -1,6 +1,8 @@
 -- The ack has the last number of the log, so it is later than all that the session was told.
-use Rattle.std.proofs.Common.{◌≡◌, ℕ, ◌+◌, max, List, [], ◌∷◌, ◌++◌, Some, length, length-append, arith, rules, sym, ap, ◌∙◌, subst}
-use Rattle.dy_shares.specs.Shares.{Account, AckTold, SessionPart, SessionStays, told_to, with_ack, with_entries}
+use Rattle.std.proofs.Common.{◌≡◌, ℕ, ◌+◌, max, List, [], ◌∷◌, ◌++◌, Some, length, arith, rules, sym, ap, ◌∙◌, subst}
+use Rattle.std.proofs.lemmas.List.{append_assoc}
+use mathlib.Core.List.{IsPrefix}
+use Rattle.dy_shares.specs.Shares.{Account, AckTold, ReceiptParts, SessionPart, SessionStays, ack_at, told_to, with_ack, with_entries}
 use Rattle.dy_shares.specs.inside.Parts.{Held, IsSessionShare, done_acks, entries_of, numbered}
 use Rattle.dy_shares.proofs.Fronts.{prefix_length}
 use Rattle.dy_shares.proofs.Owners.{steps_of-length}
@@ -19,7 +21,8 @@ invariant_of-share-2 g c =
     let step = c.args.step in
     let log = c.args.self.now.log in
     let at : ℕ = length log + 1 in
-    let old : SessionPart = record { session = s.number; acks = done_acks s.share.part; gets = s.gets.items } in
+    let old : SessionPart = record { session = s.number; acks = done_acks s.share.part; spent = s.spent.items; gets = s.gets.items } in
+    let receipts = c.args.receipts.now.items in
     let items : c.in_ok-steps.steps.items ≡ step ∷ [] = search rules in
     let same : c.learn.new.self ≡ c.args.self.now.log = search rules in
     let index : c.append.new.share.index ≡ s.share.index = ap (λ (h : Held). h.index) c.in_ok-append.ensures.share in
@@ -33,13 +36,20 @@ invariant_of-share-2 g c =
     let latest : c.max-share-inside.result ≡ max s.since (c.len-number.result + 1) = search rules in
     let told : c.append.new.self ≡ with_entries c.args.self.now (entries_of (Some c.args.share.now.session) (step ∷ [])) = search rules in
     let front : c.front.result ≡ c.append.new.self.log = search rules in
-    let long : length c.front.result ≡ at = ap length front ∙ (ap (λ (a : Account). length a.log) told ∙ length-append log (told_to c.args.share.now.session step ∷ [])) in
-    let own = prefix_length s.front c.join-2.new.self c.join-2.ensures.own in
+    let entry = told_to c.args.share.now.session step in
+    let more = c.join-2.ensures.other.0 in
+    let long : log ++ entry ∷ more ≡ c.join-2.new.self =
+    sym (append_assoc log (entry ∷ []) more) ∙ (ap (λ xs. xs ++ more) (sym (front ∙ ap (λ (a : Account). a.log) told)) ∙ c.join-2.ensures.other.1) in
     let before = prefix_length s.front c.self.inside.chronicle c.learn.ensures.begins in
-    let whole = prefix_length c.front.result c.join-2.new.self c.join-2.ensures.other in
-    let acked = session_acked nodes r s.share.index s.since c.max-share-inside.result at s.front c.join-2.new.self old step i c.requires.ack (latest ∙ ap (max s.since) number) c.join-2.ensures.own (omega (arith, own, i.reached)) (omega (arith, whole, long)) (omega (arith, before, i.reached, ap length chronicle)) in
-    subst (λ k. IsSessionShare nodes r k c.max-share-inside.result c.join-2.new.self (record { session = s.number; acks = done_acks c.append.new.share.part; gets = s.gets.items })) (sym index)
-    (subst (λ (xs : List AckTold). IsSessionShare nodes r s.share.index c.max-share-inside.result c.join-2.new.self (record { session = s.number; acks = xs; gets = s.gets.items })) (sym acks) acked)
+    let begins = subst (λ xs. IsPrefix s.front xs) (sym long) c.join-2.ensures.own in
+    let pushed : c.push_reserved.new.self.items ≡ s.spent.items ++ receipts ∷ [] = search rules in
+    let latest_is = latest ∙ ap (max s.since) number in
+    let acked = session_acked nodes r s.share.index s.since c.max-share-inside.result s.front log (entry ∷ more) old step receipts i c.requires.ack latest_is begins (omega arith) (omega (arith, before, i.reached, ap length chronicle)) c.requires.hold in
+    let told_as : List AckTold → List (List ReceiptParts) → SessionPart = λ xs rs. record { session = s.number; acks = xs; spent = rs; gets = s.gets.items } in
+    subst (λ k. IsSessionShare nodes r k c.max-share-inside.result c.join-2.new.self (told_as (done_acks c.append.new.share.part) c.push_reserved.new.self.items)) (sym index)
+    (subst (λ xs. IsSessionShare nodes r s.share.index c.max-share-inside.result c.join-2.new.self (told_as xs c.push_reserved.new.self.items)) (sym acks)
+    (subst (λ rs. IsSessionShare nodes r s.share.index c.max-share-inside.result c.join-2.new.self (told_as (old.acks ++ ack_at at step) rs)) (sym pushed)
+    (subst (λ xs. IsSessionShare nodes r s.share.index c.max-share-inside.result xs (with_ack old at step receipts)) long acked)))
 
 -- the share has the ack more
 pub returns-clause-share : goal.returns-clause-share
@@ -53,8 +63,12 @@ returns-clause-share g c =
     ap (λ (h : Held). h.part) c.in_ok-append.ensures.share
     ∙ (ap (λ xs. s.share.part ++ numbered (length c.learn.new.self + 1) xs) items
     ∙ ap (λ l. s.share.part ++ numbered (length l + 1) (step ∷ [])) same) in
-    ap (λ (xs : List AckTold). record { session = s.number; acks = xs; gets = s.gets.items }) (acks_grown s.share.part c.append.new.share.part at step part)
-    ∙ ap (λ q. with_ack q at step) (c.share.view_is ∙ c.agree_session.ensures.share)
+    let receipts = c.args.receipts.now.items in
+    let pushed : c.push_reserved.new.self.items ≡ s.spent.items ++ receipts ∷ [] = search rules in
+    let told_as : List AckTold → List (List ReceiptParts) → SessionPart = λ xs rs. record { session = s.number; acks = xs; spent = rs; gets = s.gets.items } in
+    ap (λ xs. told_as xs c.push_reserved.new.self.items) (acks_grown s.share.part c.append.new.share.part at step part)
+    ∙ (ap (told_as (done_acks s.share.part ++ ack_at at step)) pushed
+    ∙ ap (λ q. with_ack q at step receipts) (c.share.view_is ∙ c.agree_session.ensures.share))
 
 -- no other session was told
 pub returns-clause-sessions : goal.returns-clause-sessions

@@ -1,8 +1,8 @@
 use Rattle.std.proofs.Common.{◌≡◌, refl, subst}
 use mathlib.Core.Option.{some}
 use lib.ListN.{get_elem?}
-use Rattle.dy_shares.specs.inside.Parts.{AgreesAsSession}
-use Rattle.dy_shares.proofs.Later.{gets_later}
+use Rattle.dy_shares.specs.inside.Parts.{AgreesAsSession, done_acks}
+use Rattle.dy_shares.proofs.Later.{gets_later, spents_later}
 use Rattle.dy_shares.proofs.session_shares.SessionShare.end.Goals as goal
 
 -- the seat of the roll has the share's part, and what matched at the front matches now
@@ -15,6 +15,7 @@ returns-clause-agrees g c =
       part = s.share.part;
       seat_has = subst (λ k. get_elem? c.args.roll.now k ≡ some s.share.part) i.seat_is c.end.ensures.agree;
       acks_are = refl;
+      spent_are = spents_later s.front c.args.chronicle.now (done_acks s.share.part) s.spent.items c.learn.ensures.begins i.spent_are;
       gets_match = gets_later s.front c.args.chronicle.now g.J.Naming.r s.gets.items c.learn.ensures.begins i.gets_match;
-      gets_later = i.gets_later;
+      in_turn = i.in_turn;
     })

@@ -1,9 +1,9 @@
-use Rattle.std.proofs.Common.{◌≡◌, ◌<◌, List, [], ◌∷◌, ◌++◌, map, max, rules, sym, ap, ◌∙◌, subst}
+use Rattle.std.proofs.Common.{◌≡◌, ℕ, ◌<◌, List, [], ◌∷◌, ◌++◌, length, map, max, rules, sym, ap, ◌∙◌, subst}
 use Rattle.std.specs.List.{All}
 use Rattle.dy_core.specs.Logs.{IsAnswer}
 use Rattle.dy_shares.specs.inside.Parts.{IsSessionShare, done_acks}
-use Rattle.dy_shares.specs.Shares.{GetTold, SessionPart, greatest, since_of, steps_of}
-use Rattle.dy_shares.proofs.Sessions.{session_got}
+use Rattle.dy_shares.specs.Shares.{GetTold, SessionPart, greatest, since_of, steps_of, with_get}
+use Rattle.dy_shares.proofs.Sessions.{session_got, spent_each}
 use Rattle.dy_shares.proofs.session_shares.SessionShare.note_get.Goals as goal
 
 -- the get matches at the new front, as those before it do
@@ -12,7 +12,8 @@ invariant_of-self-2 g c =
     let s = c.self.inside in
     let i = c.self.invariant in
     let nodes = g.J.Naming.ring.nodes in
-    let part : SessionPart = record { session = s.number; acks = done_acks s.share.part; gets = s.gets.items } in
+    let part : SessionPart = record { session = s.number; acks = done_acks s.share.part; spent = s.spent.items; gets = s.gets.items } in
+    let acks : length s.spent.items ≡ length part.acks = spent_each (steps_of s.front) part.acks s.spent.items i.spent_are in
     let seens = c.args.seens.items in
     let l = c.learn_all-self-inside in
     let lent = c.as_slice.ensures.value in
@@ -20,5 +21,29 @@ invariant_of-self-2 g c =
     let since : l.result ≡ max s.since (greatest (map (λ a. a.at) seens)) = l.ensures.since ∙ ap (λ xs. max s.since (greatest (map (λ a. a.at) xs))) lent in
     let later = subst (λ (p : SessionPart). All (λ a. since_of p < a.at) seens) (sym c.self.view_is) c.requires.later in
     let got = session_got nodes g.J.Naming.r s.share.index s.since l.result s.front l.new.front part seens i l.ensures.front are since l.ensures.reached c.requires.count c.requires.one_key c.requires.homes later in
-    let pushed : c.push_reserved.new.self.items ≡ s.gets.items ++ record { since = since_of part; answers = seens } ∷ [] = c.push_reserved.ensures.items ∙ (ap (λ gs. gs ++ record { since = s.since; answers = seens } ∷ []) (search rules) ∙ ap (λ n. s.gets.items ++ record { since = n; answers = seens } ∷ []) i.since_is) in
-    subst (λ (gs : List GetTold). IsSessionShare nodes g.J.Naming.r s.share.index l.result l.new.front (record { session = s.number; acks = done_acks s.share.part; gets = gs })) (sym pushed) got
+    let len : c.len-acks.result ≡ length s.spent.items = search rules in
+    let told : ℕ → ℕ → GetTold = λ since acks. record { since = since; answers = seens; acks = acks } in
+    let pushed : c.push_reserved.new.self.items ≡ s.gets.items ++ told (since_of part) (length part.acks) ∷ [] =
+    c.push_reserved.ensures.items
+    ∙ (ap (λ gs. gs ++ told s.since c.len-acks.result ∷ []) (search rules)
+    ∙ (ap (λ n. s.gets.items ++ told n c.len-acks.result ∷ []) i.since_is
+    ∙ ap (λ n. s.gets.items ++ told (since_of part) n ∷ []) (len ∙ acks))) in
+    subst (λ (gs : List GetTold). IsSessionShare nodes g.J.Naming.r s.share.index l.result l.new.front (record { session = s.number; acks = done_acks s.share.part; spent = s.spent.items; gets = gs })) (sym pushed) got
+
+-- it stands behind as many acks as the session was told so far
+pub returns-clause-ok : goal.returns-clause-ok
+returns-clause-ok g c =
+    let s = c.self.inside in
+    let i = c.self.invariant in
+    let part : SessionPart = record { session = s.number; acks = done_acks s.share.part; spent = s.spent.items; gets = s.gets.items } in
+    let acks : length s.spent.items ≡ length part.acks = spent_each (steps_of s.front) part.acks s.spent.items i.spent_are in
+    let seens = c.args.seens.items in
+    let len : c.len-acks.result ≡ length s.spent.items = search rules in
+    let told : ℕ → ℕ → GetTold = λ since acks. record { since = since; answers = seens; acks = acks } in
+    let pushed : c.push_reserved.new.self.items ≡ s.gets.items ++ told (since_of part) (length part.acks) ∷ [] =
+    c.push_reserved.ensures.items
+    ∙ (ap (λ gs. gs ++ told s.since c.len-acks.result ∷ []) (search rules)
+    ∙ (ap (λ n. s.gets.items ++ told n c.len-acks.result ∷ []) i.since_is
+    ∙ ap (λ n. s.gets.items ++ told (since_of part) n ∷ []) (len ∙ acks))) in
+    let with_gets : List GetTold → SessionPart = λ gs. record { session = s.number; acks = done_acks s.share.part; spent = s.spent.items; gets = gs } in
+    ap with_gets pushed ∙ ap (λ p. with_get p (since_of p) seens) c.self.view_is
