@@ -24,7 +24,7 @@ use Rattle.dy_shares.specs.declared.entries.Entry.{Entry}
 use Rattle.dy_shares.specs.Shares.{steps_of, untold, told_to, ReceiptParts, receipt_parts}
 use Rattle.dy_shares.specs.Shares.{IsReceipt}
 use Rattle.dy_shares.proofs.Owners.{steps_of-append}
-use Rattle.dy_core.specs.Steps.{IsAllowed, world_after_step}
+use Rattle.dy_core.specs.Steps.{IsAllowed, world_after_step, place_for}
 use Rattle.dy_core.specs.Covers.{HasCover, receipt_holds}
 use Rattle.dy_core.specs.declared.places.Place.{Place}
 use Rattle.dy_siblings.proofs.Members.{Mapped, map_from, not_in_nil, in_cases}
@@ -151,14 +151,14 @@ module _ (ring : Tokens) (n r : ℕ) (own : Tokens) (log : List Entry) (options 
         (k : List ℕ) → k ≡ row.key → (p : KeyPart) (fs : List (List ℕ × KeyPart)) →
         ((q : List ℕ) → part_at fs q ≡ cond (is_at (slice_cmp nat_cmp k) q) (Some p) (part_at es q))
         →
-        (log2 : List Entry) → log2 ≡ log ++ map untold (Hold holder home row ∷ []) →
+        (log2 : List Entry) → log2 ≡ log ++ map untold (Hold (place_for holder home) row ∷ []) →
         IsPart (world_after (steps_of log2)) row.key (Some p) →
         IsBook ring n r own log2 options versions fs
     hold_book room k key_is p fs written log2 log_is here =
         let layout = layout_of ring n in
-        let count = length-append log (map untold (Hold holder home row ∷ [])) in
+        let count = length-append log (map untold (Hold (place_for holder home) row ∷ [])) in
         subst (λ (l : List Entry). IsBook ring n r own l options versions fs) (sym log_is)
-        (book_goes (log ++ map untold (Hold holder home row ∷ [])) versions fs
+        (book_goes (log ++ map untold (Hold (place_for holder home) row ∷ [])) versions fs
         (hold_legal layout log book.legal holder home row of_row may)
         (omega (arith, count, room)) book.versions_few
         (book.versions_are ∙ sym
@@ -170,17 +170,17 @@ module _ (ring : Tokens) (n r : ℕ) (own : Tokens) (log : List Entry) (options 
         book.index))
 
     -- its receipts
-    pub hold_receipts : (log2 : List Entry) → log2 ≡ log ++ map untold (Hold holder home row ∷ []) →
-        (m : ℕ) → m ≡ holder →
+    pub hold_receipts : (log2 : List Entry) →
+        log2 ≡ log ++ map untold (Hold (place_for holder home) row ∷ []) → (m : ℕ) → m ≡ holder →
         All (λ v. IsReceipt (steps_of log2) (receipt_parts row.key v.dot m home)) row.versions
     hold_receipts log2 log_is m holder_is =
         subst (λ (l : List Entry). All
         (λ v. IsReceipt (steps_of l) (receipt_parts row.key v.dot m home)) row.versions)
         (sym log_is)
-        (subst (λ o. All (λ v. IsReceipt (steps_of (log ++ map untold (Hold holder home row ∷ [])))
-        (receipt_parts row.key v.dot o home)) row.versions) (sym holder_is)
-        (all_from (λ v. IsReceipt (steps_of (log ++ map untold (Hold holder home row ∷ [])))
-        (receipt_parts row.key v.dot holder home)) row.versions (λ v inside.
+        (subst (λ o. All (λ v. IsReceipt
+        (steps_of (log ++ map untold (Hold (place_for holder home) row ∷ []))) (receipt_parts row.key v.dot o home)) row.versions) (sym holder_is)
+        (all_from (λ v. IsReceipt
+        (steps_of (log ++ map untold (Hold (place_for holder home) row ∷ []))) (receipt_parts row.key v.dot holder home)) row.versions (λ v inside.
         hold_covers (layout_of ring n) log book.legal holder home row of_row may v inside)))
 
   -- after a step that changes no version and nothing that is held
@@ -194,10 +194,10 @@ module _ (ring : Tokens) (n r : ℕ) (own : Tokens) (log : List Entry) (options 
       (subst (λ x. IsIndex x es) (sym world_is) index)
 
   pub fetch_book : (holder home : ℕ) (key : List ℕ) → length log + 1 ≤ options.steps_limit →
-      (log2 : List Entry) → log2 ≡ log ++ untold (Fetch holder home key) ∷ [] →
+      (log2 : List Entry) → log2 ≡ log ++ untold (Fetch (place_for holder home) key) ∷ [] →
       IsBook ring n r own log2 options versions es
   fetch_book holder home key room log2 log_is =
-      let s = Fetch holder home key in
+      let s = Fetch (place_for holder home) key in
       let count = length-append log (untold s ∷ []) in
       subst (λ (l : List Entry). IsBook ring n r own l options versions es) (sym log_is)
       (quiet_book (world_after (steps_of log)) (log ++ untold s ∷ [])
@@ -255,10 +255,10 @@ pub receipts_cover : (layout : Layout) (steps : List Step) → IsLegal layout st
     (key : List ℕ) (d : Dot) (rs : List ReceiptParts) →
     All (IsReceipt steps) rs → AreOf key d rs → IsDistinct nat_eq (map (λ r. r.home) rs) →
     IsDistinct nat_eq (map (λ r. r.holder) rs) →
-    HasCover (world_after steps) key d (length rs)
+    HasCover layout (world_after steps) key d (length rs)
 unfolding place_of_receipt
 receipts_cover layout steps legal key d rs hold of homes holders =
-    subst (HasCover (world_after steps) key d) (count_same rs)
+    subst (HasCover layout (world_after steps) key d) (count_same rs)
     (cover_from_receipts layout (world_after steps) (log_sound layout steps legal) key d
     (map place_of_receipt rs)
     (all_from (λ p. receipt_holds (world_after steps) key d p.holder p.home ≡ true)

@@ -1,6 +1,7 @@
 -- What an audit's lists say of the world.
 use Rattle.std.proofs.Common.{◌≡◌, ℕ, ◌↔◌, List, [], ◌∷◌, ◌++◌, map, fold, Option, refl, sym, ap}
-use Rattle.std.proofs.Common.{◌∙◌, subst, ⊎_elim}
+use Rattle.std.proofs.Common.{◌∙◌, subst, ◌⊎◌, inl, ⊎_elim}
+use Rattle.std.specs.Prelude.{Result, Ok, Err, IfErr}
 use Rattle.std.specs.List.{All, Contains}
 use Rattle.std.proofs.lemmas.Bool.{and_parts, and_from}
 use Rattle.dy_siblings.specs.Versions.{in_history}
@@ -56,9 +57,9 @@ step_listed : (w : World) (ys : List Acked) → ((a : Acked) → Contains ys a �
     (s : Step) (a : Acked) →
     Contains (ack_added ys s) a ↔ Contains (world_after_step w s).acks a
 step_listed w ys same (Issue node key context value) a = same a
-step_listed w ys same (Hold holder home row) a = same a
-step_listed w ys same (Release holder home key d) a = same a
-step_listed w ys same (Fetch holder home key) a = same a
+step_listed w ys same (Hold p row) a = same a
+step_listed w ys same (Release p key d) a = same a
+step_listed w ys same (Fetch p key) a = same a
 step_listed w ys same (Ack key d n) a =
     ack_more w.acks ys same (record { key = key; dot = d; w = n }) a
 
@@ -158,3 +159,15 @@ pub acks_go : (xs : List AckedAt) (x : AckedAt) (rest : List Acked) →
     (λ (y : AckedAt). y.ack) xs ++ x.ack ∷ rest
 acks_go [] x rest = refl
 acks_go (y ∷ xs) x rest = ap (λ zs. y.ack ∷ zs) (acks_go xs x rest)
+
+-- where both are so, each is so exactly where the other is
+pub if_refused : {T E : Type 0} (r : Result T E) (A : E → Type 0) (B : Type 0) →
+    IfErr r (λ e. A e × B) → IfErr r (λ e. A e ↔ B)
+if_refused (Ok x) A B h = tt
+if_refused (Err e) A B h = ((λ same. h.1), (λ missing. h.0))
+
+-- and the first is so, or whatever else
+pub if_first : {T E : Type 0} (r : Result T E) (A C : E → Type 0) (B : Type 0) →
+    IfErr r (λ e. A e × B) → IfErr r (λ e. A e ⊎ C e)
+if_first (Ok x) A C B h = tt
+if_first (Err e) A C B h = inl h.0

@@ -20,7 +20,7 @@ use Rattle.dy_siblings.specs.declared.versions.Version.{Version}
 use Rattle.dy_preference.specs.Preferences.{may_hold}
 use Rattle.dy_core.specs.Worlds.{Layout, World, AreMadeOf, empty_world, row_at}
 use Rattle.dy_core.specs.Covers.{ReceiptHolds, covers_at}
-use Rattle.dy_core.specs.Steps.{IsAllowed, version_made, after_issue, after_hold}
+use Rattle.dy_core.specs.Steps.{IsAllowed, version_made, after_issue, after_hold, place_for}
 use Rattle.dy_core.specs.Logs.{world_from, world_after, IsLegal, IsLegalFrom}
 use Rattle.dy_core.specs.inside.Meanings.{row_in}
 use Rattle.dy_core.specs.Orders.{holding_cmp, put}
@@ -172,24 +172,26 @@ module _ (layout : Layout) (log : List Entry) (legal : IsLegal layout (steps_of 
     (holder home : ℕ) (row : Siblings)
     (of_row : AreMadeOf (world_after (steps_of log)) row.key row.versions)
     (may : IsTrue (may_hold (layout.homes row.key) holder home)) where
-  pub hold_allowed : IsLegalFrom layout (world_after (steps_of log)) (Hold holder home row ∷ [])
+  pub hold_allowed : IsLegalFrom layout (world_after (steps_of log))
+      (Hold (place_for holder home) row ∷ [])
   hold_allowed = ((may, of_row), tt)
 
-  pub hold_legal : IsLegal layout (steps_of (log ++ map untold (Hold holder home row ∷ [])))
-  hold_legal = legal_grown layout log (Hold holder home row ∷ []) legal hold_allowed
+  pub hold_legal : IsLegal layout
+      (steps_of (log ++ map untold (Hold (place_for holder home) row ∷ [])))
+  hold_legal = legal_grown layout log (Hold (place_for holder home) row ∷ []) legal hold_allowed
 
   pub hold_world : world_after
-      (steps_of (log ++ map untold (Hold holder home row ∷ []))) ≡ after_hold
+      (steps_of (log ++ map untold (Hold (place_for holder home) row ∷ []))) ≡ after_hold
       (world_after (steps_of log)) holder home row
-  hold_world = world_grown log (Hold holder home row ∷ [])
+  hold_world = world_grown log (Hold (place_for holder home) row ∷ [])
 
   pub hold_part : (old new : KeyPart) → IsPart (world_after (steps_of log)) row.key (Some old) →
       HaveSameMade new.made.items old.made.items →
       (c : Holding) → c.holder ≡ holder → c.home ≡ home → c.row.key ≡ row.key →
       IsSameRow c.row.versions (merge (row_in old.places.items holder home row.key) row.versions) →
       new.places.items ≡ put holding_cmp old.places.items c →
-      IsPart (world_after (steps_of (log ++ map untold (Hold holder home row ∷ [])))) row.key
-      (Some new)
+      IsPart (world_after (steps_of (log ++ map untold (Hold (place_for holder home) row ∷ []))))
+      row.key (Some new)
   hold_part old new are same c holder_is home_is key_is merged placed =
       subst (λ x. IsPart x row.key (Some new)) (sym hold_world)
       (subst (λ hs. AreOfKey (after_hold (world_after (steps_of log)) holder home row) row.key
@@ -212,28 +214,29 @@ module _ (layout : Layout) (log : List Entry) (legal : IsLegal layout (steps_of 
   pub hold_index : (es fs : List (List ℕ × KeyPart)) (p : KeyPart) →
       ((q : List ℕ) → part_at fs q ≡ cond (is_at (slice_cmp nat_cmp row.key) q) (Some p)
       (part_at es q)) →
-      IsPart (world_after (steps_of (log ++ map untold (Hold holder home row ∷ [])))) row.key
-      (Some p) →
+      IsPart (world_after (steps_of (log ++ map untold (Hold (place_for holder home) row ∷ []))))
+      row.key (Some p) →
       IsIndex (world_after (steps_of log)) es →
-      IsIndex (world_after (steps_of (log ++ map untold (Hold holder home row ∷ [])))) fs
+      IsIndex (world_after (steps_of (log ++ map untold (Hold (place_for holder home) row ∷ []))))
+      fs
   hold_index es fs p written here index =
       index_written (world_after (steps_of log))
-      (world_after (steps_of (log ++ map untold (Hold holder home row ∷ [])))) es fs row.key p
-      written here
+      (world_after (steps_of (log ++ map untold (Hold (place_for holder home) row ∷ []))))
+      es fs row.key p written here
       (λ q apart made places are. subst (λ x. AreOfKey x q made places) (sym hold_world)
       (hold_other layout (world_after (steps_of log))
       (log_sound layout (steps_of log) legal) holder home row q apart made places are))
       index
 
   pub hold_versions : (world_after
-      (steps_of (log ++ map untold (Hold holder home row ∷ [])))).versions
+      (steps_of (log ++ map untold (Hold (place_for holder home) row ∷ [])))).versions
       ≡ (world_after (steps_of log)).versions
   hold_versions = ap (λ x. x.versions) hold_world
 
   -- each version that came is covered there
   pub hold_covers : (v : Version) → Contains row.versions v →
-      ReceiptHolds (world_after (steps_of (log ++ map untold (Hold holder home row ∷ [])))) row.key
-      v.dot holder home
+      ReceiptHolds (world_after (steps_of (log ++ map untold (Hold (place_for holder home) row ∷ []))))
+      row.key v.dot holder home
   hold_covers v inside =
       subst (λ x. ReceiptHolds x row.key v.dot holder home) (sym hold_world)
       (covers_held layout (world_after (steps_of log))

@@ -178,9 +178,9 @@ step_counted : (layout : Layout) (w : World) → IsSound layout w →
     (s : Step) → IsAllowed layout w s → AllCounted w → AllCounted (world_after_step w s)
 step_counted layout w sound (Issue node key context value) a counted =
     issue_counted w counted node key context value
-step_counted layout w sound (Hold holder home row) a counted = counted
-step_counted layout w sound (Release holder home key d) a counted = counted
-step_counted layout w sound (Fetch holder home key) a counted = counted
+step_counted layout w sound (Hold p row) a counted = counted
+step_counted layout w sound (Release p key d) a counted = counted
+step_counted layout w sound (Fetch p key) a counted = counted
 step_counted layout w sound (Ack key d n) a counted = counted
 
 pub log_counted : (layout : Layout) (ss : List Step) → IsLegal layout ss →

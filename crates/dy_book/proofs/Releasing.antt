@@ -23,7 +23,7 @@ use Rattle.dy_siblings.specs.declared.versions.Version.{Version}
 use Rattle.dy_ring.specs.Rings.{Tokens}
 use Rattle.dy_core.specs.Worlds.{Layout, World, layout_of, row_at}
 use Rattle.dy_core.specs.Covers.{covers_at}
-use Rattle.dy_core.specs.Steps.{same_place, after_release}
+use Rattle.dy_core.specs.Steps.{same_place, after_release, place_for}
 use Rattle.dy_core.specs.Logs.{world_from, world_after, IsLegalFrom}
 use Rattle.dy_core.specs.inside.Meanings.{is_at, row_in}
 use Rattle.dy_core.specs.Orders.{holding_cmp}
@@ -305,7 +305,8 @@ releases_follow layout steps node rs each once hold =
 pub of_node : (node : ℕ) (rs : List ReceiptParts) →
     All (λ s. node_of s ≡ Some node) (release_steps node rs)
 of_node node rs = all_from (λ s. node_of s ≡ Some node) (release_steps node rs) (λ s inside.
-    let m = map_from (λ (r : ReceiptParts). Release node r.home r.key r.dot) rs s inside in
+    let m = map_from (λ (r : ReceiptParts). Release (place_for node r.home) r.key r.dot)
+    rs s inside in
     subst (λ x. node_of x ≡ Some node) m.gives refl)
 
 same_versions : (node : ℕ) (rs : List ReceiptParts) (w : World) →
@@ -322,19 +323,21 @@ count_steps node (r ∷ rs) = ap suc (count_steps node rs)
 pub steps_more : (node : ℕ) (rs : List ReceiptParts) (i : ℕ) (r : ReceiptParts) →
     get_or rs i r ≡ r → take (i + 1) rs ≡ take i rs ++ get_or rs i r ∷ [] →
     release_steps node (take (i + 1) rs) ≡ release_steps node
-    (take i rs) ++ Release node r.home r.key r.dot ∷ []
+    (take i rs) ++ Release (place_for node r.home) r.key r.dot ∷ []
 steps_more node rs i r is more =
     ap (release_steps node) (more ∙ ap (λ x. take i rs ++ x ∷ []) is)
-    ∙ map-append (λ (x : ReceiptParts). Release node x.home x.key x.dot) (take i rs) (r ∷ [])
+    ∙ map-append (λ (x : ReceiptParts). Release (place_for node x.home) x.key x.dot)
+    (take i rs) (r ∷ [])
 
 pub world_more : (node : ℕ) (rs : List ReceiptParts) (i : ℕ) (r : ReceiptParts) →
     release_steps node (take (i + 1) rs) ≡ release_steps node
-    (take i rs) ++ Release node r.home r.key r.dot ∷ [] →
+    (take i rs) ++ Release (place_for node r.home) r.key r.dot ∷ [] →
     (w : World) → world_from w (release_steps node (take (i + 1) rs)) ≡ after_release
     (world_from w (release_steps node (take i rs))) node r.home r.key r.dot
 world_more node rs i r more w =
     ap (world_from w) more
-    ∙ world_from-append w (release_steps node (take i rs)) (Release node r.home r.key r.dot ∷ [])
+    ∙ world_from-append w (release_steps node (take i rs))
+    (Release (place_for node r.home) r.key r.dot ∷ [])
 
 -- ---- the book
 

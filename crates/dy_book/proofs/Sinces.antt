@@ -1,9 +1,10 @@
 -- What a session was told is in the log, so its since is no more than the steps of the log.
-use Rattle.std.proofs.Common.{◌≡◌, ℕ, Bool, true, false, ◌+◌, ◌-◌, ◌≤◌, max, List, [], ◌∷◌, length, map, ap, ◌∙◌, if◌then◌else◌, arith}
+use Rattle.std.proofs.Common.{ℕ, Bool, true, false, ◌+◌, ◌-◌, ◌≤◌, List, [], ◌∷◌, length, map, ap, ◌∙◌, if◌then◌else◌, arith}
 use Rattle.std.specs.List.{All}
 use Rattle.std.proofs.lemmas.List.{map-append}
 use Rattle.std.proofs.lemmas.List.Elements.{All-head, All-tail}
 use Rattle.std.proofs.lemmas.Option.{slice_get_within}
+use Rattle.dy_core.specs.Steps.{place_for}
 use Rattle.dy_core.specs.Logs.{Answer, IsAnswer}
 use Rattle.dy_core.specs.declared.steps.Step.{Step}
 use Rattle.dy_core.specs.declared.steps.Step.TheVariants.{Issue, Hold, Release, Fetch, Ack}
@@ -15,9 +16,9 @@ use Rattle.dy_shares.proofs.Sessions.{greatest-append}
 
 ack_within : (at : ℕ) (s : Step) → greatest (map (λ a. a.at) (ack_at at s)) ≤ at
 ack_within at (Issue n key context value) = omega arith
-ack_within at (Hold n home row) = omega arith
-ack_within at (Release n home key d) = omega arith
-ack_within at (Fetch n home key) = omega arith
+ack_within at (Hold p row) = omega arith
+ack_within at (Release p key d) = omega arith
+ack_within at (Fetch p key) = omega arith
 ack_within at (Ack key d w) = omega arith
 
 told_within : (b : Bool) (at : ℕ) (s : Step) → greatest (map (λ a. a.at) (if b then ack_at at s else [])) ≤ at
@@ -36,7 +37,7 @@ row_within : (steps : List Step) (answers : List Answer) → All (IsAnswer steps
 row_within steps [] are = omega arith
 row_within steps (a ∷ answers) are =
     let first = All-head (IsAnswer steps) a answers are in
-    omega (arith, first.from_one, slice_get_within steps (a.at - 1) (Fetch a.holder a.home a.key) first.is_fetch, row_within steps answers (All-tail (IsAnswer steps) a answers are))
+    omega (arith, first.from_one, slice_get_within steps (a.at - 1) (Fetch (place_for a.holder a.home) a.key) first.is_fetch, row_within steps answers (All-tail (IsAnswer steps) a answers are))
 
 gets_within : (steps : List Step) (r : ℕ) (gets : List GetTold) → All (GetMatches steps r) gets → greatest (answer_numbers gets) ≤ length steps
 gets_within steps r [] match = omega arith

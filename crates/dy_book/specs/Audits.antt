@@ -4,7 +4,7 @@ use Rattle.std.specs.List.{All, Contains}
 use Rattle.dy_dots.specs.declared.dots.Dot.{Dot}
 use Rattle.dy_siblings.specs.declared.versions.Version.{Version}
 use Rattle.dy_ring.specs.Rings.{Tokens}
-use Rattle.dy_core.specs.Worlds.{World}
+use Rattle.dy_core.specs.Worlds.{World, layout_of}
 use Rattle.dy_core.specs.Covers.{AcksAreCovered}
 use Rattle.dy_core.specs.Listings.{ListsHoldings, ListsAcks, ListsCovers, ListsSettled}
 use Rattle.dy_core.specs.declared.acks.Acked.{Acked}
@@ -58,15 +58,18 @@ abbrev pub IsTold : List SessionPart → Acked → Type 0
 IsTold tellings x =
     (s : SessionPart) × Contains tellings s × ((t : AckTold) × Contains s.acks t × IsAckOf t x)
 
+-- the audit lists the ack
+abbrev pub ListsAck : Audit → Acked → Type 0
+ListsAck a x = Contains (map (λ y. y.ack) a.acked.items) x
+
 -- the shares are all that were given out; the audit tells what the book has; what is held is what
 -- the nodes' shares show, and what is acknowledged is what the sessions were told; and each ack has
 -- its cover
-pub record IsAuditOf (ring : Tokens) (r : ℕ) (b : BookParts) (parts : List NodePart)
+pub record IsAuditOf (ring : Tokens) (n r : ℕ) (b : BookParts) (parts : List NodePart)
     (tellings : List SessionPart) (a : Audit) : Type 0 where
   pub all : AreAll ring.nodes r (account_of b) parts tellings
   pub tells : Tells b tellings a
   pub held_shown : (holder home : ℕ) (key : List ℕ) (d : Dot) →
       TellsHeld a.held.items holder home key d ↔ IsShown parts holder home key d
-  pub acked_told : (x : Acked) →
-      Contains (map (λ y. y.ack) a.acked.items) x ↔ IsTold tellings x
-  pub covered : AcksAreCovered (world_of b)
+  pub acked_told : (x : Acked) → ListsAck a x ↔ IsTold tellings x
+  pub covered : AcksAreCovered (layout_of ring n) (world_of b)

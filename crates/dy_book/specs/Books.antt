@@ -8,7 +8,7 @@ use Rattle.dy_dots.specs.declared.dots.Dot.{Dot}
 use Rattle.dy_siblings.specs.Siblings.{Siblings}
 use Rattle.dy_siblings.specs.declared.versions.Version.{Version}
 use Rattle.dy_core.specs.Worlds.{World}
-use Rattle.dy_core.specs.Steps.{IsKnown, version_made}
+use Rattle.dy_core.specs.Steps.{IsKnown, version_made, place_for}
 use Rattle.dy_core.specs.Logs.{world_after}
 use Rattle.dy_core.specs.declared.steps.Step.{Step}
 use Rattle.dy_core.specs.declared.steps.Step.TheVariants.{Issue, Hold, Release}
@@ -78,7 +78,8 @@ row_alone v = record { key = v.key; versions = v ∷ [] }
 
 -- the issue of a version, and the hold of it alone; the issue names the whole past
 abbrev pub issue_steps : ℕ → ℕ → Version → List Step
-issue_steps node home v = Issue node v.key v.past v.value ∷ Hold node home (row_alone v) ∷ []
+issue_steps node home v =
+    Issue node v.key v.past v.value ∷ Hold (place_for node home) (row_alone v) ∷ []
 
 -- the receipts of the versions of a row, in their order
 abbrev pub receipts_of : List Version → ℕ → ℕ → List ReceiptParts
@@ -125,7 +126,7 @@ AreOfDistinctDots (r ∷ rs) = All (λ s. AreOneDot r s → ⊥) rs × AreOfDist
 
 -- a node gives up the dot of each receipt
 abbrev pub release_steps : ℕ → List ReceiptParts → List Step
-release_steps node receipts = map (λ r. Release node r.home r.key r.dot) receipts
+release_steps node receipts = map (λ r. Release (place_for node r.home) r.key r.dot) receipts
 
 -- the receipts are of this key and dot
 abbrev pub AreOf : List ℕ → Dot → List ReceiptParts → Type 0

@@ -21,19 +21,20 @@ impl<J: Naming> Book<J> {
         &mut self,
         share: &mut SessionShare<J>,
         w: u8,
-        receipts: &[Receipt<J>],
+        receipts: &Vec<Receipt<J>>,
     ) -> Result<(), Fault>
         requires some { 1 ≤ w }
         requires few { w ≤ J.n }
-        requires count { length receipts.now ≡ w }
-        requires one_dot { (key : List ℕ) × (d : DotParts) × AreOf key d receipts.now }
-        requires homes { IsDistinct nat_eq (map (λ r. r.home) receipts.now) }
-        requires holders { IsDistinct nat_eq (map (λ r. r.holder) receipts.now) }
-        ensures log { (key : List ℕ) (d : DotParts) → AreOf key d receipts.now →
+        requires count { length receipts.now.items ≡ w }
+        requires one_dot { (key : List ℕ) × (d : DotParts) × AreOf key d receipts.now.items }
+        requires homes { IsDistinct nat_eq (map (λ r. r.home) receipts.now.items) }
+        requires holders { IsDistinct nat_eq (map (λ r. r.holder) receipts.now.items) }
+        ensures log { (key : List ℕ) (d : DotParts) → AreOf key d receipts.now.items →
             OnOk result (self.new ≡
             with_entries self.old (told_to share.old.session (Ack key d w) ∷ [])) }
-        ensures share { (key : List ℕ) (d : DotParts) → AreOf key d receipts.now →
-            OnOk result (share.new ≡ with_ack share.old (length self.old.log + 1) (Ack key d w)) }
+        ensures share { (key : List ℕ) (d : DotParts) → AreOf key d receipts.now.items →
+            OnOk result (share.new
+            ≡ with_ack share.old (length self.old.log + 1) (Ack key d w) receipts.now.items) }
         ensures later { since_of share.old ≤ length self.old.log }
         ensures steps_full { IsErrOf result Fault.StepsFull ↔ LacksRoom self.old 1 }
         ensures only { IfErr result (λ fault.
@@ -53,8 +54,9 @@ impl<J: Naming> Book<J> {
         };
         let dot = first.dot();
         let key = first.key().try_clone(self.alloc)?;
-        self.ledger.learn_receipts(receipts);
-        self.ledger.ack_step(share, Step::Ack { key, dot, w })?;
+        self.ledger.learn_receipts(receipts.as_slice());
+        self.ledger
+            .ack_step(share, Step::Ack { key, dot, w }, receipts)?;
         Ok(())
     }
 }

@@ -158,7 +158,7 @@ impl<J: Naming> Book<J> {
     /// Whenever the book's lock is free, each acknowledged put has its w distinct homes covered, on
     /// as many distinct nodes, by its version or by one that causally follows it. Takes no memory.
     pub fn acks_are_covered(&self)
-        ensures { AcksAreCovered (world_of self.now) }
+        ensures { AcksAreCovered (layout_of J.ring J.n) (world_of self.now) }
     {
         let _alloc = &self.alloc;
     }

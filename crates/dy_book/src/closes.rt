@@ -144,7 +144,7 @@ impl<J: Naming> Book<J> {
         ensures memory { IsOkUnless result Fault.OutOfMemory }
     {
         let listed = held_of(self.alloc, &self.keys)?;
-        let held = lists::ordered(self.alloc, listed)?;
+        let held = lists::ordered(listed)?;
         Ok(held)
     }
 
@@ -169,7 +169,7 @@ impl<J: Naming> Book<J> {
         ensures memory { IsOkUnless result Fault.OutOfMemory }
     {
         let told = acks_of(self.alloc, self.ledger.steps())?;
-        let acks = lists::ordered(self.alloc, told)?;
+        let acks = lists::ordered(told)?;
         let acked = self.with_places(acks)?;
         Ok(acked)
     }
@@ -209,7 +209,7 @@ impl<J: Naming> Book<J> {
         sessions: Vec<SessionShare<J>>,
     ) -> Result<Audit, CloseRefused<J>>
         ensures exact { IfOk result
-            (λ audit. IsAuditOf J.ring J.r self nodes.items sessions.items audit) }
+            (λ audit. IsAuditOf J.ring J.n J.r self nodes.items sessions.items audit) }
         ensures shares_missing { IfErr result (λ refused. (refused.fault ≡ Fault.SharesMissing)
             ↔ IsMissing J.ring.nodes self.sessions nodes.items sessions.items) }
         ensures missing { IsMissing J.ring.nodes self.sessions nodes.items sessions.items →
@@ -228,17 +228,33 @@ impl<J: Naming> Book<J> {
                 sessions,
             });
         }
-        let audit = match self.audit(sessions.as_slice()) {
-            Ok(audit) => audit,
-            Err(fault) => {
-                return Err(CloseRefused {
-                    fault,
-                    book: self,
-                    nodes,
-                    sessions,
-                });
-            }
-        };
+        match self.audit(sessions.as_slice()) {
+            Ok(audit) => self.end_with(audit, nodes, sessions),
+            Err(fault) => Err(CloseRefused {
+                fault,
+                book: self,
+                nodes,
+                sessions,
+            }),
+        }
+    }
+
+    // Ends the ledger, and then gives the audit that tells what the book has.
+    fn end_with(
+        self,
+        audit: Audit,
+        nodes: Vec<NodeShare<J>>,
+        sessions: Vec<SessionShare<J>>,
+    ) -> Result<Audit, CloseRefused<J>>
+        requires tells { Tells self sessions.items audit }
+        ensures exact { IfOk result
+            (λ audit. IsAuditOf J.ring J.n J.r self nodes.items sessions.items audit) }
+        ensures shares_missing { IfErr result (λ refused. (refused.fault ≡ Fault.SharesMissing)
+            × IsMissing J.ring.nodes self.sessions nodes.items sessions.items) }
+        ensures book_back { IfErr result (λ refused. refused.book ≡ self) }
+        ensures nodes_back { IfErr result (λ refused. refused.nodes.items ≡ nodes.items) }
+        ensures sessions_back { IfErr result (λ refused. refused.sessions.items ≡ sessions.items) }
+    {
         let Book {
             alloc,
             ring,
@@ -252,27 +268,25 @@ impl<J: Naming> Book<J> {
                 shares_say_all();
                 Ok(audit)
             }
-            Err(refused) => {
-                let EndRefused {
+            Err(
+                EndRefused {
                     ledger,
                     nodes,
                     sessions,
-                } = refused;
-                let book = Book {
+                },
+            ) => Err(CloseRefused {
+                fault: Fault::SharesMissing,
+                book: Book {
                     alloc,
                     ring,
                     options,
                     ledger,
                     versions,
                     keys,
-                };
-                Err(CloseRefused {
-                    fault: Fault::SharesMissing,
-                    book,
-                    nodes,
-                    sessions,
-                })
-            }
+                },
+                nodes,
+                sessions,
+            }),
         }
     }
 }

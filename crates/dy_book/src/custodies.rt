@@ -1,8 +1,6 @@
 // What is held of one key, place by place.
-ghost use Rattle.std.specs.Prelude.{◌≡◌, ◌≢◌, ◌<◌, ◌≤◌, ◌++◌, length, take, drop, map, [], vec_len};
-ghost use Rattle.std.specs.Prelude.{vec_capacity, slice_index_or, IfOk, OnOk, IsOkUnless};
-ghost use Rattle.std.specs.Prelude.{MatchOption};
-ghost use Rattle.std.specs.declared.cmp.Ordering.{Ordering};
+ghost use Rattle.std.specs.Prelude.{◌≡◌, ◌<◌, ◌++◌, map, [], vec_len, vec_capacity, IfOk, OnOk};
+ghost use Rattle.std.specs.Prelude.{IsOkUnless, MatchOption};
 ghost use Rattle.dy_core.specs.Orders.{holding_cmp, place_cmp, put};
 ghost use Rattle.dy_core.specs.inside.Meanings.{gathered, is_covering, place_of, row_in};
 ghost use Rattle.std.specs.List.{list_any};
@@ -10,8 +8,7 @@ ghost use Rattle.dy_siblings.specs.Siblings.{AreOneByDot, IsSameRow, merge};
 ghost use Rattle.dy_book.specs.inside.Lists.{is_hint_here, listed_from, released};
 ghost use Rattle.dy_book.specs.Books.{DotsRise};
 
-use crate::lists;
-use dy_core::{Holding, Place};
+use dy_core::{Holding, Place, Ranked};
 use dy_dots::{Dot, Fault, NodeId};
 use dy_siblings::{Key, Row, Version};
 use std::alloc::Global;
@@ -132,11 +129,14 @@ impl Custody {
             self.dots.retain(|other| *other != dot);
         }
     }
+}
 
-    // By holder, then by home, then by key.
-    fn rank(&self, other: &Custody) -> Ordering
-        ensures { result ≡ holding_cmp self.now other.now }
-    {
+impl Ranked for Custody {
+    ghost use Rattle.dy_core.specs.Orders.{holding_cmp};
+
+    ghost ranked = { holding_cmp };
+
+    fn rank(&self, other: &Custody) -> Ordering {
         self.holder
             .cmp(&other.holder)
             .then(self.home.cmp(&other.home))
@@ -209,54 +209,21 @@ pub(crate) fn merged_at(
     }
 }
 
-// How many custodies come before this one.
-fn place_in(list: &[Custody], item: &Custody) -> usize
-    ensures bound { result ≤ length list.now }
-    ensures before { put holding_cmp list.now item.now ≡
-        take result list.now ++ put holding_cmp (drop result list.now) item.now }
-    ensures stop { result < length list.now →
-        holding_cmp item.now (slice_index_or list.now result item.now) ≢ Ordering.Greater }
-{
-    let mut at = 0;
-    for other in list {
-        if item.rank(other) != Ordering::Greater {
-            return at;
-        }
-        at += 1;
-    }
-    at
-}
-
 // Puts the custody in its place, instead of one at the same place. There is room.
 pub(crate) fn put(list: &mut Vec<Custody>, item: Custody)
     requires { vec_len list.old < vec_capacity list.old }
     ensures { list.new.items ≡ put holding_cmp list.old.items item }
 {
-    let at = place_in(list.as_slice(), &item);
-    if at >= list.len() {
-        let inserted = list.insert(at, item);
-        prove!(inserted.is_ok());
-        return;
-    }
-    if item.rank(&list[at]) == Ordering::Equal {
-        list[at] = item;
-        return;
-    }
-    let inserted = list.insert(at, item);
-    prove!(inserted.is_ok());
+    dy_core::put_reserved(list, item);
 }
 
 // The dots at the place, rising.
-pub(crate) fn dots_at<'a>(
-    places: &'a [Custody],
-    holder: NodeId,
-    home: NodeId,
-    key: &Key,
-) -> &'a [Dot]
-    ensures value { result.now ≡ map (λ v. v.dot) (row_in places.now holder home key.now) }
+pub(crate) fn dots_at<'a>(places: &'a [Custody], place: Place, key: &Key) -> &'a [Dot]
+    ensures value { result.now ≡
+        map (λ v. v.dot) (row_in places.now place.holder place.home key.now) }
     ensures rise { DotsRise result.now }
 {
-    match find(places, holder, home, key) {
+    match find(places, place.holder, place.home, key) {
         Some(custody) => custody.dots(),
         None => &[],
     }
@@ -276,7 +243,7 @@ pub(crate) fn covering(
     let mut places = Vec::new(alloc);
     for custody in custodies {
         if custody.is_covering(key, dot) {
-            lists::put(&mut places, custody.place())?;
+            dy_core::put(&mut places, custody.place())?;
         }
     }
     Ok(places)

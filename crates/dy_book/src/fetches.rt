@@ -3,6 +3,7 @@ ghost use Rattle.std.specs.Prelude.{◌≡◌, ◌+◌, ◌<◌, ◌↔◌, ◌�
 ghost use Rattle.std.specs.Prelude.{OnOk, OnErr, IsErrOf, IsOkUnless, MatchOption};
 ghost use Rattle.dy_siblings.specs.Siblings.{IsSameRow};
 ghost use Rattle.dy_core.specs.Worlds.{row_at};
+ghost use Rattle.dy_core.specs.Steps.{place_for};
 ghost use Rattle.dy_core.specs.declared.steps.Step.TheVariants.{Fetch};
 ghost use Rattle.dy_shares.specs.Shares.{NodeStays, SessionStays};
 ghost use Rattle.dy_book.specs.Books.{HasRoom, LacksRoom, ListsDots, with_untold, world_of};
@@ -50,7 +51,7 @@ impl<J: Naming> Book<J> {
         since: &Since<J>,
     ) -> Result<Seen<J>, Fault>
         ensures log { OnOk result
-            (self.new ≡ with_untold self.old (Fetch share.now.node home key.now ∷ [])) }
+            (self.new ≡ with_untold self.old (Fetch (place_for share.now.node home) key.now ∷ [])) }
         ensures at { IfOk result (λ seen. seen.at ≡ length self.old.log + 1) }
         ensures later { IfOk result (λ seen. since.now < seen.at) }
         ensures holder { IfOk result (λ seen. seen.holder ≡ share.now.node) }
@@ -77,7 +78,7 @@ impl<J: Naming> Book<J> {
     fn fetch_at(&mut self, holder: NodeId, home: NodeId, key: &Key) -> Result<Seen<J>, Fault>
         requires { HasRoom self.old 1 }
         ensures log { OnOk result
-            (self.new ≡ with_untold self.old (Fetch holder home key.now ∷ [])) }
+            (self.new ≡ with_untold self.old (Fetch (place_for holder home) key.now ∷ [])) }
         ensures at { IfOk result (λ seen. seen.at ≡ length self.old.log + 1) }
         ensures holder { IfOk result (λ seen. seen.holder ≡ holder) }
         ensures home { IfOk result (λ seen. seen.home ≡ home) }
@@ -89,16 +90,16 @@ impl<J: Naming> Book<J> {
         ensures nodes { (node : ℕ) → NodeStays self.old.log self.new.log node }
         ensures sessions { (session : ℕ) → SessionStays self.old.log self.new.log session }
     {
+        let place = Place { holder, home };
         let row = self.row_copy(holder, home, key)?;
         let of_seen = key.try_clone(self.alloc)?;
         let step = Step::Fetch {
-            holder,
-            home,
+            place,
             key: key.try_clone(self.alloc)?,
         };
         self.ledger.fetch_step(step)?;
         let at = self.ledger.steps().len();
-        Ok(self.ledger.seen(at, Place { holder, home }, of_seen, row))
+        Ok(self.ledger.seen(at, place, of_seen, row))
     }
 
     /// The dots held there, rising. Takes no memory.
@@ -107,7 +108,7 @@ impl<J: Naming> Book<J> {
     {
         let _alloc = &self.alloc;
         match self.part(key) {
-            Some(part) => custodies::dots_at(part.places.as_slice(), place.holder, place.home, key),
+            Some(part) => custodies::dots_at(part.places.as_slice(), place, key),
             None => &[],
         }
     }

@@ -8,7 +8,7 @@ ghost use Rattle.dy_dots.specs.declared.dots.TheConstants.{MAX_COUNTER};
 ghost use Rattle.dy_siblings.specs.Siblings.{AreOneByDot, IsSameRow, merge};
 ghost use Rattle.dy_preference.specs.Preferences.{homes_of, may_hold};
 ghost use Rattle.dy_core.specs.Worlds.{AreMadeOf, layout_of, World};
-ghost use Rattle.dy_core.specs.Steps.{version_made};
+ghost use Rattle.dy_core.specs.Steps.{version_made, place_for};
 ghost use Rattle.dy_core.specs.Logs.{IsLegal, world_after};
 ghost use Rattle.dy_core.specs.inside.Meanings.{row_in};
 ghost use Rattle.dy_core.specs.declared.steps.Step.TheVariants.{Issue, Hold};
@@ -49,8 +49,7 @@ fn steps_of_issue(
         value,
     };
     let hold = Step::Hold {
-        holder: node,
-        home,
+        place: Place { holder: node, home },
         row: Row::of(alloc, version.try_clone(alloc)?)?,
     };
     let mut steps = Vec::with_capacity(alloc, 2)?;
@@ -61,12 +60,11 @@ fn steps_of_issue(
 
 // The hold of the row.
 fn steps_of_hold(alloc: Global, holder: NodeId, home: NodeId, row: &Row) -> Result<Vec<Step>, Fault>
-    ensures ok { IfOk result (λ steps. steps.items ≡ Hold holder home row.now ∷ []) }
+    ensures ok { IfOk result (λ steps. steps.items ≡ Hold (place_for holder home) row.now ∷ []) }
     ensures memory { IsOkUnless result Fault.OutOfMemory }
 {
     let hold = Step::Hold {
-        holder,
-        home,
+        place: Place { holder, home },
         row: row.try_clone(alloc)?,
     };
     let mut steps = Vec::with_capacity(alloc, 1)?;
@@ -126,7 +124,7 @@ fn hold_in<J: Naming>(
         (may_hold (homes_of J.ring J.n row.now.key) share.old.node home) }
     requires made { AreMadeOf (world_after (steps_of ledger.old.log)) row.now.key
         row.now.versions }
-    requires steps { steps.items ≡ Hold share.old.node home row.now ∷ [] }
+    requires steps { steps.items ≡ Hold (place_for share.old.node home) row.now ∷ [] }
     ensures log { OnOk result (ledger.new ≡ with_entries ledger.old (map untold steps.items)) }
     ensures share { OnOk result (share.new ≡ with_steps share.old steps.items) }
     ensures err { OnErr result ((ledger.new ≡ ledger.old) × (share.new ≡ share.old)) }
@@ -273,9 +271,11 @@ impl<J: Naming> Book<J> {
         requires may_hold { IsTrue
             (may_hold (homes_of J.ring J.n incoming.now.key) share.old.node home) }
         ensures log { OnOk result
-            (self.new ≡ with_untold self.old (Hold share.old.node home incoming.now ∷ [])) }
+            (self.new ≡ with_untold self.old
+            (Hold (place_for share.old.node home) incoming.now ∷ [])) }
         ensures share { OnOk result
-            (share.new ≡ with_steps share.old (Hold share.old.node home incoming.now ∷ [])) }
+            (share.new ≡ with_steps share.old
+            (Hold (place_for share.old.node home) incoming.now ∷ [])) }
         ensures receipts { IfOk result (λ receipts.
             receipts.items ≡ receipts_of incoming.now.versions share.old.node home) }
         ensures not_issued { (d : DotParts) → IsErrOf result (Fault.NotIssued d)
@@ -320,9 +320,11 @@ impl<J: Naming> Book<J> {
         requires made { AreMadeOf (world_of self.old) incoming.now.key incoming.now.versions }
         requires room { HasRoom self.old 1 }
         ensures log { OnOk result
-            (self.new ≡ with_untold self.old (Hold share.old.node home incoming.now ∷ [])) }
+            (self.new ≡ with_untold self.old
+            (Hold (place_for share.old.node home) incoming.now ∷ [])) }
         ensures share { OnOk result
-            (share.new ≡ with_steps share.old (Hold share.old.node home incoming.now ∷ [])) }
+            (share.new ≡ with_steps share.old
+            (Hold (place_for share.old.node home) incoming.now ∷ [])) }
         ensures receipts { IfOk result (λ receipts.
             receipts.items ≡ receipts_of incoming.now.versions share.old.node home) }
         ensures memory { IsOkUnless result Fault.OutOfMemory }

@@ -13,7 +13,7 @@ ghost use Rattle.dy_book.specs.inside.Indexes.{IsIndex};
 use crate::books::Book;
 use crate::custodies;
 use crate::parts::KeyPart;
-use dy_core::Step;
+use dy_core::{Place, Step};
 use dy_dots::{Fault, NodeId};
 use dy_shares::{Naming, NodeShare, Receipt};
 use dy_siblings::Key;
@@ -32,9 +32,9 @@ fn steps_of_release<J: Naming>(
     let mut steps = Vec::with_capacity(alloc, receipts.len())?;
     for receipt in receipts {
         let key = receipt.key().try_clone(alloc)?;
+        let home = receipt.home();
         steps.push(Step::Release {
-            holder,
-            home: receipt.home(),
+            place: Place { holder, home },
             key,
             dot: receipt.dot(),
         })?;

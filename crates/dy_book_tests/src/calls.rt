@@ -142,7 +142,7 @@ pub fn acknowledge<J: Naming>(
         return Err(Fault::Down);
     }
     let receipts = alone(alloc, receipt)?;
-    book.ack(session, 1, receipts.as_slice())
+    book.ack(session, 1, &receipts)
 }
 
 // Whether the answers are of two homes.

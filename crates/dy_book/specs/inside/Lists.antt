@@ -61,9 +61,9 @@ pub record IsInOrder {X : Type 0} (cmp : X → X → Ordering) (items list : Lis
 -- the list with the step at its end, where it is an ack
 abbrev pub ack_added : List Acked → Step → List Acked
 ack_added acks (Issue node key context value) = acks
-ack_added acks (Hold holder home row) = acks
-ack_added acks (Release holder home key d) = acks
-ack_added acks (Fetch holder home key) = acks
+ack_added acks (Hold p row) = acks
+ack_added acks (Release p key d) = acks
+ack_added acks (Fetch p key) = acks
 ack_added acks (Ack key d w) = acks ++ record { key = key; dot = d; w = w } ∷ []
 
 -- whether there is a version

@@ -3,6 +3,7 @@ use Rattle.std.proofs.Common.{◌≡◌, ◌++◌, ◌∷◌, [], ◌+◌, List,
 use Rattle.std.proofs.Common.{subst}
 use Rattle.dy_siblings.specs.Siblings.{IsSameRow}
 use Rattle.dy_core.specs.Worlds.{row_at}
+use Rattle.dy_core.specs.Steps.{place_for}
 use Rattle.dy_core.specs.Logs.{Answer, IsAnswer}
 use Rattle.dy_core.specs.declared.steps.Step.TheVariants.{Fetch}
 use Rattle.dy_shares.specs.declared.entries.Entry.{Entry}
@@ -25,9 +26,9 @@ pub invariant_of-self-2 : goal.invariant_of-self-2
 invariant_of-self-2 g c =
     let b = c.self.inside in
     let log_is : c.fetch_step.new.self.log ≡ b.ledger.log ++ untold
-    (Fetch c.args.holder c.args.home c.args.key.now) ∷ [] =
+    (Fetch (place_for c.args.holder c.args.home) c.args.key.now) ∷ [] =
     ap (λ a. a.log) c.in_ok-fetch_step.ensures.log
-    ∙ ap (λ k. b.ledger.log ++ untold (Fetch c.args.holder c.args.home k) ∷ [])
+    ∙ ap (λ k. b.ledger.log ++ untold (Fetch (place_for c.args.holder c.args.home) k) ∷ [])
     c.in_ok-try_clone.ensures.value in
     let room = subst (λ s. HasRoom s 1) (sym c.self.view_is) c.requires in
     fetch_book g.J.Naming.ring g.J.Naming.n g.J.Naming.r b.ring b.ledger.log b.options b.versions
@@ -42,10 +43,11 @@ seen-requires-clause-is g c =
     let home = c.args.home in
     let key = c.args.key.now in
     let row = c.in_ok-row.row in
-    let e = untold (Fetch holder home key) in
+    let e = untold (Fetch (place_for holder home) key) in
     let log_is : c.fetch_step.new.self.log ≡ log ++ e ∷ [] =
     ap (λ a. a.log) c.in_ok-fetch_step.ensures.log
-    ∙ ap (λ k. log ++ untold (Fetch holder home k) ∷ []) c.in_ok-try_clone.ensures.value in
+    ∙ ap (λ k. log ++ untold (Fetch (place_for holder home) k) ∷ [])
+    c.in_ok-try_clone.ensures.value in
     let is = subst (λ s. IsSameRow row.versions (row_at (world_of s) holder home key))
     (sym c.self.view_is) c.in_ok-row.ensures.row in
     let here = answers_last log holder home key row.versions is in

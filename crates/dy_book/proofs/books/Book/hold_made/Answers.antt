@@ -4,6 +4,7 @@
 use Rattle.std.proofs.Common.{◌++◌, ◌∷◌, [], map, Some, IsSome, refl, sym, ap, ◌∙◌, subst}
 use Rattle.std.specs.Option.{option_copied_mut}
 use Rattle.dy_core.specs.Worlds.{AreMadeOf}
+use Rattle.dy_core.specs.Steps.{place_for}
 use Rattle.dy_core.specs.Logs.{world_after}
 use Rattle.dy_core.specs.declared.steps.Step.TheVariants.{Hold}
 use Rattle.dy_shares.specs.Shares.{steps_of, untold}
@@ -31,7 +32,7 @@ hold_in-requires-clause-made g c =
 pub hold_in-requires-clause-steps : goal.hold_in-requires-clause-steps
 hold_in-requires-clause-steps g c =
     c.in_ok-steps.ensures.ok
-    ∙ ap (λ m. Hold m c.args.home c.args.incoming.now ∷ []) c.requires.holder
+    ∙ ap (λ m. Hold (place_for m c.args.home) c.args.incoming.now ∷ []) c.requires.holder
 
 pub invariant_of-self-in_err-hold_in-in-Some : goal.invariant_of-self-in_err-hold_in-in-Some
 invariant_of-self-in_err-hold_in-in-Some g c =
@@ -56,7 +57,7 @@ give_receipts-requires-clause-held g c =
     let made = subst (λ s. AreMadeOf (world_of s) row.key row.versions)
     (sym c.self.view_is) c.requires.made in
     let steps_are = c.in_ok-steps.ensures.ok
-    ∙ ap (λ m. Hold m c.args.home row ∷ []) c.requires.holder in
+    ∙ ap (λ m. Hold (place_for m c.args.home) row ∷ []) c.requires.holder in
     let log_is = ap (λ a. a.log) c.in_ok-hold_in-in-Some.ensures.log
     ∙ (λ i. b.ledger.log ++ map untold (steps_are i)) in
     hold_receipts g.J.Naming.ring g.J.Naming.n g.J.Naming.r b.ring b.ledger.log b.options b.versions
@@ -75,7 +76,7 @@ invariant_of-self-2 g c =
     (sym c.self.view_is) c.requires.made in
     let room = subst (λ s. HasRoom s 1) (sym c.self.view_is) c.requires.room in
     let steps_are = c.in_ok-steps.ensures.ok
-    ∙ ap (λ m. Hold m c.args.home row ∷ []) c.requires.holder in
+    ∙ ap (λ m. Hold (place_for m c.args.home) row ∷ []) c.requires.holder in
     let log_is = ap (λ a. a.log) c.in_ok-hold_in-in-Some.ensures.log
     ∙ (λ i. b.ledger.log ++ map untold (steps_are i)) in
     let present = subst IsSome (sym (ap option_copied_mut c.in-Some.is) ∙ c.get_mut.ensures.value)
