@@ -1,25 +1,25 @@
 -- A hint that a node keeps is held in the world, so its home is one of its row's key.
-use Rattle.std.proofs.Common.{◌≡◌, ◌≢◌, ℕ, ◌<◌, ◌==◌, Bool, true, false, ◌&&◌, ◌||◌, not, cond}
-use Rattle.std.proofs.Common.{List, [], ◌∷◌, length, map, Bor, Option, None, Some, refl, sym, ap, ◌∙◌, subst, arith}
+use Rattle.std.proofs.Common.{◌≡◌, ℕ, ◌<◌, ◌==◌, Bool, true, false, ◌&&◌, ◌||◌, not, cond}
+use Rattle.std.proofs.Common.{List, [], ◌∷◌, length, map, Bor, None, Some, refl, sym, ap, ◌∙◌, subst, arith}
 use Rattle.std.specs.List.{All, Contains}
 use Rattle.std.specs.FinMap as maps
-use Rattle.std.proofs.lemmas.Bool.{and_from, eqb-true, eq-eqb, cases_Bool}
+use Rattle.std.proofs.lemmas.Bool.{eqb-true, eq-eqb}
 use Rattle.std.proofs.lemmas.List.Elements.{All-map, All-weaker}
 use Rattle.dy_siblings.specs.Siblings.{Siblings}
 use Rattle.dy_siblings.specs.declared.versions.Version.{Version}
 use Rattle.dy_siblings.proofs.Members.{in_head}
 use Rattle.dy_hint_store.specs.Hints.{IsHint, shown}
 use Rattle.dy_preference.specs.Preferences.{is_home, may_hold}
-use Rattle.dy_core.specs.Worlds.{Layout, row_at}
+use Rattle.dy_core.specs.Worlds.{Layout}
 use Rattle.dy_core.proofs.OverLogs.{log_sound}
 use Rattle.dy_core.proofs.Standing.{stands_from}
 use Rattle.dy_shares.specs.Shares.{NodePart, steps_of}
 use Rattle.dy_book.specs.Books.{BookParts, world_of}
 use Rattle.dy_node.specs.Stored.{Rooms, Stored, Shows, versions_at}
 use Rattle.dy_node.specs.inside.Agreed.{IsAgreed}
-use Rattle.dy_node.specs.inside.Placing.{IsHintOf, row_kept}
+use Rattle.dy_node.specs.inside.Placing.{IsHintOf}
 use Rattle.dy_node.proofs.RoomLemmas.{found_versions}
-use Rattle.dy_node.proofs.Worldly.{state_holds}
+use Rattle.dy_node.proofs.Kept.{state_holds}
 
 -- where a node has no hint for itself, each hint that is listed is for another
 pub kept_shown : (r : Rooms) → ((key : List ℕ) → maps.get r.hints (r.node, key) ≡ None) →

@@ -1,9 +1,12 @@
 pub mod RoomLemmas
+pub mod MergedRows
 pub mod Worldly
+pub mod Kept
 pub mod Delivering
 pub mod NextOnes
 pub mod Followed
 pub mod SettleLemmas
 pub mod Causes
+pub mod PlanCauses
 pub mod SameCounts
 pub mod HintLemmas

@@ -20,7 +20,8 @@ use Rattle.dy_shares.specs.Shares.{NodePart, steps_of}
 use Rattle.dy_book.specs.Books.{BookParts, MayIssue, world_of}
 use Rattle.dy_node.specs.Stored.{Shows, Stored, versions_at}
 use Rattle.dy_node.specs.inside.Agreed.{IsAgreed}
-use Rattle.dy_node.proofs.Worldly.{made_at, matches_world, one_by_dot}
+use Rattle.dy_node.proofs.Worldly.{matches_world}
+use Rattle.dy_node.proofs.Kept.{made_at, one_by_dot}
 
 pub next_one : (layout : Layout) (b : BookParts) (p : NodePart) (s : Stored) (home : ℕ)
     (v : Version) → IsAgreed layout b p → Shows p s → MayIssue b p.node v →

@@ -14,7 +14,7 @@ use Rattle.dy_siblings.specs.declared.versions.Version.{Version}
 use Rattle.dy_node_store.specs.Rows.{versions_of, without_dots}
 use Rattle.dy_hint_store.specs.Hints.{versions_for}
 use Rattle.dy_core.specs.Worlds.{Layout, World}
-use Rattle.dy_core.specs.Steps.{after_release}
+use Rattle.dy_core.specs.Steps.{after_release, place_for}
 use Rattle.dy_core.specs.Logs.{world_from, IsLegal, IsLegalFrom}
 use Rattle.dy_core.specs.declared.steps.Step.TheVariants.{Release}
 use Rattle.dy_siblings.proofs.Members.{any_gives, filter_in, filter_from, in_head}
@@ -32,8 +32,9 @@ use Rattle.dy_node.specs.inside.Agreed.{IsAgreed}
 use Rattle.dy_node.specs.Settling.{AreReleased, IsStanding, NoneStands, same_release, without_all}
 use Rattle.dy_node.specs.inside.Chosen.{taken}
 use Rattle.dy_node.proofs.RoomLemmas.{with_node, with_place}
-use Rattle.dy_node.proofs.Worldly.{legal_more, matches_world, release_matches, shows_share}
-use Rattle.dy_node.proofs.Worldly.{world_more}
+use Rattle.dy_node.proofs.Worldly.{matches_world, release_matches, shows_share}
+use Rattle.dy_node.proofs.Kept.{legal_more}
+use Rattle.dy_node.proofs.Kept.{world_more}
 
 or_none : (a : Bool) → (a || false) ≡ a
 or_none true = refl
@@ -75,7 +76,8 @@ releases_match layout w sound s t (x ∷ xs) is legal counters_stay rooms =
     let w1 = after_release w s.rooms.node x.home x.key x.dot in
     subst (λ k. Matches (world_from w1 (release_steps k xs)) t) node_is
     (releases_match layout w1
-    (step_sound layout w sound (Release s.rooms.node x.home x.key x.dot) legal.0) s1 t xs m
+    (step_sound layout w sound (Release (place_for s.rooms.node x.home) x.key x.dot) legal.0)
+    s1 t xs m
     (subst (λ k. IsLegalFrom layout w1 (release_steps k xs)) (sym node_is) legal.1) counters_stay
     rooms)
 

@@ -11,7 +11,7 @@ use Rattle.dy_hint_store.specs.Hints.{home_and_row}
 use Rattle.dy_ring.specs.Rings.{Tokens}
 use Rattle.dy_preference.specs.Preferences.{homes_of, may_hold}
 use Rattle.dy_core.specs.Worlds.{World, row_at}
-use Rattle.dy_core.specs.Steps.{version_made}
+use Rattle.dy_core.specs.Steps.{version_made, place_for}
 use Rattle.dy_core.specs.declared.steps.Step.{Step}
 use Rattle.dy_core.specs.declared.steps.Step.TheVariants.{Hold, Fetch}
 use Rattle.dy_shares.specs.Shares.{NodePart, node_part_code, with_steps}
@@ -118,15 +118,15 @@ pub record OthersStay (old new : NodeState) : Type 0 where
 
 -- one hold, as steps
 abbrev pub hold_steps : ℕ → ℕ → Siblings → List Step
-hold_steps node home row = Hold node home row ∷ []
+hold_steps node home row = Hold (place_for node home) row ∷ []
 
 -- one fetch, as steps
 abbrev pub fetch_steps : ℕ → ℕ → List ℕ → List Step
-fetch_steps node home key = Fetch node home key ∷ []
+fetch_steps node home key = Fetch (place_for node home) key ∷ []
 
 -- a hold of each message
 abbrev pub holds_of : ℕ → List Message → List Step
-holds_of node ms = map (λ m. Hold node m.home m.row) ms
+holds_of node ms = map (λ m. Hold (place_for node m.home) m.row) ms
 
 -- the first n of the messages that wait are stored, one hold each, and no other
 pub record IsDelivered (b : BookParts) (old : NodeState) (n : ℕ) (c : BookParts) (new : NodeState)

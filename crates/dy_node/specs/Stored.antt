@@ -11,7 +11,7 @@ use Rattle.dy_node_store.specs.Rows.{Rows, rows_code, versions_of, with_versions
 use Rattle.dy_node_store.specs.Counters.{Counters, counters_code, greatest_used}
 use Rattle.dy_hint_store.specs.Hints.{Hints, hints_code, versions_for, with_versions_for}
 use Rattle.dy_core.specs.Worlds.{World, empty_world, row_at}
-use Rattle.dy_shares.specs.Shares.{NodePart, shown_from}
+use Rattle.dy_shares.specs.Shares.{NodePart, shown_from, shown_row, shows_counter}
 
 -- the rows that a node keeps: its own, and those for other homes
 pub record Rooms : Type 0 where
@@ -73,6 +73,11 @@ shown_world p = shown_from empty_world p.steps
 pub record Shows (p : NodePart) (s : Stored) : Type 0 where
   pub node_is : s.rooms.node ≡ p.node
   pub shown : Matches (shown_world p) s
+
+-- the share shows that its node holds nothing, and that it has used no counter
+pub record ShowsNothing (p : NodePart) : Type 0 where
+  pub no_rows : (home : ℕ) (key : List ℕ) → shown_row p home key ≡ []
+  pub no_counters : (key : List ℕ) → shows_counter p key ≡ 0
 
 -- a row with its home, where there is one
 abbrev pub listed : ℕ → Option Siblings → List (ℕ × Siblings)

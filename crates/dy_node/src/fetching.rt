@@ -2,6 +2,7 @@
 ghost use Rattle.std.specs.Prelude.{◌≡◌, ◌+◌, ◌<◌, ◌∷◌, [], length, IfOk, OnOk, OnErr};
 ghost use Rattle.std.specs.Result.{result_err};
 ghost use Rattle.dy_siblings.specs.Siblings.{IsSameRow};
+ghost use Rattle.dy_core.specs.Steps.{place_for};
 ghost use Rattle.dy_core.specs.declared.steps.Step.TheVariants.{Fetch};
 ghost use Rattle.dy_book.specs.Books.{with_untold};
 ghost use Rattle.dy_node.specs.Stored.{versions_at};
@@ -25,7 +26,8 @@ impl<J: Naming> Node<J> {
     ) -> Result<Seen<J>, Fault>
         ensures node { self.new ≡ self.old }
         ensures log { OnOk result
-            (book.new ≡ with_untold book.old (Fetch self.old.part.node home key.now ∷ [])) }
+            (book.new ≡ with_untold book.old
+            (Fetch (place_for self.old.part.node home) key.now ∷ [])) }
         ensures holder { IfOk result (λ seen. seen.holder ≡ self.old.part.node) }
         ensures home { IfOk result (λ seen. seen.home ≡ home) }
         ensures key { IfOk result (λ seen. seen.key ≡ key.now) }

@@ -2,6 +2,7 @@
 ghost use Rattle.std.specs.Prelude.{◌≡◌, ◌∷◌, [], IsTrue, IfOk, OnOk, OnErr};
 ghost use Rattle.std.specs.Result.{result_err};
 ghost use Rattle.dy_preference.specs.Preferences.{homes_of, may_hold};
+ghost use Rattle.dy_core.specs.Steps.{place_for};
 ghost use Rattle.dy_core.specs.declared.steps.Step.TheVariants.{Hold};
 ghost use Rattle.dy_shares.specs.Shares.{with_steps};
 ghost use Rattle.dy_book.specs.Books.{receipts_of, with_untold};
@@ -29,9 +30,9 @@ pub(crate) fn hold_row<J: Naming>(
     requires shown { Shows share.old stores.old }
     ensures shown { Shows share.new stores.new }
     ensures log { OnOk result
-        (book.new ≡ with_untold book.old (Hold share.old.node home row.now ∷ [])) }
+        (book.new ≡ with_untold book.old (Hold (place_for share.old.node home) row.now ∷ [])) }
     ensures share { OnOk result
-        (share.new ≡ with_steps share.old (Hold share.old.node home row.now ∷ [])) }
+        (share.new ≡ with_steps share.old (Hold (place_for share.old.node home) row.now ∷ [])) }
     ensures receipts { IfOk result (λ receipts.
         receipts.items ≡ receipts_of row.now.versions share.old.node home) }
     ensures err { OnErr result
@@ -68,9 +69,11 @@ impl<J: Naming> Node<J> {
         requires may_hold { IsTrue
             (may_hold (homes_of J.ring J.n row.now.key) self.old.part.node home) }
         ensures log { OnOk result
-            (book.new ≡ with_untold book.old (Hold self.old.part.node home row.now ∷ [])) }
+            (book.new ≡ with_untold book.old
+            (Hold (place_for self.old.part.node home) row.now ∷ [])) }
         ensures share { OnOk result
-            (self.new.part ≡ with_steps self.old.part (Hold self.old.part.node home row.now ∷ [])) }
+            (self.new.part ≡ with_steps self.old.part
+            (Hold (place_for self.old.part.node home) row.now ∷ [])) }
         ensures receipts { IfOk result (λ receipts.
             receipts.items ≡ receipts_of row.now.versions self.old.part.node home) }
         ensures is_up { self.new.is_up ≡ self.old.is_up }

@@ -1,8 +1,8 @@
-ghost use Rattle.std.specs.Prelude.{◌≡◌, [], map, IfOk, IsOkUnless};
+ghost use Rattle.std.specs.Prelude.{◌≡◌, map, IfOk, IsOkUnless};
 ghost use Rattle.dy_hint_store.specs.Hints.{shown};
 ghost use Rattle.dy_shares.specs.Shares.{BelongsTo, steps_of};
 ghost use Rattle.dy_book.specs.Books.{world_of};
-ghost use Rattle.dy_node.specs.Stored.{kept_rows};
+ghost use Rattle.dy_node.specs.Stored.{ShowsNothing, kept_rows};
 ghost use Rattle.dy_node.specs.Nodes.{HoldsAs, first_state, with_mode, with_up};
 
 use crate::messages::Message;
@@ -10,8 +10,9 @@ use crate::modes::Mode;
 use crate::stores::Stores;
 use dy_book::Book;
 use dy_dots::{Fault, NodeId};
+use dy_hint_store::RowRefFor;
 use dy_shares::{Naming, NodeShare};
-use dy_siblings::{Key, Row};
+use dy_siblings::Key;
 use std::alloc::Global;
 use std::collections::VecDeque;
 use std::marker::Model;
@@ -50,7 +51,7 @@ impl<J: Naming> Model for Node<J> {
 impl<J: Naming> Node<J> {
     /// A node that is up and keeps nothing, by a share without a step. Takes no memory.
     pub fn new(alloc: Global, share: NodeShare<J>) -> Node<J>
-        requires { share.steps ≡ [] }
+        requires { ShowsNothing share }
         ensures { result ≡ first_state share }
     {
         let stores = Stores::new(alloc, share.node());
@@ -112,7 +113,7 @@ impl<J: Naming> Node<J> {
 
     /// What the node keeps of the key: its own row, and then its hints in the order of their homes.
     /// A node that is down tells it too.
-    pub fn rows(&self, key: &Key) -> Result<Vec<(NodeId, &Row)>, Fault>
+    pub fn rows(&self, key: &Key) -> Result<Vec<RowRefFor<'_>>, Fault>
         ensures value { IfOk result
             (λ rows. map shown rows.items ≡ kept_rows self.now.rooms key.now) }
         ensures memory { IsOkUnless result Fault.OutOfMemory }

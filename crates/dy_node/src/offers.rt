@@ -9,12 +9,16 @@ ghost use Rattle.dy_node.specs.Nodes.{AreForHomes, AreForOthers, hints_of};
 use crate::nodes::Node;
 use dy_book::Book;
 use dy_dots::{Fault, NodeId};
+use dy_hint_store::RowRefFor;
 use dy_shares::Naming;
 use dy_siblings::Row;
 use std::alloc::Global;
 
+/// A home, and a row that is held for it.
+pub type RowFor = (NodeId, Row);
+
 // Copies of the rows, each with its home.
-fn copied(alloc: Global, hints: &[(NodeId, &Row)]) -> Result<Vec<(NodeId, Row)>, Fault>
+fn copied(alloc: Global, hints: &[RowRefFor<'_>]) -> Result<Vec<RowFor>, Fault>
     ensures ok { IfOk result (λ copies. copies.items ≡ map shown hints.now) }
     ensures memory { IsOkUnless result Fault.OutOfMemory }
 {
@@ -37,7 +41,7 @@ impl<J: Naming> Node<J> {
 
     /// Copies of the rows that are kept for other homes, by home and then by key. It lends the book
     /// since that tells who may hold.
-    pub fn offer(&mut self, book: &mut Book<J>) -> Result<Vec<(NodeId, Row)>, Fault>
+    pub fn offer(&mut self, book: &mut Book<J>) -> Result<Vec<RowFor>, Fault>
         ensures hints { IfOk result (λ hints. hints.items ≡ hints_of self.old) }
         ensures kept { IfOk result (λ hints. All (IsHint self.old.rooms.hints) hints.items) }
         ensures for_homes { IfOk result (λ hints. AreForHomes J.ring J.n hints.items) }

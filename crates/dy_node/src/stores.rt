@@ -17,7 +17,7 @@ ghost use Rattle.dy_node.specs.inside.Placing.{taken_back};
 
 use crate::placed::Placed;
 use dy_dots::{Dot, Fault, NodeId};
-use dy_hint_store::HintStore;
+use dy_hint_store::{HintStore, RowRefFor};
 use dy_node_store::NodeStore;
 use dy_siblings::{Key, Row, Version};
 use std::alloc::Global;
@@ -288,7 +288,7 @@ impl Stores {
     }
 
     /// What is kept of the key: the node's own row, and the hints in the order of their homes.
-    pub(crate) fn list_key(&self, alloc: Global, key: &Key) -> Result<Vec<(NodeId, &Row)>, Fault>
+    pub(crate) fn list_key(&self, alloc: Global, key: &Key) -> Result<Vec<RowRefFor<'_>>, Fault>
         ensures value { IfOk result
             (λ rows. map shown rows.items ≡ kept_rows self.now.rooms key.now) }
         ensures memory { IsOkUnless result Fault.OutOfMemory }
@@ -314,7 +314,7 @@ impl Stores {
     }
 
     /// The rows that are kept for other homes.
-    pub(crate) fn list(&self, alloc: Global) -> Result<Vec<(NodeId, &Row)>, Fault>
+    pub(crate) fn list(&self, alloc: Global) -> Result<Vec<RowRefFor<'_>>, Fault>
         ensures value { IfOk result (λ hints.
             map shown hints.items ≡ map home_and_row (maps.entries self.now.rooms.hints)) }
         ensures kept { IfOk result
@@ -334,7 +334,7 @@ fn has_version(versions: &[Version], dot: Dot) -> bool
 }
 
 // Adds the row with its home.
-fn add_row<'a>(rows: &mut Vec<(NodeId, &'a Row)>, home: NodeId, row: &'a Row) -> Result<(), Fault>
+fn add_row<'a>(rows: &mut Vec<RowRefFor<'a>>, home: NodeId, row: &'a Row) -> Result<(), Fault>
     ensures ok { OnOk result
         (map shown rows.new.items ≡ map shown rows.old.items ++ (home, row.now) ∷ []) }
     ensures memory { IsOkUnless result Fault.OutOfMemory }

@@ -9,8 +9,8 @@ use Rattle.dy_core.specs.Worlds.{layout_of}
 use Rattle.dy_book.specs.Books.{BookParts, MayIssue, row_alone}
 use Rattle.dy_node.specs.Stored.{Rooms, Stored, Shows, versions_at}
 use Rattle.dy_node.specs.inside.Placing.{FitsBack, IsAdded, IsPlaced, taken_back}
-use Rattle.dy_node.proofs.RoomLemmas.{added_placed, placed_kept}
-use Rattle.dy_node.proofs.Worldly.{agreed_on, issue_shows, used_there, zero_shows}
+use Rattle.dy_node.proofs.MergedRows.{added_placed, placed_kept}
+use Rattle.dy_node.proofs.Kept.{agreed_on, issue_shows, used_there, zero_shows}
 use Rattle.dy_node.proofs.beginning.issue_row.Goals as goal
 
 -- nothing but the room for the counter

@@ -3,9 +3,9 @@ use Rattle.std.specs.FinSet as set
 use Rattle.dy_siblings.specs.declared.versions.Version.{Version}
 use Rattle.dy_core.specs.Worlds.{layout_of}
 use Rattle.dy_book.specs.Books.{world_of}
-use Rattle.dy_node.proofs.Causes.{plan_by, plan_done, plan_full}
+use Rattle.dy_node.proofs.PlanCauses.{plan_by, plan_done, plan_full}
 use Rattle.dy_node.proofs.Followed.{planned_follows}
-use Rattle.dy_node.proofs.Worldly.{counter_lacks, counter_left}
+use Rattle.dy_node.proofs.Kept.{counter_lacks, counter_left}
 use Rattle.dy_node.proofs.beginning.plan_next.Goals as goal
 
 -- the counters are all used

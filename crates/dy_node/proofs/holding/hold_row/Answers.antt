@@ -5,7 +5,7 @@ use Rattle.dy_node.specs.Stored.{Shows}
 use Rattle.dy_node.specs.Refusals.{HoldRefused}
 use Rattle.dy_node.specs.inside.Placing.{taken_back}
 use Rattle.dy_node.proofs.Causes.{hold_by, hold_done, hold_memory}
-use Rattle.dy_node.proofs.Worldly.{agreed_on, hold_shows}
+use Rattle.dy_node.proofs.Kept.{agreed_on, hold_shows}
 use Rattle.dy_node.proofs.holding.hold_row.Goals as goal
 
 -- what was added is held

@@ -8,8 +8,8 @@ use Rattle.dy_book.specs.Books.{AreOfDistinctDots, BookParts, MayRelease, releas
 use Rattle.dy_book.specs.Books.{with_untold, world_of}
 use Rattle.dy_node.specs.Stored.{Shows}
 use Rattle.dy_node.specs.Settling.{AreReleased, ReleaseRefused, without_all}
-use Rattle.dy_node.proofs.Causes.{release_by, release_done, release_memory}
-use Rattle.dy_node.proofs.Worldly.{agreed_on}
+use Rattle.dy_node.proofs.PlanCauses.{release_by, release_done, release_memory}
+use Rattle.dy_node.proofs.Kept.{agreed_on}
 use Rattle.dy_node.proofs.SettleLemmas.{releasable, released_apart, released_nothing}
 use Rattle.dy_node.proofs.SettleLemmas.{settle_shows}
 use Rattle.dy_node.proofs.settling.settle_receipts.Goals as goal

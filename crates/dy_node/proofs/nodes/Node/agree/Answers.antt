@@ -2,7 +2,7 @@ use Rattle.std.proofs.Common.{subst}
 use Rattle.dy_core.specs.Worlds.{layout_of}
 use Rattle.dy_book.specs.Books.{world_of}
 use Rattle.dy_node.specs.Nodes.{HoldsAs}
-use Rattle.dy_node.proofs.Worldly.{state_holds}
+use Rattle.dy_node.proofs.Kept.{state_holds}
 use Rattle.dy_node.proofs.nodes.Node.agree.Goals as goal
 
 -- what is kept is what the share shows, and that is what the world holds

@@ -9,7 +9,7 @@ use Rattle.dy_dots.specs.declared.faults.Fault.TheVariants.{OutOfMemory}
 use Rattle.dy_book.specs.Books.{BookParts, world_of}
 use Rattle.dy_node.specs.Stored.{versions_at}
 use Rattle.dy_node.specs.Nodes.{NodeState, version_begun}
-use Rattle.dy_node.proofs.Causes.{begin_agreed, begin_down, plan_memory}
+use Rattle.dy_node.proofs.PlanCauses.{begin_agreed, begin_down, plan_memory}
 use Rattle.dy_node.proofs.nodes.Node.begin.Goals as goal
 
 -- the node is down

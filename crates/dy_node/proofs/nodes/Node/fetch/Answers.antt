@@ -9,7 +9,7 @@ use Rattle.dy_node.specs.Stored.{versions_at}
 use Rattle.dy_node.specs.Nodes.{NodeState}
 use Rattle.dy_node.specs.Refusals.{FetchRefused}
 use Rattle.dy_node.proofs.Causes.{fetch_by, fetch_done, fetch_down}
-use Rattle.dy_node.proofs.Worldly.{state_holds}
+use Rattle.dy_node.proofs.Kept.{state_holds}
 use Rattle.dy_node.proofs.nodes.Node.fetch.Goals as goal
 
 -- what the world holds at the node is what it keeps

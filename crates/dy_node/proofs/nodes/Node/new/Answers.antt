@@ -4,7 +4,7 @@ use Rattle.std.proofs.lemmas.List.Elements.{All-nil}
 use Rattle.dy_preference.specs.Preferences.{homes_of, may_hold}
 use Rattle.dy_node.specs.Nodes.{AreDeferred}
 use Rattle.dy_node.specs.declared.messages.Message.{Message}
-use Rattle.dy_node.proofs.Worldly.{first_shows}
+use Rattle.dy_node.proofs.Kept.{first_shows}
 use Rattle.dy_node.proofs.nodes.Node.new.Goals as goal
 
 -- nothing was done, and nothing is kept

@@ -2,7 +2,7 @@ use Rattle.std.proofs.Common.{sym, ap, ◌∙◌, subst}
 use Rattle.std.specs.Result.{result_err}
 use Rattle.dy_node.specs.Nodes.{NodeState}
 use Rattle.dy_node.specs.Settling.{ReleaseRefused}
-use Rattle.dy_node.proofs.Causes.{settle_down, settle_up}
+use Rattle.dy_node.proofs.PlanCauses.{settle_down, settle_up}
 use Rattle.dy_node.proofs.nodes.Node.settle.Goals as goal
 
 -- the node is down

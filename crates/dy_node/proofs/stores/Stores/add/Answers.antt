@@ -1,7 +1,7 @@
 use Rattle.std.proofs.Common.{◌≡◌, subst, IfSome}
 use Rattle.dy_siblings.specs.Siblings.{Siblings, IsSameRow, merge}
 use Rattle.dy_node.specs.Stored.{versions_at}
-use Rattle.dy_node.proofs.RoomLemmas.{added_placed, added_same}
+use Rattle.dy_node.proofs.MergedRows.{added_placed, added_same}
 use Rattle.dy_node.proofs.stores.Stores.add.Goals as goal
 
 -- what is kept is the merge, where it is kept as it is

@@ -1,0 +1,147 @@
+-- What is kept once a row was merged into what was there.
+use Rattle.std.specs.List.{Contains}
+use Rattle.std.proofs.Common.{[], ◌≡◌, ℕ, suc, ◌+◌, ◌==◌, ◌<◌, Bool, true, false, List, ◌∷◌}
+use Rattle.std.proofs.Common.{length, ◌++◌, Option, Some, IsSome, inl, inr}
+use Rattle.std.proofs.Common.{refl, sym, ap, ◌∙◌, subst, arith}
+use Rattle.std.specs.FinMap as maps
+use Rattle.std.proofs.lemmas.Bool.{eqb-true}
+use Rattle.dy_siblings.specs.Siblings.{Siblings, AreOneByDot, IsSiblingSet, IsSameRow}
+use Rattle.dy_siblings.specs.Siblings.{merge, same_key}
+use Rattle.dy_siblings.proofs.SameKeys.{same_key_is, same_key_self}
+use Rattle.dy_siblings.proofs.Members.{not_in_nil}
+use Rattle.dy_siblings.specs.declared.versions.Version.{Version}
+use Rattle.dy_siblings.proofs.Merges.{idempotent}
+use Rattle.dy_node_store.specs.Rows.{versions_in}
+use Rattle.dy_hint_store.specs.Hints.{Hints}
+use Rattle.dy_hint_store.proofs.HomeLemmas.{row_with}
+use Rattle.dy_node.specs.inside.Placing.{EitherAt, IsAdded, IsPlaced, row_kept}
+use Rattle.dy_node.specs.declared.placed.Placed.{Placed}
+use Rattle.dy_node.specs.declared.placed.Placed.TheVariants.{Nothing, New, Over}
+use Rattle.dy_node.specs.Stored.{Rooms, hints_below, listed, versions_at, with_row}
+use Rattle.dy_node.proofs.RoomLemmas.{apart_from, kept_after, kept_there, versions_kept, with_node}
+use Rattle.dy_node.proofs.RoomLemmas.{with_place}
+
+-- ---- a row that is merged into what is kept
+
+is_some : (o : Option Siblings) (key : List ℕ) (vs : List Version) → o ≡ row_with key vs →
+    0 < length vs → IsSome o
+is_some o key [] is some = absurd (omega (arith, some))
+is_some o key (v ∷ vs) is some = subst IsSome (sym is) refl
+
+pub added_placed : (old new : Rooms) (home : ℕ) (row merged : Siblings) (placed : Placed) →
+    merged.key ≡ row.key →
+    IsSameRow merged.versions (merge (versions_at old home row.key) row.versions) →
+    IsPlaced old new home merged placed → IsAdded old new home row placed
+added_placed old new home row merged Nothing same is p =
+    record {
+      node_is = ap (λ r. r.node) p.0;
+      changed = λ one. inr (record
+          { stays = p.0; none = λ v h. nowhere merged.versions p.1 v ((is v).1 h) });
+      fits = tt;
+      back = p.0;
+    }
+  where
+    nowhere : (xs : List Version) → xs ≡ [] → (v : Version) → Contains xs v → ⊥
+    nowhere xs e v h = not_in_nil v (subst (λ ys. Contains ys v) e h)
+added_placed old new home row merged New same is p =
+    record {
+      node_is = ap (λ r. r.node) p.0 ∙ with_node old home merged.key merged.versions;
+      changed = λ one. inl (record {
+        versions = merged.versions;
+        merged = is;
+        placed = λ o k. subst (λ r. EitherAt home row.key merged.versions o k (versions_at r o k)
+            (versions_at old o k))
+            (ap (λ j. with_row old home j merged.versions) (sym same) ∙ sym p.0)
+            (with_place old home row.key merged.versions o k);
+      });
+      fits = tt;
+      back = ap (λ j. with_row new home j []) (sym same) ∙ p.1;
+    }
+added_placed old new home row merged (Over before) same is p =
+    record {
+      node_is = ap (λ r. r.node) p.0 ∙ with_node old home merged.key merged.versions;
+      changed = λ one. inl (record {
+        versions = merged.versions;
+        merged = is;
+        placed = λ o k. subst (λ r. EitherAt home row.key merged.versions o k (versions_at r o k)
+            (versions_at old o k))
+            (ap (λ j. with_row old home j merged.versions) (sym same) ∙ sym p.0)
+            (with_place old home row.key merged.versions o k);
+      });
+      fits = (
+        p.2 ∙ same,
+        p.3,
+        is_some (row_kept new home row.key) row.key merged.versions
+            (ap (λ r. row_kept r home row.key)
+            (p.0 ∙ ap (λ j. with_row old home j merged.versions) same) ∙ kept_after old home row.key
+            merged.versions) p.4,
+      );
+      back = ap (λ j. with_row new home j before.versions) (sym same) ∙ p.1;
+    }
+
+-- a row that was put, and has a version, is what is kept at its place
+pub placed_kept : (old new : Rooms) (home : ℕ) (row : Siblings) (placed : Placed) (v : Version) →
+    Contains row.versions v → IsPlaced old new home row placed →
+    versions_at new home row.key ≡ row.versions
+placed_kept old new home row Nothing v inside p =
+    absurd (not_in_nil v (subst (λ vs. Contains vs v) p.1 inside))
+placed_kept old new home row New v inside p =
+    ap (λ r. versions_at r home row.key) p.0 ∙ kept_there old home row
+placed_kept old new home row (Over before) v inside p =
+    ap (λ r. versions_at r home row.key) p.0 ∙ kept_there old home row
+
+-- where it can't be, nothing is changed
+pub added_not : (r : Rooms) (home : ℕ) (row : Siblings) →
+    (AreOneByDot (versions_at r home row.key ++ row.versions) → ⊥) → IsAdded r r home row Nothing
+added_not r home row clash =
+    record { node_is = refl; changed = λ one. absurd (clash one); fits = tt; back = refl }
+
+-- what stays, stays at each place
+pub stays_placed : (r : Rooms) (home : ℕ) (key : List ℕ) (o : ℕ) (k : List ℕ) → EitherAt home key
+    (versions_at r home key) o k (versions_at r o k) (versions_at r o k)
+stays_placed r home key o k = by_home (o == home) refl
+  where
+    by_key : (b : Bool) → same_key k key ≡ b → o ≡ home → EitherAt home key (versions_at r home key)
+        o k (versions_at r o k) (versions_at r o k)
+    by_key true h here = inl (
+      here,
+      same_key_is k key h,
+      (λ i. versions_at r (here i) (same_key_is k key h i)),
+    )
+    by_key false h here = inr (
+      (λ _ same. let both : true ≡ false = sym
+          (ap (λ j. same_key j key) same ∙ same_key_self key) ∙ h in cc),
+      refl,
+    )
+
+    by_home : (b : Bool) → (o == home) ≡ b → EitherAt home key (versions_at r home key) o k
+        (versions_at r o k) (versions_at r o k)
+    by_home true h = by_key (same_key k key) refl (eqb-true o home h)
+    by_home false h = inr ((λ same _. apart_from o home h same), refl)
+
+-- a row that is kept as it is, is merged where it is
+pub added_same : (r : Rooms) (home : ℕ) (row : Siblings) → IsSiblingSet row.key row.versions →
+    row_kept r home row.key ≡ Some row → IsAdded r r home row Nothing
+added_same r home row is kept =
+    record {
+      node_is = refl;
+      changed = λ one. inl (record {
+        versions = versions_at r home row.key;
+        merged = subst (λ vs. IsSameRow vs (merge vs row.versions)) (sym same)
+            (λ v. ((own v).1, (own v).0));
+        placed = λ o k. stays_placed r home row.key o k;
+      });
+      fits = tt;
+      back = refl;
+    }
+  where
+    same : versions_at r home row.key ≡ row.versions
+    same = versions_kept r home row.key ∙ ap versions_in kept
+
+    own : IsSameRow (merge row.versions row.versions) row.versions
+    own = idempotent row.versions is.none_past
+
+-- the hints for one home more
+pub hints_next : (hints : Hints) (key : List ℕ) (n : ℕ) → hints_below hints key
+    (n + 1) ≡ hints_below hints key n ++ listed n (maps.get hints (n, key))
+hints_next hints key n = let next : n + 1 ≡ suc n = omega arith in ap (hints_below hints key) next
