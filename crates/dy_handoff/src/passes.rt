@@ -13,9 +13,8 @@ ghost use Rattle.dy_handoff.specs.inside.Settling.{IsUnderWay, SettlesOne, Settl
 
 use crate::counts::Pass;
 use dy_dots::{Fault, NodeId};
-use dy_node::{Answer, Ask};
+use dy_node::{Answer, Ask, RowFor};
 use dy_shares::{Naming, Receipt};
-use dy_siblings::Row;
 use dy_transport::Transport;
 use std::sync::Wait;
 
@@ -70,7 +69,7 @@ fn settle_all<J: Naming, T: Transport<J>, R: Wait>(
     let mut stored = done.stored;
     let mut released = done.released;
     'reading: for _ in rt.forever() {
-        let Some((_, _, answer)) = transport.next_reply(rt) else {
+        let Some((_, answer)) = transport.next_reply(rt) else {
             break;
         };
         if let Some(receipts) = receipts_in(answer) {
@@ -90,7 +89,7 @@ fn hand_over<J: Naming, T: Transport<J>, R: Wait>(
     rt: &R,
     transport: &mut T,
     node: NodeId,
-    hint: &(NodeId, Row),
+    hint: &RowFor,
     done: Pass,
 ) -> Pass
     requires way { IsUnderWay (T.told transport.old) done }
@@ -130,7 +129,7 @@ fn hand_over_all<J: Naming, T: Transport<J>, R: Wait>(
     rt: &R,
     transport: &mut T,
     node: NodeId,
-    hints: &[(NodeId, Row)],
+    hints: &[RowFor],
 ) -> Pass
     requires way { IsUnderWay (T.told transport.old)
         (record { offers = 0; stored = 0; released = 0 }) }

@@ -14,6 +14,7 @@ use Rattle.std.proofs.lemmas.List.Elements.{All-push, Contains-append_left, Cont
 use Rattle.std.specs.List.{All, Contains, slice_get}
 use Rattle.dy_siblings.specs.Siblings.{Siblings}
 use Rattle.dy_book.specs.Books.{receipts_of}
+use Rattle.dy_core.specs.declared.places.Place.{Place}
 use Rattle.dy_node.specs.declared.asks.Answer.{Answer}
 use Rattle.dy_node.specs.declared.asks.Answer.TheVariants as answer
 use Rattle.dy_transport.specs.Asking.{FitsWhat}
@@ -269,13 +270,13 @@ module _ {J : Type 0} where
       let n = i.left_count in i.each k lt (none k (omega arith))
 
   -- what is told of asks and answers is told beside any tries
-  pub tells_beside : (tries : List (Try J)) (old new : Told J) (r : Option (ℕ × ℕ × Answer J)) →
-      IfSome r (λ x. (number : ℕ) × (new ≡ with_reply old number x.0 x.1 x.2)
-      × Answers old.asks number x.0 x.1 x.2 × IsAwaited old.replies number) →
+  pub tells_beside : (tries : List (Try J)) (old new : Told J) (r : Option (Place × Answer J)) →
+      IfSome r (λ x. (number : ℕ) × (new ≡ with_reply old number x.0.holder x.0.home x.1)
+      × Answers old.asks number x.0.holder x.0.home x.1 × IsAwaited old.replies number) →
       IfSome r (λ x. (number : ℕ)
       × (record new { tries = tries }
-      ≡ with_reply (record old { tries = tries }) number x.0 x.1 x.2)
-      × Answers old.asks number x.0 x.1 x.2 × IsAwaited old.replies number)
+      ≡ with_reply (record old { tries = tries }) number x.0.holder x.0.home x.1)
+      × Answers old.asks number x.0.holder x.0.home x.1 × IsAwaited old.replies number)
   tells_beside tries old new None h = tt
   tells_beside tries old new (Some x) h =
       (h.0, ap (λ (t : Told J). record t { tries = tries }) h.1, h.2, h.3)

@@ -8,6 +8,7 @@ ghost use Rattle.dy_mailboxes.specs.Parcels.{IsKept};
 
 use crate::parcels::{Answered, Parcel, home_asked};
 use crate::sent::Sent;
+use dy_core::Place;
 use dy_dots::{Fault, NodeId};
 use dy_node::{Answer, Ask};
 use dy_shares::Naming;
@@ -133,11 +134,11 @@ impl<J: Naming> Sheet<J> {
 
     /// Reads an answer that came: it is handed on, as that nothing came where it is no answer to
     /// its ask; one too many for its ask is dropped. Takes no memory.
-    pub fn take(&mut self, answered: Answered<J>) -> Option<(NodeId, NodeId, Answer<J>)>
+    pub fn take(&mut self, answered: Answered<J>) -> Option<(Place, Answer<J>)>
         ensures none { IfNone result (self.new ≡ self.old) }
         ensures some { IfSome result (λ r. (number : ℕ)
-            × (self.new ≡ with_reply self.old number r.0 r.1 r.2)
-            × Answers self.old.asks number r.0 r.1 r.2
+            × (self.new ≡ with_reply self.old number r.0.holder r.0.home r.1)
+            × Answers self.old.asks number r.0.holder r.0.home r.1
             × IsAwaited self.old.replies number) }
         ensures within { IfSome result
             (λ _. length self.old.replies < 2 * length self.old.asks) }
@@ -157,17 +158,22 @@ impl<J: Naming> Sheet<J> {
         let sent = &self.sent[number];
         let answer = sent.only_fitting(answer);
         self.left[number] = left_after(left, &answer, is_last);
-        self.trail.note_reply(number, sent.to, sent.home, &answer);
-        Some((sent.to, sent.home, answer))
+        let place = Place {
+            holder: sent.to,
+            home: sent.home,
+        };
+        self.trail
+            .note_reply(number, place.holder, place.home, &answer);
+        Some((place, answer))
     }
 
     /// Answers an ask that could not be sent: refused where there was no memory, else that nothing
     /// came. Takes no memory.
-    pub fn take_unsent(&mut self) -> Option<(NodeId, NodeId, Answer<J>)>
+    pub fn take_unsent(&mut self) -> Option<(Place, Answer<J>)>
         ensures none { IfNone result (self.new ≡ self.old) }
         ensures some { IfSome result (λ r. (number : ℕ)
-            × (self.new ≡ with_reply self.old number r.0 r.1 r.2)
-            × Answers self.old.asks number r.0 r.1 r.2
+            × (self.new ≡ with_reply self.old number r.0.holder r.0.home r.1)
+            × Answers self.old.asks number r.0.holder r.0.home r.1
             × IsAwaited self.old.replies number) }
         ensures within { IfSome result
             (λ _. length self.old.replies < 2 * length self.old.asks) }
@@ -183,12 +189,12 @@ impl<J: Naming> Sheet<J> {
 
     /// Nothing more comes: that nothing came to an ask that has no answer yet, else none. Takes no
     /// memory.
-    pub fn close(&mut self) -> Option<(NodeId, NodeId, Answer<J>)>
+    pub fn close(&mut self) -> Option<(Place, Answer<J>)>
         ensures none { IfNone result
             ((self.new ≡ with_none self.old) × AllAnswered self.new) }
         ensures some { IfSome result (λ r. (number : ℕ)
-            × (self.new ≡ with_reply self.old number r.0 r.1 r.2)
-            × Answers self.old.asks number r.0 r.1 r.2
+            × (self.new ≡ with_reply self.old number r.0.holder r.0.home r.1)
+            × Answers self.old.asks number r.0.holder r.0.home r.1
             × IsAwaited self.old.replies number) }
         ensures within { IfSome result
             (λ _. length self.old.replies < 2 * length self.old.asks) }
@@ -200,7 +206,12 @@ impl<J: Naming> Sheet<J> {
         self.left[number] = 0;
         let sent = &self.sent[number];
         let answer = Answer::NoAnswer;
-        self.trail.note_reply(number, sent.to, sent.home, &answer);
-        Some((sent.to, sent.home, answer))
+        let place = Place {
+            holder: sent.to,
+            home: sent.home,
+        };
+        self.trail
+            .note_reply(number, place.holder, place.home, &answer);
+        Some((place, answer))
     }
 }

@@ -10,10 +10,11 @@ use crate::parcels::{Answered, Parcel, Posted};
 use crate::posts::Post;
 use crate::sheets::Sheet;
 use dy_book::Book;
+use dy_core::Place;
 use dy_dots::{Context, Fault, NodeId};
-use dy_node::{Answer, Ask, Begun, Node};
+use dy_node::{Answer, Ask, Begun, Node, RowFor};
 use dy_shares::{Naming, Receipt, Seen, SessionShare, Since};
-use dy_siblings::{Key, Row, Value};
+use dy_siblings::{Key, Value};
 use dy_transport::{Direct, Transport};
 use std::alloc::Global;
 use std::marker::Model;
@@ -113,11 +114,11 @@ fn next_of<J: Naming, R: Wait>(
     rt: &R,
     answers: &mut Inbox<Answered<J>>,
     sheet: &mut Sheet<J>,
-) -> Option<(NodeId, NodeId, Answer<J>)>
+) -> Option<(Place, Answer<J>)>
     ensures none { IfNone result ((sheet.new ≡ with_none sheet.old) × AllAnswered sheet.new) }
     ensures some { IfSome result (λ r. (number : ℕ)
-        × (sheet.new ≡ with_reply sheet.old number r.0 r.1 r.2)
-        × Answers sheet.old.asks number r.0 r.1 r.2
+        × (sheet.new ≡ with_reply sheet.old number r.0.holder r.0.home r.1)
+        × Answers sheet.old.asks number r.0.holder r.0.home r.1
         × IsAwaited sheet.old.replies number) }
     ensures within { IfSome result
         (λ _. length sheet.old.replies < 2 * length sheet.old.asks) }
@@ -169,7 +170,7 @@ impl<J: Naming> Transport<J> for Mailboxes<'_, J> {
         self.near.look(rt, node, home, key, since)
     }
 
-    fn offer<R: Wait>(&mut self, rt: &R, node: NodeId) -> Result<Vec<(NodeId, Row)>, Fault> {
+    fn offer<R: Wait>(&mut self, rt: &R, node: NodeId) -> Result<Vec<RowFor>, Fault> {
         self.near.offer(rt, node)
     }
 
@@ -190,7 +191,7 @@ impl<J: Naming> Transport<J> for Mailboxes<'_, J> {
         }
     }
 
-    fn next_reply<R: Wait>(&mut self, rt: &R) -> Option<(NodeId, NodeId, Answer<J>)> {
+    fn next_reply<R: Wait>(&mut self, rt: &R) -> Option<(Place, Answer<J>)> {
         next_of(rt, &mut self.answers, &mut self.sheet)
     }
 
@@ -199,7 +200,7 @@ impl<J: Naming> Transport<J> for Mailboxes<'_, J> {
         rt: &R,
         session: &mut SessionShare<J>,
         w: u8,
-        receipts: &[Receipt<J>],
+        receipts: &Vec<Receipt<J>>,
     ) -> Result<(), Fault> {
         self.near.record(rt, session, w, receipts)
     }

@@ -75,7 +75,7 @@ pub fn read_next<J: Naming, T: Transport<J>, R: Wait>(
     request: &Request<'_, J>,
     assign: &mut Assign<'_>,
     answers: &mut Vec<AnswerRead>,
-) -> Option<(NodeId, NodeId, Answer<J>)>
+) -> Option<(Place, Answer<J>)>
     requires room { length (T.told transport.old).asks + length assign.old
         ≤ (T.told transport.old).room }
     requires may_ask { MayStandIn J.ring J.n request.now (T.told transport.old).asks assign.old }
@@ -85,22 +85,25 @@ pub fn read_next<J: Naming, T: Transport<J>, R: Wait>(
         × AllAnswered (T.told transport.new)
         × (assign.new ≡ assign.old) × (answers.new ≡ answers.old)) }
     ensures some { IfSome result (λ r. (number : ℕ) × Reads (requested request.now)
-        (T.told transport.old) assign.old number r.0 r.1 r.2 (T.told transport.new) assign.new) }
+        (T.told transport.old) assign.old number r.0.holder r.0.home r.1
+        (T.told transport.new) assign.new) }
     ensures may_ask { MayStandIn J.ring J.n request.now (T.told transport.new).asks assign.new }
     ensures listed { IfSome result
-        (λ r. answers.new.items ≡ answers.old.items ++ answer_read r.0 r.1 r.2 ∷ []) }
+        (λ r. answers.new.items
+        ≡ answers.old.items ++ answer_read r.0.holder r.0.home r.1 ∷ []) }
     ensures count { IfSome result (λ _. vec_len answers.new ≡ vec_len answers.old + 1) }
     ensures capacity { vec_capacity answers.new ≡ vec_capacity answers.old }
 {
-    let Some((node, home, answer)) = transport.next_reply(rt) else {
+    // Taken apart, since the proof covers no copy of a place while the answer beside it is lent.
+    let Some((Place { holder, home }, answer)) = transport.next_reply(rt) else {
         return None;
     };
     answers.push_reserved(AnswerRead {
-        place: Place { holder: node, home },
+        place: Place { holder, home },
         kind: AnswerKind::of(&answer),
     });
     if !request.is_served(&answer) {
         ask_next(rt, transport, request, assign, home);
     }
-    Some((node, home, answer))
+    Some((Place { holder, home }, answer))
 }

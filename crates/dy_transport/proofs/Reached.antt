@@ -26,12 +26,6 @@ pub not_false : (b : Bool) → false ≡ not b → b ≡ true
 not_false true e = refl
 not_false false e = absurd (cc)
 
--- what holds at some number holds at one
-pub at_some : {T E : Type 0} (P : ℕ → Type 0) (r : Result T E) (n : ℕ) → OnOk r (P n) →
-    OnOk r ((x : ℕ) × P x)
-at_some P (Ok x) n h = (n, h)
-at_some P (Err e) n h = h
-
 module _ {J : Type 0} where
   nothing_fits : (to : ℕ) (ask : Ask J) → IsAnswerTo to ask answer.NoAnswer
   nothing_fits to (Store home row) = tt

@@ -14,7 +14,7 @@ use Rattle.dy_node.specs.declared.asks.Ask.{Ask}
 use Rattle.dy_node.specs.declared.asks.Answer.{Answer}
 use Rattle.dy_node.specs.declared.asks.Answer.TheVariants.{NoAnswer}
 use Rattle.dy_transport.specs.Asking.{asked, home_of, IsAnswerTo}
-use Rattle.dy_transport.specs.Lines.{IsReadNext, LineParts}
+use Rattle.dy_transport.specs.Lines.{IsReadNext, LineParts, handed_on}
 use Rattle.dy_transport.specs.Told.{Answers, IsAwaited, Told, reply, with_none, with_reply}
 use Rattle.dy_transport.specs.inside.Lines.{AreOfTwoAsks, IsAnswerIn, IsBehind, IsLine}
 use Rattle.dy_transport.specs.inside.Lines.{IsSecond, IsNotRead}
@@ -339,11 +339,11 @@ module _ {J : Type 0} where
   -- the first of the first ones is read
   pub first_next : (told new : Told J) (all rest second : List (Waiting J)) (w : Waiting J) →
       all ≡ w ∷ rest → new ≡ with_reply told w.number w.node w.home w.answer →
-      IsReadNext told all second (Some (w.node, w.home, w.answer))
+      IsReadNext told all second (Some (handed_on w))
       (record { told = new; first = rest; second = second })
   first_next told new all rest second w is reads =
       let P : List (Waiting J) → Type 0 =
-      λ ws. IsReadNext told ws second (Some (w.node, w.home, w.answer))
+      λ ws. IsReadNext told ws second (Some (handed_on w))
       (record { told = new; first = rest; second = second }) in
       subst P (sym is) (refl, reads, refl, refl)
 
@@ -351,11 +351,11 @@ module _ {J : Type 0} where
   pub second_next : (told new : Told J) (first left all rest : List (Waiting J))
       (w : Waiting J) → length first ≡ 0 → first ≡ left → all ≡ w ∷ rest →
       new ≡ with_reply told w.number w.node w.home w.answer →
-      IsReadNext told first all (Some (w.node, w.home, w.answer))
+      IsReadNext told first all (Some (handed_on w))
       (record { told = new; first = left; second = rest })
   second_next told new first left all rest w none same is reads =
       let P : List (Waiting J) → List (Waiting J) → Type 0 =
-      λ vs ws. IsReadNext told vs ws (Some (w.node, w.home, w.answer))
+      λ vs ws. IsReadNext told vs ws (Some (handed_on w))
       (record { told = new; first = left; second = rest }) in
       subst (P first) (sym is)
       (subst (λ vs. P vs (w ∷ rest)) (sym (nil_of first none))

@@ -5,3 +5,4 @@ pub mod Refusals
 pub mod Told
 pub mod Lines
 pub mod inside
+pub mod Tellings

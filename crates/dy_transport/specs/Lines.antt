@@ -1,5 +1,6 @@
 -- Lines of answers: what is told, and what waits behind it.
 use Rattle.std.specs.Prelude.{◌≡◌, ◌++◌, ◌∷◌, [], List, ℕ, Option, None, Some}
+use Rattle.dy_core.specs.declared.places.Place.{Place}
 use Rattle.dy_node.specs.declared.asks.Ask.{Ask}
 use Rattle.dy_node.specs.declared.asks.Answer.{Answer}
 use Rattle.dy_transport.specs.Asking.{home_of}
@@ -32,15 +33,19 @@ module _ {J : Type 0} where
   later_for number to a None = []
   later_for number to a (Some x) = waiting_for number to a x ∷ []
 
+  -- what is handed on of an answer that waits: its node and home as a place, and what is answered
+  abbrev pub handed_on : Waiting J → Place × Answer J
+  handed_on w = (record { holder = w.node; home = w.home }, w.answer)
+
   -- what is read next: the first of the first ones, else the first of the second ones, else none
   abbrev pub IsReadNext : Told J → List (Waiting J) → List (Waiting J) →
-      Option (ℕ × ℕ × Answer J) → LineParts J → Type 0
+      Option (Place × Answer J) → LineParts J → Type 0
   IsReadNext told (w ∷ first) second result new =
-      (result ≡ Some (w.node, w.home, w.answer))
+      (result ≡ Some (handed_on w))
       × (new.told ≡ with_reply told w.number w.node w.home w.answer)
       × (new.first ≡ first) × (new.second ≡ second)
   IsReadNext told [] (w ∷ second) result new =
-      (result ≡ Some (w.node, w.home, w.answer))
+      (result ≡ Some (handed_on w))
       × (new.told ≡ with_reply told w.number w.node w.home w.answer)
       × (new.first ≡ []) × (new.second ≡ second)
   IsReadNext told [] [] result new =

@@ -13,10 +13,11 @@ use crate::snapshots::show;
 use crate::transports::Transport;
 use crate::tries::Try;
 use dy_book::Book;
+use dy_core::Place;
 use dy_dots::{Context, Fault, NodeId};
-use dy_node::{Answer, Ask, Begun, Node, answer};
+use dy_node::{Answer, Ask, Begun, Node, RowFor, answer};
 use dy_shares::{Naming, Receipt, Seen, SessionShare, Since};
-use dy_siblings::{Key, Row, Value};
+use dy_siblings::{Key, Value};
 use std::alloc::Global;
 use std::marker::Model;
 use std::sync::{Mutex, Wait};
@@ -105,7 +106,7 @@ fn offer_by<J: Naming>(
     held: &mut Node<J>,
     book: &mut Book<J>,
     node: NodeId,
-) -> Result<Vec<(NodeId, Row)>, Fault>
+) -> Result<Vec<RowFor>, Fault>
     requires { held.old.part.node ≡ node }
     ensures hints { IfOk result (λ hints. hints.items ≡ hints_of held.old) }
     ensures for_homes { IfOk result (λ hints. AreForHomes J.ring J.n hints.items) }
@@ -185,7 +186,7 @@ impl<J: Naming> Direct<'_, J> {
     }
 
     // Lists hints, under the node's lock and the book's.
-    fn offer_at<R: Wait>(&self, rt: &R, node: NodeId) -> Result<Vec<(NodeId, Row)>, Fault>
+    fn offer_at<R: Wait>(&self, rt: &R, node: NodeId) -> Result<Vec<RowFor>, Fault>
         ensures for_homes { IfOk result (λ hints. AreForHomes J.ring J.n hints.items) }
         ensures for_others { IfOk result (λ hints. AreForOthers node hints.items) }
         ensures refused { IfErr result IsOfOffer }
@@ -293,7 +294,7 @@ impl<J: Naming> Transport<J> for Direct<'_, J> {
         gave
     }
 
-    fn offer<R: Wait>(&mut self, rt: &R, node: NodeId) -> Result<Vec<(NodeId, Row)>, Fault> {
+    fn offer<R: Wait>(&mut self, rt: &R, node: NodeId) -> Result<Vec<RowFor>, Fault> {
         let gave = self.offer_at(rt, node);
         self.line.note_try(Try::Offer {
             node,
@@ -322,7 +323,7 @@ impl<J: Naming> Transport<J> for Direct<'_, J> {
         self.line.put(to, ask, first, second);
     }
 
-    fn next_reply<R: Wait>(&mut self, rt: &R) -> Option<(NodeId, NodeId, Answer<J>)> {
+    fn next_reply<R: Wait>(&mut self, rt: &R) -> Option<(Place, Answer<J>)> {
         let _ = rt;
         self.line.next()
     }
@@ -332,8 +333,14 @@ impl<J: Naming> Transport<J> for Direct<'_, J> {
         rt: &R,
         session: &mut SessionShare<J>,
         w: u8,
-        receipts: &[Receipt<J>],
+        receipts: &Vec<Receipt<J>>,
     ) -> Result<(), Fault> {
-        self.book.lock(rt).ack(session, w, receipts)
+        let gave = self.book.lock(rt).ack(session, w, receipts);
+        self.line.note_try(Try::Record {
+            w,
+            receipts: show(receipts),
+            gave: show(&gave),
+        });
+        gave
     }
 }

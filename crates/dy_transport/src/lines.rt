@@ -2,8 +2,8 @@ ghost use Rattle.std.specs.Prelude.{◌≡◌, ◌<◌, ◌+◌, ◌*◌, ◌^�
 ghost use Rattle.std.specs.Prelude.{IfOk, IfSome, IsOkUnless};
 ghost use Rattle.dy_node.specs.declared.asks.Answer.TheVariants.{NoAnswer};
 ghost use Rattle.dy_transport.specs.Asking.{IsAnswerTo};
-ghost use Rattle.dy_transport.specs.Lines.{IsReadNext, later_for, nothing_in_line, waiting_for};
-ghost use Rattle.dy_transport.specs.Lines.{with_told};
+ghost use Rattle.dy_transport.specs.Lines.{IsReadNext, handed_on, later_for, nothing_in_line};
+ghost use Rattle.dy_transport.specs.Lines.{waiting_for, with_told};
 ghost use Rattle.dy_transport.specs.Told.{with_ask, with_none, with_reply, with_try};
 ghost use Rattle.dy_transport.specs.Told.{AllAnswered, Answers, IsAwaited};
 ghost use Rattle.dy_transport.specs.declared.transports.TheConstants.{SPARE_TRIES};
@@ -11,6 +11,7 @@ ghost use Rattle.dy_transport.specs.declared.transports.TheConstants.{SPARE_TRIE
 use crate::asked::home_asked;
 use crate::trails::Trail;
 use crate::tries::Try;
+use dy_core::Place;
 use dy_dots::{Fault, NodeId};
 use dy_node::{Answer, Ask};
 use dy_shares::Naming;
@@ -124,14 +125,14 @@ impl<J: Naming> Line<J> {
         }
     }
 
-    /// Reads the next answer: the node, the home and what it answered; none where none is left.
-    /// Takes no memory.
-    pub fn next(&mut self) -> Option<(NodeId, NodeId, Answer<J>)>
+    /// Reads the next answer: the place that was asked, and what it answered; none where none is
+    /// left. Takes no memory.
+    pub fn next(&mut self) -> Option<(Place, Answer<J>)>
         ensures next { IsReadNext self.old.told self.old.first self.old.second result self.new }
         ensures none { IfNone result (AllAnswered self.new.told) }
         ensures some { IfSome result (λ r. (number : ℕ)
-            × (self.new.told ≡ with_reply self.old.told number r.0 r.1 r.2)
-            × Answers self.old.told.asks number r.0 r.1 r.2
+            × (self.new.told ≡ with_reply self.old.told number r.0.holder r.0.home r.1)
+            × Answers self.old.told.asks number r.0.holder r.0.home r.1
             × IsAwaited self.old.told.replies number) }
         ensures drained { IfNone result (self.new.told ≡ with_none self.old.told) }
         ensures within { IfSome result
@@ -149,11 +150,11 @@ impl<J: Naming> Line<J> {
 }
 
 // Tells of an answer, and hands it on.
-fn read<J: Naming>(trail: &mut Trail<J>, waiting: Waiting<J>) -> (NodeId, NodeId, Answer<J>)
+fn read<J: Naming>(trail: &mut Trail<J>, waiting: Waiting<J>) -> (Place, Answer<J>)
     requires { length trail.old.replies < 2 * trail.old.room }
     ensures told { trail.new
         ≡ with_reply trail.old waiting.number waiting.node waiting.home waiting.answer }
-    ensures same { result ≡ (waiting.node, waiting.home, waiting.answer) }
+    ensures same { result ≡ handed_on waiting }
 {
     let Waiting {
         number,
@@ -162,5 +163,5 @@ fn read<J: Naming>(trail: &mut Trail<J>, waiting: Waiting<J>) -> (NodeId, NodeId
         answer,
     } = waiting;
     trail.note_reply(number, node, home, &answer);
-    (node, home, answer)
+    (Place { holder: node, home }, answer)
 }

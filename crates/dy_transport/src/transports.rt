@@ -3,8 +3,6 @@ ghost use Rattle.std.specs.Prelude.{IsTrue, IfOk, IfErr, OnOk, OnErr, IfNone, If
 ghost use Rattle.std.specs.List.{All, IsDistinct};
 ghost use Rattle.dy_dots.specs.declared.dots.Dot.{Dot as DotParts};
 ghost use Rattle.dy_preference.specs.Preferences.{homes_of, may_hold};
-ghost use Rattle.dy_core.specs.declared.steps.Step.TheVariants.{Ack};
-ghost use Rattle.dy_shares.specs.Shares.{with_ack};
 ghost use Rattle.dy_book.specs.Books.{AreOf};
 ghost use Rattle.dy_node.specs.Answers.{MayAsk};
 ghost use Rattle.dy_node.specs.Nodes.{AreForHomes, AreForOthers};
@@ -13,13 +11,16 @@ ghost use Rattle.dy_transport.specs.Asking.{IsBegun, IsSeenAt};
 ghost use Rattle.dy_transport.specs.Refusals.{IsOfBegin, IsOfNode, IsOfOffer, IsOfStep};
 ghost use Rattle.dy_transport.specs.Told.{Told, with_try, with_ask, with_none, with_reply};
 ghost use Rattle.dy_transport.specs.Told.{Answers, AllAnswered, IsAwaited};
-ghost use Rattle.dy_transport.specs.declared.tries.Try.TheVariants.{Begin, Look, Offer, Settle};
+ghost use Rattle.dy_transport.specs.Tellings.{IsAckTold};
+ghost use Rattle.dy_transport.specs.declared.tries.Try.TheVariants.{Begin, Look, Offer, Record};
+ghost use Rattle.dy_transport.specs.declared.tries.Try.TheVariants.{Settle};
 ghost use Rattle.dy_transport.specs.declared.transports.TheConstants.{SPARE_TRIES};
 
+use dy_core::Place;
 use dy_dots::{Context, Fault, NodeId};
-use dy_node::{Answer, Ask, Begun};
+use dy_node::{Answer, Ask, Begun, RowFor};
 use dy_shares::{Naming, Receipt, Seen, SessionShare, Since};
-use dy_siblings::{Key, Row, Value};
+use dy_siblings::{Key, Value};
 use std::sync::Wait;
 
 /// For how many tries there is room beyond those for asks.
@@ -68,7 +69,7 @@ pub trait Transport<J: Naming> {
             (Look node home (snapshot_of key.now) since.now (snapshot_of result)) };
 
     /// Lists the hints of a node, each with the home that it is for. May wait for locks.
-    fn offer<R: Wait>(&mut self, rt: &R, node: NodeId) -> Result<Vec<(NodeId, Row)>, Fault>
+    fn offer<R: Wait>(&mut self, rt: &R, node: NodeId) -> Result<Vec<RowFor>, Fault>
         requires { length (told self.old).tries < (told self.old).room + SPARE_TRIES }
         ensures for_homes { IfOk result (λ hints. AreForHomes J.ring J.n hints.items) }
         ensures for_others { IfOk result (λ hints. AreForOthers node hints.items) }
@@ -95,36 +96,38 @@ pub trait Transport<J: Naming> {
         requires may_ask { MayAsk J.ring J.n to ask.now }
         ensures { told self.new ≡ with_ask (told self.old) to ask.now };
 
-    /// The next answer: the node, the home and what it answered; none where none is outstanding.
-    /// May wait for an answer. Takes no memory.
-    fn next_reply<R: Wait>(&mut self, rt: &R) -> Option<(NodeId, NodeId, Answer<J>)>
+    /// The next answer: the place that was asked, and what it answered; none where none is
+    /// outstanding. May wait for an answer. Takes no memory.
+    fn next_reply<R: Wait>(&mut self, rt: &R) -> Option<(Place, Answer<J>)>
         ensures none { IfNone result
             ((told self.new ≡ with_none (told self.old)) × AllAnswered (told self.new)) }
         ensures some { IfSome result (λ r. (number : ℕ)
-            × (told self.new ≡ with_reply (told self.old) number r.0 r.1 r.2)
-            × Answers (told self.old).asks number r.0 r.1 r.2
+            × (told self.new ≡ with_reply (told self.old) number r.0.holder r.0.home r.1)
+            × Answers (told self.old).asks number r.0.holder r.0.home r.1
             × IsAwaited (told self.old).replies number) }
         ensures within { IfSome result
             (λ _. length (told self.old).replies < 2 * length (told self.old).asks) };
 
     /// Acknowledges the dot of these receipts, of as many homes as the put named, and tells the
-    /// session. May wait for a lock.
+    /// session, by a step that is later than all that it was told before. May wait for a lock.
     fn record<R: Wait>(
         &mut self,
         rt: &R,
         session: &mut SessionShare<J>,
         w: u8,
-        receipts: &[Receipt<J>],
+        receipts: &Vec<Receipt<J>>,
     ) -> Result<(), Fault>
+        requires room { length (told self.old).tries < (told self.old).room + SPARE_TRIES }
         requires some { 1 ≤ w }
         requires few { w ≤ J.n }
-        requires count { length receipts.now ≡ w }
-        requires one_dot { (key : List ℕ) × (d : DotParts) × AreOf key d receipts.now }
-        requires homes { IsDistinct nat_eq (map (λ r. r.home) receipts.now) }
-        requires holders { IsDistinct nat_eq (map (λ r. r.holder) receipts.now) }
-        ensures told { told self.new ≡ told self.old }
-        ensures ok { (key : List ℕ) (d : DotParts) → AreOf key d receipts.now →
-            OnOk result ((at : ℕ) × (session.new ≡ with_ack session.old at (Ack key d w))) }
+        requires count { length receipts.now.items ≡ w }
+        requires one_dot { (key : List ℕ) × (d : DotParts) × AreOf key d receipts.now.items }
+        requires homes { IsDistinct nat_eq (map (λ r. r.home) receipts.now.items) }
+        requires holders { IsDistinct nat_eq (map (λ r. r.holder) receipts.now.items) }
+        ensures told { told self.new ≡ with_try (told self.old)
+            (Record w (snapshot_of receipts.now) (snapshot_of result)) }
+        ensures ok { (key : List ℕ) (d : DotParts) → AreOf key d receipts.now.items →
+            OnOk result (IsAckTold session.old session.new key d w receipts.now.items) }
         ensures err { OnErr result (session.new ≡ session.old) }
         ensures refused { IfErr result IsOfStep };
 }
