@@ -1,12 +1,12 @@
 -- The rows of a get, answer by answer: each is of the key and later than the session's since, and
 -- with each that is read at most one home more has answered.
 use Rattle.std.proofs.Common.{Some, ◌≡◌, ◌++◌, ◌∷◌, [], ◌<◌, ◌≤◌, ◌+◌, List, ℕ, zero, suc, length}
-use Rattle.std.proofs.Common.{map, get_or, nat_eq, refl, sym, ◌∙◌, ap, subst, arith, length-append}
+use Rattle.std.proofs.Common.{map, get_or, nat_eq, sym, ◌∙◌, ap, subst, arith, length-append}
 use Rattle.std.proofs.Common.{append_assoc, inl, inr, Result, Ok, Err, IfOk, IfErr}
 use Rattle.std.proofs.lemmas.List.{append-nil, same_from_push}
 use Rattle.std.proofs.lemmas.List.Elements.{All-nil, All-cons, All-append, All-head, All-tail}
 use Rattle.std.proofs.lemmas.List.Elements.{All-contains}
-use Rattle.std.specs.List.{All, Contains, IsDistinct, slice_get}
+use Rattle.std.specs.List.{All, IsDistinct, slice_get}
 use Rattle.dy_dots.specs.declared.faults.Fault.TheVariants.{OutOfMemory}
 use Rattle.dy_siblings.specs.Siblings.{IsSameRow, newest}
 use Rattle.dy_preference.specs.Preferences.{Preferred, home_for}
@@ -206,6 +206,7 @@ module _ {J : Type 0} where
     tries = tries;
     own_is = own_is;
     asks = x.asks;
+    known = x.known;
     seens_are = x.seens_are;
     answers_are = x.answers_are;
     stops = x.stops;

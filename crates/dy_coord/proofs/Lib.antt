@@ -1,2 +1,4 @@
+pub mod Acked
 pub mod Getting
 pub mod Holders
+pub mod Trying

@@ -1,5 +1,6 @@
 -- What a get tries, asks and reads, and how it ends (Dynamo, section 4.5).
 use Rattle.std.specs.Prelude.{◌≡◌, ◌<◌, ◌++◌, ◌∷◌, ◌⊎◌, [], List, ℕ, length, map, Ok}
+use Rattle.std.specs.List.{All}
 use Rattle.dy_dots.specs.declared.faults.Fault.TheVariants.{OutOfMemory, NoNode, NotEnough}
 use Rattle.dy_preference.specs.Preferences.{Preferred, home_for}
 use Rattle.dy_siblings.specs.Siblings.{IsSameRow, IsSiblingSet, context_of, newest}
@@ -16,7 +17,7 @@ use Rattle.dy_transport.specs.declared.kinds.AnswerKind.TheVariants as kind
 use Rattle.dy_transport.specs.declared.kinds.AnswerRead.{AnswerRead}
 use Rattle.dy_transport.specs.declared.replies.Reply.{Reply}
 use Rattle.dy_reads.specs.Lists.{homes_in}
-use Rattle.dy_reads.specs.Rules.{AllUsed, AsksByRule, IsReadOut, as_read}
+use Rattle.dy_reads.specs.Rules.{AllUsed, AsksByRule, IsReadOut, IsReplyTo, as_read}
 use Rattle.dy_reads.specs.Tries.{TriesRefused, TriesAt, downs, look_try}
 use Rattle.dy_coord.specs.declared.get_dones.GetDone.{GetDone}
 use Rattle.dy_coord.specs.declared.get_faults.GetFault.{GetFault}
@@ -49,12 +50,14 @@ module _ {J : Type 0} where
       length (first_answers (own ++ seens_of before)) < r
 
   -- a get began at this coordinator, with this row of its own: the nodes before it were down, the
-  -- asks are by the rule, and it has all rows that were read, and lists all answers
+  -- asks are by the rule, each answer is one to an ask, and it has all rows that were read, and
+  -- lists all answers
   pub record Gathers (list : Preferred) (key : List ℕ) (r since c : ℕ) (own : SeenParts)
       (told : Told J) (seens : List SeenParts) (answers : List AnswerRead) : Type 0 where
     pub tries : TriesAt (look_try list key since) list.nodes told.tries c (Ok own)
     pub own_is : IsSeenAt c (home_for (homes_in list) c) key since own
     pub asks : AsksByRule list (Fetch (snapshot_of key) since) c told
+    pub known : All (IsReplyTo told.asks) told.replies
     pub seens_are : seens ≡ own ∷ seens_of told.replies
     pub answers_are : answers ≡ own_read list c ∷ map as_read told.replies
     pub stops : StopsSoon r (own ∷ []) told.replies

@@ -1,19 +1,24 @@
 -- How a put ends.
-use Rattle.std.specs.Prelude.{◌≡◌, ◌<◌, ◌≤◌, ◌⊎◌, [], List, ℕ, Option, Some, None}
+use Rattle.std.specs.Prelude.{◌≡◌, ◌<◌, ◌≤◌, ◌⊎◌, ◌++◌, ◌∷◌, [], List, ℕ, Option, Some, None}
 use Rattle.std.specs.Prelude.{Result, Ok, Err}
+use Rattle.std.specs.declared.alloc.Global.{Global}
+use Rattle.std.specs.declared.vec.Vec.{Vec}
 use Rattle.dy_dots.specs.Dots.{DotSet}
 use Rattle.dy_dots.specs.declared.dots.Dot.{Dot}
 use Rattle.dy_dots.specs.declared.faults.Fault.{Fault}
 use Rattle.dy_dots.specs.declared.faults.Fault.TheVariants.{OutOfMemory, NoNode, NotEnough}
 use Rattle.dy_dots.specs.declared.faults.Fault.TheVariants.{BadQuorum}
 use Rattle.dy_preference.specs.Preferences.{Preferred, home_for}
-use Rattle.dy_core.specs.declared.steps.Step.TheVariants.{Ack}
-use Rattle.dy_shares.specs.Shares.{ReceiptParts, SessionPart, with_ack}
-use Rattle.dy_quorum.specs.Tallies.{CanChoose}
+use Rattle.dy_shares.specs.Shares.{ReceiptParts, SessionPart}
+use Rattle.dy_quorum.specs.Tallies.{CanChoose, IsChoice}
 use Rattle.dy_node.specs.declared.begun.Begun.{Begun}
 use Rattle.dy_transport.specs.Asking.{IsBegun}
 use Rattle.dy_transport.specs.Refusals.{IsOfBegin, IsOfStep}
+use Rattle.dy_transport.specs.Snapshots.{snapshot_of}
+use Rattle.dy_transport.specs.Tellings.{IsAckTold}
 use Rattle.dy_transport.specs.Told.{Told}
+use Rattle.dy_transport.specs.declared.tries.Try.{Try}
+use Rattle.dy_transport.specs.declared.tries.Try.TheVariants.{Record}
 use Rattle.dy_transport.specs.declared.kinds.AnswerRead.{AnswerRead}
 use Rattle.dy_reads.specs.Lists.{homes_in}
 use Rattle.dy_reads.specs.Tries.{TriesRefused, TriesAt, begin_try, downs}
@@ -29,27 +34,39 @@ PutRefuses result dot answers IsReason =
     × IsReason e.fault
 
 -- Ok with this dot and these answers, and the session was told one ack more, of the key and the
--- dot, with the number of homes that was named
-pub record Acknowledges (key : List ℕ) (dot : Dot) (w : ℕ) (answers : List AnswerRead)
-    (before after : SessionPart) (result : Result PutDone PutFault) : Type 0 where
+-- dot, with the number of homes that was named, for which these receipts were spent
+pub record Acknowledges (key : List ℕ) (dot : Dot) (w : ℕ) (spent : List ReceiptParts)
+    (answers : List AnswerRead) (before after : SessionPart) (result : Result PutDone PutFault)
+    : Type 0 where
   pub done : PutDone
   pub result_is : result ≡ Ok done
   pub dot_is : done.dot ≡ dot
   pub answers_are : done.answers.items ≡ answers
-  pub at : ℕ
-  pub told : after ≡ with_ack before at (Ack key dot w)
-
--- a put that began: where w receipts of distinct homes and distinct holders can be chosen it is
--- acknowledged, or the step of the ack is refused; where not, there are not enough
-abbrev pub EndsAfter : List ℕ → Dot → ℕ → List ReceiptParts → List AnswerRead
-    → SessionPart → SessionPart → Result PutDone PutFault → Type 0
-EndsAfter key dot w added answers before after result =
-    (CanChoose w added × Acknowledges key dot w answers before after result)
-    ⊎ (CanChoose w added × (after ≡ before) × PutRefuses result (Some dot) answers IsOfStep)
-    ⊎ ((CanChoose w added → ⊥) × (after ≡ before)
-    × PutRefuses result (Some dot) answers (λ f. f ≡ NotEnough))
+  pub tells : IsAckTold before after key dot w spent
 
 module _ {J : Type 0} where
+  -- the ack was tried, as the last try behind these, with w of the receipts that came, of distinct
+  -- homes and distinct holders; and the try gave this
+  pub record IsRecorded (w : ℕ) (added : List ReceiptParts) (before tries : List (Try J))
+      (spent : Vec ReceiptParts Global) (gave : Result (Unit {0}) Fault) : Type 0 where
+    pub choice : IsChoice w added spent.items
+    pub last :
+        tries ≡ before ++ Record w (snapshot_of spent) (snapshot_of gave) ∷ []
+
+  -- a put that began: where w receipts of distinct homes and distinct holders can be chosen the ack
+  -- is tried with such, and the put is acknowledged, or refused for what the try was; where not,
+  -- nothing more is tried, and there are not enough
+  abbrev pub EndsAfter : List ℕ → Dot → ℕ → List ReceiptParts → List AnswerRead
+      → List (Try J) → List (Try J) → SessionPart → SessionPart
+      → Result PutDone PutFault → Type 0
+  EndsAfter key dot w added answers begins tries before after result =
+      ((spent : Vec ReceiptParts Global) × IsRecorded w added begins tries spent (Ok tt)
+      × Acknowledges key dot w spent.items answers before after result)
+      ⊎ ((after ≡ before) × PutRefuses result (Some dot) answers (λ f. IsOfStep f
+      × ((spent : Vec ReceiptParts Global) × IsRecorded w added begins tries spent (Err f))))
+      ⊎ ((CanChoose w added → ⊥) × (tries ≡ begins) × (after ≡ before)
+      × PutRefuses result (Some dot) answers (λ f. f ≡ NotEnough))
+
   -- what began at a coordinator: the first node that was not down made the version, for the home
   -- that it holds for; its whole row was asked to be held; and how it ended
   pub record IsPut (list : Preferred) (w : ℕ) (key : List ℕ) (context : DotSet)
@@ -57,10 +74,12 @@ module _ {J : Type 0} where
       (result : Result PutDone PutFault) (c : ℕ) (begun : Begun J) : Type 0 where
     pub added : List ReceiptParts
     pub answers : List AnswerRead
-    pub tries : TriesAt (begin_try list key context value) list.nodes told.tries c (Ok begun)
+    pub begins : List (Try J)
+    pub begins_are : TriesAt (begin_try list key context value) list.nodes begins c (Ok begun)
     pub begun_is : IsBegun c (home_for (homes_in list) c) key context value begun
     pub spreads : Spreads list begun.row begun.dot c told added answers
-    pub ends : EndsAfter key begun.dot w added answers before after result
+    pub ends :
+        EndsAfter key begun.dot w added answers begins told.tries before after result
 
   -- why a put asked nobody: want of memory before the first try, every node down, or what a begin
   -- was refused for

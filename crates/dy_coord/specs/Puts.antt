@@ -1,5 +1,6 @@
 -- What a put asks and reads.
 use Rattle.std.specs.Prelude.{◌≡◌, ◌++◌, ◌∷◌, [], List, ℕ, map}
+use Rattle.std.specs.List.{All}
 use Rattle.dy_dots.specs.declared.dots.Dot.{Dot}
 use Rattle.dy_siblings.specs.Siblings.{Siblings}
 use Rattle.dy_preference.specs.Preferences.{Preferred, home_for}
@@ -13,7 +14,8 @@ use Rattle.dy_transport.specs.declared.kinds.AnswerKind.TheVariants as kind
 use Rattle.dy_transport.specs.declared.kinds.AnswerRead.{AnswerRead}
 use Rattle.dy_transport.specs.declared.replies.Reply.{Reply}
 use Rattle.dy_reads.specs.Lists.{homes_in}
-use Rattle.dy_reads.specs.Rules.{AllUsed, AsksByRule, IsReadOut, as_read}
+use Rattle.dy_quorum.specs.Tallies.{DoAgree}
+use Rattle.dy_reads.specs.Rules.{AllUsed, AsksByRule, IsReadOut, IsReplyTo, as_read}
 
 -- the coordinator's own answer, as a put lists it: it holds the row for its home
 abbrev pub own_answer : Preferred → ℕ → AnswerRead
@@ -40,12 +42,15 @@ module _ {J : Type 0} where
       receipt_read key dot r.node r.home r.answer.value ++ receipts_read key dot replies
 
   -- what a put asks and reads that began at this coordinator with this row: it asks by the rule,
-  -- until nothing is left to read; the receipts are the coordinator's own and those that came
+  -- until nothing is left to read, and each answer is one to an ask; the receipts are the
+  -- coordinator's own and those that came, and any two of them agree
   pub record Spreads (list : Preferred) (row : Siblings) (dot : Dot) (c : ℕ) (told : Told J)
       (added : List ReceiptParts) (answers : List AnswerRead) : Type 0 where
     pub asks : AsksByRule list (Store (snapshot_of row)) c told
     pub out : IsReadOut told
     pub used : AllUsed list (Store (snapshot_of row)) c told
+    pub known : All (IsReplyTo told.asks) told.replies
     pub added_are :
         added ≡ own_receipt list row.key dot c ∷ receipts_read row.key dot told.replies
+    pub agree : DoAgree added
     pub answers_are : answers ≡ own_answer list c ∷ map as_read told.replies

@@ -74,7 +74,7 @@ fn read_rows<J: Naming, T: Transport<J>, R: Wait>(
         if gathering.is_ready() {
             break;
         }
-        let Some((_, _, answer)) = read_next(rt, transport, &request, assign, answers) else {
+        let Some((_, answer)) = read_next(rt, transport, &request, assign, answers) else {
             break;
         };
         if let Some(seen) = seen_of(answer) {

@@ -8,6 +8,7 @@ ghost use Rattle.dy_shares.specs.Shares.{receipt_parts};
 ghost use Rattle.dy_transport.specs.Snapshots.{snapshot_of};
 ghost use Rattle.dy_transport.specs.Told.{Told};
 ghost use Rattle.dy_transport.specs.declared.asked.What.TheVariants as what;
+ghost use Rattle.dy_quorum.specs.Tallies.{DoAgree};
 ghost use Rattle.dy_reads.specs.Rules.{HasRead, IsReadOut, MayStandIn, as_read, nodes_asked};
 ghost use Rattle.dy_reads.specs.declared.requests.Request.TheVariants as request;
 ghost use Rattle.dy_coord.specs.Puts.{receipts_read};
@@ -77,6 +78,7 @@ pub(crate) fn read_put<J: Naming, T: Transport<J>, R: Wait>(
     requires dot { IsTrue (has_dot row.now.versions dot) }
     requires one_key { All (λ v. v.key ≡ row.now.key) row.now.versions }
     requires own { tally.old.added ≡ receipt_parts row.now.key dot coordinator held ∷ [] }
+    requires agree { DoAgree tally.old.added }
     requires whats { All (λ a. a.what ≡ what.Store (snapshot_of row.now))
         (T.told transport.old).asks }
     requires may_ask { MayStandIn {J = J} J.ring J.n (request.Store row)
@@ -87,6 +89,8 @@ pub(crate) fn read_put<J: Naming, T: Transport<J>, R: Wait>(
         (T.told transport.old).asks assign.old
         (T.told transport.new).asks (T.told transport.new).replies assign.new }
     ensures tries { (T.told transport.new).tries ≡ (T.told transport.old).tries }
+    ensures room { (T.told transport.new).room ≡ (T.told transport.old).room }
+    ensures agree { DoAgree tally.new.added }
     ensures added { tally.new.added ≡ receipt_parts row.now.key dot coordinator held
         ∷ receipts_read row.now.key dot (T.told transport.new).replies }
     ensures w { tally.new.w ≡ tally.old.w }
@@ -98,7 +102,7 @@ pub(crate) fn read_put<J: Naming, T: Transport<J>, R: Wait>(
     let _ = (coordinator, held);
     let request = Request::Store(row);
     'reading: for _ in rt.forever() {
-        let Some((_, _, answer)) = read_next(rt, transport, &request, assign, answers) else {
+        let Some((_, answer)) = read_next(rt, transport, &request, assign, answers) else {
             break;
         };
         if let Some(receipt) = receipt_in(answer, dot) {

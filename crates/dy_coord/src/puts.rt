@@ -1,11 +1,15 @@
-ghost use Rattle.std.specs.Prelude.{◌≡◌, ◌≤◌, [], ℕ, IsTrue, IfOk, IsOkUnless, vec_capacity};
+ghost use Rattle.std.specs.Prelude.{◌≡◌, ◌<◌, ◌≤◌, ◌+◌, [], ℕ, length, IsTrue, IfOk};
+ghost use Rattle.std.specs.Prelude.{IsOkUnless, OnErr, vec_capacity};
 ghost use Rattle.dy_dots.specs.declared.faults.Fault.TheVariants as Fault;
 ghost use Rattle.dy_dots.specs.declared.nodes.TheConstants.{MAX_NODES};
 ghost use Rattle.dy_siblings.specs.Siblings.{has_dot};
 ghost use Rattle.dy_preference.specs.Preferences.{IsPreferred, home_for, preference_of};
 ghost use Rattle.dy_shares.specs.Shares.{receipt_parts};
 ghost use Rattle.dy_book.specs.Books.{AreOf};
+ghost use Rattle.dy_transport.specs.Tellings.{IsAckHeard};
 ghost use Rattle.dy_transport.specs.Told.{Told};
+ghost use Rattle.dy_transport.specs.declared.transports.TheConstants.{SPARE_TRIES};
+ghost use Rattle.dy_coord.specs.inside.PutReads.{with_tries};
 ghost use Rattle.dy_reads.specs.Lists.{homes_in};
 ghost use Rattle.dy_coord.specs.Puts.{Spreads};
 ghost use Rattle.dy_coord.specs.PutEnds.{EndsAfter, PutEnds, PutRuns};
@@ -63,6 +67,7 @@ fn spread<J: Naming, T: Transport<J>, R: Wait>(
     ensures spreads { Spreads list.now row.now dot coordinator
         (T.told transport.new) tally.new.added answers.new.items }
     ensures tries { (T.told transport.new).tries ≡ (T.told transport.old).tries }
+    ensures room { (T.told transport.new).room ≡ (T.told transport.old).room }
     ensures w { tally.new.w ≡ tally.old.w }
 {
     // Each version of a row is of its key.
@@ -102,13 +107,16 @@ fn conclude<J: Naming, T: Transport<J>, R: Wait>(
     answers: Vec<AnswerRead>,
     session: &mut SessionShare<J>,
 ) -> Result<PutDone, PutFault>
+    requires room { length (T.told transport.old).tries
+        < (T.told transport.old).room + SPARE_TRIES }
     requires some { 1 ≤ w }
     requires few { w ≤ J.n }
     requires w { tally.w ≡ w }
     requires of_one { AreOf key.now dot tally.added }
-    ensures told { T.told transport.new ≡ T.told transport.old }
-    ensures ends { EndsAfter key.now dot w tally.added answers.items
-        session.old session.new result }
+    ensures told { T.told transport.new
+        ≡ with_tries (T.told transport.old) (T.told transport.new).tries }
+    ensures ends { EndsAfter {J = J} key.now dot w tally.added answers.items
+        (T.told transport.old).tries (T.told transport.new).tries session.old session.new result }
 {
     // The receipts were made with the key, so it stands here for the contract alone.
     let _ = key;
@@ -200,8 +208,11 @@ pub fn put<J: Naming, T: Transport<J>, R: Wait>(
     requires room { MAX_NODES ≤ (T.told transport.old).room }
     requires nodes { list.now.nodes ≡ preference_of J.ring key.now }
     requires homes { list.now.n ≡ J.n }
-    ensures { PutEnds {J = J} list.now w key.now context.now value
+    ensures ends { PutEnds {J = J} list.now w key.now context.now value
         session.old session.new (T.told transport.old) (T.told transport.new) result }
+    ensures ok { IfOk result
+        (λ done. IsAckHeard session.old session.new key.now done.dot w) }
+    ensures err { OnErr result (session.new ≡ session.old) }
 {
     if w < 1 {
         return Err(PutFault::early(alloc, Fault::BadQuorum));

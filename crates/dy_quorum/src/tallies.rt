@@ -122,7 +122,9 @@ impl<J: Naming> Tally<J> {
     pub fn add(&mut self, receipt: Receipt<J>)
         requires fits { FitsAll self.old.added receipt }
         requires room { length self.old.added < TALLY_ROOM }
-        ensures { self.new ≡ record { w = self.old.w; added = self.old.added ++ receipt ∷ [] } }
+        ensures value { self.new
+            ≡ record { w = self.old.w; added = self.old.added ++ receipt ∷ [] } }
+        ensures agree { DoAgree self.new.added }
     {
         let home = receipt.home();
         if !self.homes.contains(&home) {

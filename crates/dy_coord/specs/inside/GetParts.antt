@@ -9,7 +9,7 @@ use Rattle.dy_transport.specs.Snapshots.{snapshot_of}
 use Rattle.dy_transport.specs.Told.{Told}
 use Rattle.dy_transport.specs.declared.asked.What.TheVariants.{Fetch}
 use Rattle.dy_transport.specs.declared.kinds.AnswerRead.{AnswerRead}
-use Rattle.dy_reads.specs.Rules.{AllUsed, AsksByRule, IsReadOut, as_read}
+use Rattle.dy_reads.specs.Rules.{AllUsed, AsksByRule, IsReadOut, IsReplyTo, as_read}
 use Rattle.dy_coord.specs.Gets.{StopsSoon, own_read, seens_of}
 use Rattle.dy_coord.specs.declared.get_dones.GetDone.{GetDone}
 
@@ -28,6 +28,7 @@ module _ {J : Type 0} where
   pub record Collects (list : Preferred) (key : List ℕ) (r since c : ℕ) (own : Answer)
       (told : Told J) (seens : List Answer) (answers : List AnswerRead) : Type 0 where
     pub asks : AsksByRule list (Fetch (snapshot_of key) since) c told
+    pub known : All (IsReplyTo told.asks) told.replies
     pub seens_are : seens ≡ own ∷ seens_of told.replies
     pub answers_are : answers ≡ own_read list c ∷ map as_read told.replies
     pub of_key : All (λ a. a.key ≡ key) seens

@@ -5,6 +5,8 @@ use Rattle.dy_dots.specs.declared.dots.Dot.{Dot}
 use Rattle.dy_shares.specs.Shares.{ReceiptParts}
 use Rattle.dy_node.specs.declared.asks.Answer.{Answer}
 use Rattle.dy_node.specs.declared.asks.Answer.TheVariants.{Stored, Rows, Down, NoAnswer, Refused}
+use Rattle.dy_transport.specs.Told.{Told}
+use Rattle.dy_transport.specs.declared.tries.Try.{Try}
 
 -- the first of these receipts that is of the dot
 abbrev pub first_of : Dot → List ReceiptParts → Option ReceiptParts
@@ -19,3 +21,7 @@ module _ {J : Type 0} where
   receipt_at dot Down = None
   receipt_at dot NoAnswer = None
   receipt_at dot (Refused f) = None
+
+  -- what is told, with these tries
+  abbrev pub with_tries : Told J → List (Try J) → Told J
+  with_tries t tries = record t { tries = tries }

@@ -1,6 +1,6 @@
 -- There is room for all that may be asked and read, and what was read is the coordinator's own row
 -- and what the replies bring.
-use Rattle.std.proofs.Common.{◌≡◌, ◌<◌, ◌≤◌, ◌+◌, ◌++◌, ◌∷◌, [], ℕ, List, length, arith, sym, ◌∙◌}
+use Rattle.std.proofs.Common.{◌≡◌, ◌<◌, ◌≤◌, ◌+◌, ◌∷◌, [], List, length, arith, sym, ◌∙◌}
 use Rattle.std.proofs.Common.{refl, ap, subst}
 use Rattle.std.proofs.lemmas.List.Elements.{All-cons}
 use Rattle.std.specs.List.{All}
@@ -83,6 +83,7 @@ returns-clause-collects g c =
     let r = ap (λ t. t.r) c.add.ensures in
     record {
       asks = ap (λ p. p.0) reading.so_far;
+      known = reading.known;
       seens_are = seens;
       answers_are = c.read_rows.ensures.answers
           ∙ rw (

@@ -1,7 +1,7 @@
 -- One answer more: what the loop keeps stays true, field by field, whether it has a row or not. The
 -- loop ends with the gathering ready, or with nothing left to read.
-use Rattle.std.proofs.Common.{rules, ◌≡◌, ◌<◌, ◌≤◌, ◌+◌, ◌*◌, ◌++◌, ℕ, List, length, map, arith}
-use Rattle.std.proofs.Common.{sym, ◌∙◌, refl, ap, vec_len, vec_capacity}
+use Rattle.std.proofs.Common.{rules, ◌<◌, ◌≤◌, ◌+◌, length, arith}
+use Rattle.std.proofs.Common.{◌∙◌, refl, ap, vec_len, vec_capacity}
 use Rattle.dy_quorum.specs.Gatherings.{first_answers}
 use Rattle.dy_transport.specs.Snapshots.{snapshot_of}
 use Rattle.dy_transport.specs.Told.{reply}
@@ -64,8 +64,8 @@ reading-preserved-in-Some-seen_of g c =
     let inv = c.reading.invariant in
     let some = c.in-Some-read_next.ensures.some in
     let q = some.1 in
-    let r : Reply g.row.J.Denot = reply some.0 c.in-Some-read_next.field-0-0
-    c.in-Some-read_next.field-0-1 c.in-Some-read_next.answer in
+    let r : Reply g.row.J.Denot = reply some.0 c.in-Some-read_next.field-0-0.holder
+    c.in-Some-read_next.field-0-0.home c.in-Some-read_next.answer in
     let lt : length (first_answers c.reading.gathering.seens) < c.reading.gathering.r =
     rw c.if-is_ready.false at c.is_ready.ensures in
     let below : length (first_answers c.reading.gathering.seens) < c.args.gathering.now.r =
@@ -98,8 +98,8 @@ reading-preserved g c =
     let inv = c.reading.invariant in
     let some = c.in-Some-read_next.ensures.some in
     let q = some.1 in
-    let r : Reply g.row.J.Denot = reply some.0 c.in-Some-read_next.field-0-0
-    c.in-Some-read_next.field-0-1 c.in-Some-read_next.answer in
+    let r : Reply g.row.J.Denot = reply some.0 c.in-Some-read_next.field-0-0.holder
+    c.in-Some-read_next.field-0-0.home c.in-Some-read_next.answer in
     let lt : length (first_answers c.reading.gathering.seens) < c.reading.gathering.r =
     rw c.if-is_ready.false at c.is_ready.ensures in
     let below : length (first_answers c.reading.gathering.seens) < c.args.gathering.now.r =

@@ -85,11 +85,11 @@ reading-preserved-in-Some-receipt_in g c =
     let i = inv.reading in
     let some = c.in-Some-read_next.ensures.some in
     let q = some.1 in
-    let r : Reply g.row.J.Denot = reply some.0 c.in-Some-read_next.field-0-0
-    c.in-Some-read_next.field-0-1 c.in-Some-read_next.answer in
+    let r : Reply g.row.J.Denot = reply some.0 c.in-Some-read_next.field-0-0.holder
+    c.in-Some-read_next.field-0-0.home c.in-Some-read_next.answer in
     let took = took_some told.asks row c.args.dot some.0 _ _ _ _ _ i.whats c.requires.one_key
     c.requires.dot q.answers c.receipt_in.ensures c.in-Some-receipt_in.is in
-    let now = ap (λ t. t.added) c.add.ensures in
+    let now = ap (λ t. t.added) c.add.ensures.value in
     record {
       reading = reading_step (Store (snapshot_of row)) start.asks c.args.assign.now told new
           c.reading.assign c.read_next.new.assign some.0 _ _ _ i q;
@@ -98,8 +98,9 @@ reading-preserved-in-Some-receipt_in g c =
       tries = q.tries ∙ inv.tries;
       added = added_more row.key c.args.dot told.replies new.replies r _ _ _ _ inv.added took.1 now
           q.replies;
+      agree = c.add.ensures.agree;
       count = count_more told.replies new.replies r _ _ _ inv.count now q.replies;
-      w = ap (λ t. t.w) c.add.ensures ∙ inv.w;
+      w = ap (λ t. t.w) c.add.ensures.value ∙ inv.w;
       answers = listed_more _ _ _ told.replies new.replies r _ c.in-Some-read_next.ensures.listed
           refl inv.answers q.replies;
       answers_len = len_more told.replies new.replies r _ _ _ c.in-Some-read_next.ensures.count
@@ -117,8 +118,8 @@ reading-preserved g c =
     let i = inv.reading in
     let some = c.in-Some-read_next.ensures.some in
     let q = some.1 in
-    let r : Reply g.row.J.Denot = reply some.0 c.in-Some-read_next.field-0-0
-    c.in-Some-read_next.field-0-1 c.in-Some-read_next.answer in
+    let r : Reply g.row.J.Denot = reply some.0 c.in-Some-read_next.field-0-0.holder
+    c.in-Some-read_next.field-0-0.home c.in-Some-read_next.answer in
     let none = took_none told.asks row c.args.dot some.0 _ _ _ _ i.whats c.requires.one_key
     c.requires.dot q.answers c.receipt_in.ensures c.in_default-receipt_in.not-Some in
     record {
@@ -128,6 +129,7 @@ reading-preserved g c =
       room = q.room ∙ inv.room;
       tries = q.tries ∙ inv.tries;
       added = added_same row.key c.args.dot told.replies new.replies r _ _ inv.added none q.replies;
+      agree = inv.agree;
       count = count_same told.replies new.replies r _ inv.count q.replies;
       w = inv.w;
       answers = listed_more _ _ _ told.replies new.replies r _ c.in-Some-read_next.ensures.listed

@@ -2,6 +2,7 @@ use Rattle.std.proofs.Common.{◌≡◌, ◌≤◌, ◌+◌, ◌++◌, ◌∷◌
 use Rattle.dy_shares.specs.Shares.{receipt_parts}
 use Rattle.dy_transport.specs.Snapshots.{snapshot_of}
 use Rattle.dy_transport.specs.declared.asked.What.TheVariants.{Store}
+use Rattle.dy_quorum.specs.Tallies.{DoAgree}
 use Rattle.dy_reads.specs.Rules.{HasRead, MayStandIn, as_read}
 use Rattle.dy_coord.specs.Puts.{receipts_read}
 use Rattle.dy_coord.proofs.put_reads.read_put.Given as goal
@@ -19,6 +20,7 @@ invariant-reading g l =
       tries : told.tries ≡ start.tries;
       added : l.tally.added ≡ receipt_parts l.row.key l.dot l.fn.coordinator l.fn.held ∷
           receipts_read l.row.key l.dot told.replies;
+      agree : DoAgree l.tally.added;
       count : length l.tally.added ≤ 1 + length told.replies;
       w : l.tally.w ≡ l.initial.tally.w;
       answers : l.answers.items ≡ l.initial.answers.items ++ map as_read told.replies;

@@ -1,8 +1,6 @@
 -- The receipts that were chosen are of the put's key and dot, so the ack is of them.
-use Rattle.std.proofs.Common.{ℕ, List, sym, ◌∙◌, refl, subst, inl, inr}
+use Rattle.std.proofs.Common.{ℕ, sym, ◌∙◌, refl, subst, inl, inr}
 use Rattle.std.proofs.lemmas.Bool.{true≢false}
-use Rattle.dy_book.specs.Books.{AreOf}
-use Rattle.dy_shares.specs.Shares.{ReceiptParts}
 use Rattle.dy_quorum.specs.Tallies.{CanChoose, IsChoice}
 use Rattle.dy_coord.proofs.Holders.{chosen_of}
 use Rattle.dy_coord.proofs.puts.conclude.Goals as goal
@@ -11,49 +9,53 @@ pub record-requires-clause-count : goal.record-requires-clause-count
 record-requires-clause-count g c =
     let mine : IsChoice c.args.w c.args.tally.added c.into_receipts-receipts.result.items =
     rw c.requires.w at c.into_receipts-receipts.ensures.choice in
-    rw c.deref.ensures.value mine.count
+    mine.count
 
 pub record-requires-clause-one_dot : goal.record-requires-clause-one_dot
 record-requires-clause-one_dot g c =
     let mine : IsChoice c.args.w c.args.tally.added c.into_receipts-receipts.result.items =
-    rw c.requires.w at c.into_receipts-receipts.ensures.choice in
-    let P : List ReceiptParts → Type 0 = λ xs. AreOf c.args.key.now c.args.dot xs in (
+    rw c.requires.w at c.into_receipts-receipts.ensures.choice in (
       c.args.key.now,
       c.args.dot,
-      subst P (sym c.deref.ensures.value) (chosen_of c.args.key.now
-          c.args.dot c.args.w c.args.tally.added c.into_receipts-receipts.result.items
-          c.requires.of_one mine),
+      chosen_of c.args.key.now c.args.dot c.args.w c.args.tally.added
+          c.into_receipts-receipts.result.items c.requires.of_one mine,
     )
 
 pub record-requires-clause-homes : goal.record-requires-clause-homes
 record-requires-clause-homes g c =
     let mine : IsChoice c.args.w c.args.tally.added c.into_receipts-receipts.result.items =
     rw c.requires.w at c.into_receipts-receipts.ensures.choice in
-    rw c.deref.ensures.value mine.homes
+    mine.homes
 
 pub record-requires-clause-holders : goal.record-requires-clause-holders
 record-requires-clause-holders g c =
     let mine : IsChoice c.args.w c.args.tally.added c.into_receipts-receipts.result.items =
     rw c.requires.w at c.into_receipts-receipts.ensures.choice in
-    rw c.deref.ensures.value mine.holders
+    mine.holders
+
+-- the try of the ack comes last, and changes nothing else
+pub returns-in-Ok-clause-told : goal.returns-in-Ok-clause-told
+returns-in-Ok-clause-told g c = rw c.record.ensures.told refl
+
+pub returns-clause-told : goal.returns-clause-told
+returns-clause-told g c = rw c.record.ensures.told refl
 
 pub returns-in-Ok-clause-ends : goal.returns-in-Ok-clause-ends
 returns-in-Ok-clause-ends g c =
     let mine : IsChoice c.args.w c.args.tally.added c.into_receipts-receipts.result.items =
     rw c.requires.w at c.into_receipts-receipts.ensures.choice in
-    let P : List ReceiptParts → Type 0 = λ xs. AreOf c.args.key.now c.args.dot xs in
-    let told = c.in-Ok.ensures.ok c.args.key.now c.args.dot (subst P (sym c.deref.ensures.value)
+    let tells = c.in-Ok.ensures.ok c.args.key.now c.args.dot
     (chosen_of c.args.key.now c.args.dot c.args.w c.args.tally.added
-    c.into_receipts-receipts.result.items c.requires.of_one mine)) in
+    c.into_receipts-receipts.result.items c.requires.of_one mine) in
     inl (
-      (c.into_receipts-receipts.result.items, mine),
+      c.into_receipts-receipts.result,
+      record { choice = mine; last = rw (c.record.ensures.told, c.in-Ok.is) refl },
       record {
         done = record { dot = c.args.dot; answers = c.args.answers };
         result_is = refl;
         dot_is = refl;
         answers_are = refl;
-        at = told.0;
-        told = told.1;
+        tells = tells;
       },
     )
 
@@ -62,14 +64,19 @@ returns-clause-ends g c =
     let mine : IsChoice c.args.w c.args.tally.added c.into_receipts-receipts.result.items =
     rw c.requires.w at c.into_receipts-receipts.ensures.choice in
     inr (inl (
-      (c.into_receipts-receipts.result.items, mine),
       c.in-Err.ensures.err,
       (
         _,
         refl,
         refl,
         refl,
-        c.in-Err.ensures.refused,
+        (
+          c.in-Err.ensures.refused,
+          (
+            c.into_receipts-receipts.result,
+            record { choice = mine; last = rw (c.record.ensures.told, c.in-Err.is) refl },
+          ),
+        ),
       ),
     ))
 
@@ -79,4 +86,4 @@ returns-then-not-ready-clause-ends g c =
     let P : ℕ → Type 0 = λ n. CanChoose n c.args.tally.added in
     let lacks : CanChoose c.args.w c.args.tally.added → ⊥ = λ can. true≢false
     (sym (c.ready.ensures.1 (subst P (sym c.requires.w) can)) ∙ c.if-not-ready.true) in
-    inr (inr (lacks, refl, (_, refl, refl, refl, refl)))
+    inr (inr (lacks, refl, refl, (_, refl, refl, refl, refl)))

@@ -1,10 +1,15 @@
 -- What was begun is spread, and then it is decided: the pieces of one put are put together.
-use Rattle.std.proofs.Common.{◌≡◌, ℕ, List, sym, ◌∙◌, refl, subst, inl, inr}
+use Rattle.std.proofs.Common.{◌≡◌, ℕ, List, arith, sym, ◌∙◌, refl, subst, inl, inr}
 use Rattle.dy_preference.specs.Preferences.{home_for, preference_of}
 use Rattle.dy_shares.specs.Shares.{ReceiptParts, receipt_parts}
 use Rattle.dy_book.specs.Books.{AreOf}
+use Rattle.dy_transport.specs.Told.{Told}
 use Rattle.dy_reads.specs.Lists.{homes_in}
+use Rattle.dy_reads.specs.Tries.{begin_try}
+use Rattle.dy_coord.specs.Puts.{Spreads}
+use Rattle.dy_coord.specs.inside.PutReads.{with_tries}
 use Rattle.dy_coord.proofs.Holders.{all_of_one, dot_in}
+use Rattle.dy_coord.proofs.Trying.{tried_count}
 use Rattle.dy_coord.proofs.puts.put_in_range.Goals as goal
 
 pub returns-in-Err : goal.returns-in-Err
@@ -84,16 +89,45 @@ conclude-requires-clause-of_one g c =
     (all_of_one c.in-At.begun.row.key c.in-At.begun.dot (home_for (homes_in c.args.list.now)
     c.in-At.c) c.in-At.c (g.T.Transport.told c.spread.new.transport).replies))
 
+-- no node was tried twice, so there is room for the ack
+pub conclude-requires-clause-room : goal.conclude-requires-clause-room
+conclude-requires-clause-room g c =
+    let nodes = c.args.list.now.nodes in
+    let at = c.in-At.ensures.tries in
+    let count = tried_count (begin_try c.args.list.now c.args.key.now c.args.context.now
+    c.args.value.now) nodes (g.T.Transport.told c.begin_somewhere.new.transport).tries c.in-At.c _
+    at in
+    let few = c.requires.valid.few in
+    let room = c.requires.room in
+    rw (c.spread.ensures.tries, c.spread.ensures.room, c.begin_somewhere.ensures.room)
+    (omega arith)
+
 pub returns-in-At : goal.returns-in-At
-returns-in-At g c = inl (
-  c.in-At.c,
-  c.in-At.begun,
-  record {
-    added = c.spread.new.tally.added;
-    answers = c.spread.new.answers.items;
-    tries = rw (c.conclude.ensures.told, c.spread.ensures.tries) c.in-At.ensures.tries;
-    begun_is = c.in-At.ensures.begun;
-    spreads = rw c.conclude.ensures.told c.spread.ensures.spreads;
-    ends = c.conclude.ensures.ends;
-  },
-)
+returns-in-At g c =
+    let s = c.spread.ensures.spreads in
+    let told = g.T.Transport.told c.spread.new.transport in
+    let tried = (g.T.Transport.told c.conclude.new.transport).tries in
+    let P : Told g.row.J.Denot → Type 0 = λ t. Spreads c.args.list.now c.in-At.begun.row
+    c.in-At.begun.dot c.in-At.c t c.spread.new.tally.added c.spread.new.answers.items in
+    let spreads : P (with_tries told tried) = record {
+      asks = s.asks;
+      out = s.out;
+      used = s.used;
+      known = s.known;
+      added_are = s.added_are;
+      agree = s.agree;
+      answers_are = s.answers_are;
+    } in
+    inl (
+      c.in-At.c,
+      c.in-At.begun,
+      record {
+        added = c.spread.new.tally.added;
+        answers = c.spread.new.answers.items;
+        begins = (g.T.Transport.told c.begin_somewhere.new.transport).tries;
+        begins_are = c.in-At.ensures.tries;
+        begun_is = c.in-At.ensures.begun;
+        spreads = subst P (sym c.conclude.ensures.told) spreads;
+        ends = rw (sym c.spread.ensures.tries) c.conclude.ensures.ends;
+      },
+    )

@@ -104,6 +104,8 @@ returns-clause-spreads g c =
       used = all_used list (Store (snapshot_of c.args.row.now)) co told c.read_put.new.assign
           reading
           out.1;
+      known = reading.known;
+      agree = c.read_put.ensures.agree;
       added_are = rw c.home_for-held.ensures.value at c.read_put.ensures.added;
       answers_are = c.read_put.ensures.answers ∙ rw (
         c.push_reserved.ensures.items,

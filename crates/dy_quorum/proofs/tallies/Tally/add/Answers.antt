@@ -34,3 +34,14 @@ invariant_of-self g c =
       | else-not-contains w ↦ rw (w.self-inside-is)
           (homes_same (λ (r : ReceiptParts). r.home) c.self.inside.added.items c.args.receipt _ inv.0 (sym tested ∙ w.if-not-contains.false), count_push _ _ inv.1 fits, omega arith, inv.3, inv.4, inv.5, inv.6, agree_more _ _ inv.7 fits)
     ])
+
+-- so do those with one more
+pub returns-clause-agree : goal.returns-clause-agree
+returns-clause-agree g c =
+    let inv = c.self.invariant in
+    let Q : Counted → Type 0 = λ t. FitsAll t.added c.args.receipt in
+    let fits : FitsAll c.self.inside.added.items c.args.receipt = subst Q (sym c.self.view_is) c.requires.fits in
+    rw c.push_reserved-2.ensures.items (elim c.if-not-contains.branch [
+      | then-not-contains w ↦ rw (w.self-inside-is) (agree_more _ _ inv.7 fits)
+      | else-not-contains w ↦ rw (w.self-inside-is) (agree_more _ _ inv.7 fits)
+    ])
