@@ -3,9 +3,8 @@ use crate::stages::Stage;
 use crate::texts::write_row;
 use dy_core::Place;
 use dy_dots::{Fault, NodeId};
-use dy_node::{Mode, Node};
+use dy_node::{Mode, Node, RowRefFor};
 use dy_shares::Naming;
-use dy_siblings::Row;
 use std::alloc::Global;
 use std::sync::Wait;
 
@@ -55,7 +54,7 @@ fn write_kept(
     alloc: Global,
     out: &mut String,
     holder: NodeId,
-    rows: &[(NodeId, &Row)],
+    rows: &[RowRefFor<'_>],
 ) -> Result<(), Fault> {
     for row in rows {
         let home = row.0;
@@ -70,7 +69,7 @@ fn write_rows_of<J: Naming>(
     held: &Node<J>,
     out: &mut String,
 ) -> Result<(), Fault> {
-    let rows: Vec<(NodeId, &Row)> = held.rows(stage.key)?;
+    let rows: Vec<RowRefFor<'_>> = held.rows(stage.key)?;
     write_kept(stage.alloc, out, held.number(), rows.as_slice())
 }
 

@@ -6,8 +6,8 @@ use crate::at_nodes::{set_delay, set_up, write_rows};
 use crate::calls::{get_directly, hand_over_one, put_directly};
 use crate::lossy::put_lossy;
 use crate::stages::Stage;
-use crate::texts::{write_get, write_list, write_pass, write_put};
-use crate::wrapped::{Wrapped, pass_wrapped, put_wrapped, wrapped_on};
+use crate::texts::{write_get, write_list, write_pass, write_put, write_told};
+use crate::wrapped::{Meanwhile, Wrapped, pass_wrapped, put_wrapped, wrapped_on};
 use dy_dots::{Fault, NodeId};
 use dy_shares::{Naming, SessionShare};
 use std::sync::Wait;
@@ -18,6 +18,8 @@ pub enum Deed {
     Put(u8),
     // The same over a line on which node 1's answers are lost.
     PutLossy(u8),
+    // The same over a transport that lists what came of it, and then what the session was told.
+    PutListed(u8),
     // The same, and before it is told node 0 comes up, and node 3 hands over to it.
     PutWhileHandedOver(u8),
     Get,
@@ -78,17 +80,30 @@ fn put_wrapped_and_write<J: Naming, R: Wait>(
     write_put(out, &ended)
 }
 
-// A put with a handover before it is told, and then what its transport listed.
+// A put, and what is done meanwhile, and then what its transport listed.
 fn put_while_and_write<J: Naming, R: Wait>(
+    rt: &R,
+    stage: &Stage<'_, J>,
+    session: &mut SessionShare<J>,
+    w: u8,
+    meanwhile: Meanwhile,
+    out: &mut String,
+) -> Result<(), Fault> {
+    let mut wrapped = wrapped_on(stage, meanwhile)?;
+    put_wrapped_and_write(rt, &mut wrapped, stage, session, w, out)?;
+    write_list(out, wrapped.list.as_str())
+}
+
+// A put, what its transport listed, and how much the session was told so far.
+fn put_listed_and_write<J: Naming, R: Wait>(
     rt: &R,
     stage: &Stage<'_, J>,
     session: &mut SessionShare<J>,
     w: u8,
     out: &mut String,
 ) -> Result<(), Fault> {
-    let mut wrapped = wrapped_on(stage)?;
-    put_wrapped_and_write(rt, &mut wrapped, stage, session, w, out)?;
-    write_list(out, wrapped.list.as_str())
+    put_while_and_write(rt, stage, session, w, Meanwhile::Nothing, out)?;
+    write_told(out, session.acks(), session.gets())
 }
 
 // A get, which is told.
@@ -108,7 +123,7 @@ fn pass_while_and_write<J: Naming, R: Wait>(
     stage: &Stage<'_, J>,
     out: &mut String,
 ) -> Result<(), Fault> {
-    let mut wrapped = wrapped_on(stage)?;
+    let mut wrapped = wrapped_on(stage, Meanwhile::Deliver)?;
     let passed = pass_wrapped(rt, &mut wrapped, NodeId::nth(3));
     write_pass(out, &passed)
 }
@@ -140,7 +155,10 @@ fn done<J: Naming, R: Wait>(
     match deed {
         Deed::Put(w) => put_and_write(rt, stage, session, w, out),
         Deed::PutLossy(w) => put_lossy_and_write(rt, stage, session, w, out),
-        Deed::PutWhileHandedOver(w) => put_while_and_write(rt, stage, session, w, out),
+        Deed::PutListed(w) => put_listed_and_write(rt, stage, session, w, out),
+        Deed::PutWhileHandedOver(w) => {
+            put_while_and_write(rt, stage, session, w, Meanwhile::HandOver, out)
+        }
         Deed::Get => get_and_write(rt, stage, session, out),
         Deed::At(node, deed) => done_at(rt, stage, deed, node, out),
         Deed::HandOverOne => write_pass(out, &hand_over_one(rt, stage, NodeId::nth(3))),

@@ -8,7 +8,7 @@ use dy_dots::Fault;
 // one of them by the stand-in, and the audit has the home in its place.
 const HANDED_OVER_BEFORE_THE_ACK: &str = "\
 put ok n1:1 1/1=stored 0/0=down 2/2=stored 3/0=stored
-listed refused E13 Down began n1:1 read 0/0=down read 2/2=stored read 3/0=stored read none
+listed refused E13 Down began n1:1 read 0/0=down read 2/2=stored read 3/0=stored read none recorded
 held 0/0 n1:1
 held 1/1 n1:1
 held 2/2 n1:1

@@ -8,6 +8,8 @@ mod calls;
 #[cfg(test)]
 mod deeds;
 #[cfg(test)]
+mod full_logs;
+#[cfg(test)]
 mod growth_texts;
 #[cfg(test)]
 mod growths;

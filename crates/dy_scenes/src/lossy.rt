@@ -12,10 +12,11 @@ ghost use Rattle.dy_transport.specs.Told.{nothing_told};
 use crate::calls::put_over;
 use crate::stages::Stage;
 use dy_coord::{PutDone, PutFault};
+use dy_core::Place;
 use dy_dots::{Context, Fault, NodeId};
-use dy_node::{Answer, Ask, Begun};
+use dy_node::{Answer, Ask, Begun, RowFor};
 use dy_shares::{Naming, Receipt, Seen, SessionShare, Since};
-use dy_siblings::{Key, Row, Value};
+use dy_siblings::{Key, Value};
 use dy_transport::{Direct, Line, Transport, Try};
 use std::snapshot::Snapshot;
 use std::sync::Wait;
@@ -79,7 +80,7 @@ fn answered_over<J: Naming, R: Wait>(
 {
     direct.ask(rt, to, ask);
     match direct.next_reply(rt) {
-        Some((_, _, answer)) => answer,
+        Some((_, answer)) => answer,
         None => Answer::NoAnswer,
     }
 }
@@ -193,7 +194,7 @@ impl<J: Naming> Transport<J> for Lossy<'_, J> {
         gave
     }
 
-    fn offer<R: Wait>(&mut self, rt: &R, node: NodeId) -> Result<Vec<(NodeId, Row)>, Fault> {
+    fn offer<R: Wait>(&mut self, rt: &R, node: NodeId) -> Result<Vec<RowFor>, Fault> {
         let _ = rt;
         let gave = Err(Fault::Down);
         self.line.note_try(Try::Offer {
@@ -224,7 +225,7 @@ impl<J: Naming> Transport<J> for Lossy<'_, J> {
         self.line.put(to, ask, first, later);
     }
 
-    fn next_reply<R: Wait>(&mut self, rt: &R) -> Option<(NodeId, NodeId, Answer<J>)> {
+    fn next_reply<R: Wait>(&mut self, rt: &R) -> Option<(Place, Answer<J>)> {
         let _ = rt;
         self.line.next()
     }
@@ -234,9 +235,14 @@ impl<J: Naming> Transport<J> for Lossy<'_, J> {
         rt: &R,
         session: &mut SessionShare<J>,
         w: u8,
-        receipts: &[Receipt<J>],
+        receipts: &Vec<Receipt<J>>,
     ) -> Result<(), Fault> {
-        let mut direct = self.direct()?;
-        direct.record(rt, session, w, receipts)
+        let gave = self.stage.book.lock(rt).ack(session, w, receipts);
+        self.line.note_try(Try::Record {
+            w,
+            receipts: show(receipts),
+            gave: show(&gave),
+        });
+        gave
     }
 }

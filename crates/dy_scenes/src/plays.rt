@@ -63,6 +63,17 @@ fn three_homes() -> Options
     }
 }
 
+// Two homes, and a log with room for three steps.
+fn three_steps() -> Options
+    ensures { result.n ≡ 2 }
+{
+    Options {
+        n: 2,
+        steps_limit: 3,
+        ..three_homes()
+    }
+}
+
 // What the scene and the audit tell, where all went well.
 fn ended<J: Naming>(
     alloc: Global,
@@ -275,6 +286,12 @@ pub fn told<R: Wait>(rt: &R, alloc: Global, deeds: &[Deed]) -> Result<String, Fa
     played_on(rt, alloc, &ring, three_homes(), deeds)
 }
 
+// The same with two homes, in a log with room for three steps.
+fn told_in_three_steps<R: Wait>(rt: &R, alloc: Global, deeds: &[Deed]) -> Result<String, Fault> {
+    let ring = five_nodes(alloc)?;
+    played_on(rt, alloc, &ring, three_steps(), deeds)
+}
+
 // Plays the deeds, and compares what is told with what is wanted.
 pub fn compare<R: Abort + Wait>(
     rt: &R,
@@ -283,6 +300,18 @@ pub fn compare<R: Abort + Wait>(
     wanted: &str,
 ) -> Result<(), Fault> {
     let text = told(rt, alloc, deeds)?;
+    assert_eq!(rt; text.as_str(), wanted);
+    Ok(())
+}
+
+// The same with two homes, in a log with room for three steps.
+pub fn compare_in_three_steps<R: Abort + Wait>(
+    rt: &R,
+    alloc: Global,
+    deeds: &[Deed],
+    wanted: &str,
+) -> Result<(), Fault> {
+    let text = told_in_three_steps(rt, alloc, deeds)?;
     assert_eq!(rt; text.as_str(), wanted);
     Ok(())
 }

@@ -163,6 +163,12 @@ pub fn write_list(out: &mut String, list: &str) -> Result<(), Fault> {
     Ok(())
 }
 
+// How many acks and gets the session was told.
+pub fn write_told(out: &mut String, acks: usize, gets: usize) -> Result<(), Fault> {
+    write!(out, "told acks {acks} gets {gets}\n")?;
+    Ok(())
+}
+
 // The counts of the audit.
 fn write_counts(out: &mut String, audit: &Audit) -> Result<(), Fault> {
     write!(out, "gets {} steps {}", audit.gets, audit.steps)?;

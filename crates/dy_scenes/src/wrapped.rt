@@ -1,5 +1,6 @@
-//! A transport that wraps `Direct`. It lists by itself what came of each begin, and each answer
-//! that was read; and something else is done while the call is under way.
+//! A transport that wraps `Direct`. It lists by itself what came of each begin, each answer that
+//! was read, and what came of the record; and something else may be done while the call is under
+//! way.
 ghost use Rattle.std.specs.Prelude.{◌≡◌, IfOk};
 ghost use Rattle.dy_transport.specs.Told.{nothing_told};
 
@@ -7,30 +8,46 @@ use crate::at_nodes::{deliver, set_up};
 use crate::calls::{hand_over_one, put_over};
 use crate::stages::Stage;
 use dy_coord::{PutDone, PutFault};
+use dy_core::Place;
 use dy_dots::{Context, Fault, NodeId};
 use dy_handoff::{Pass, pass};
-use dy_node::{Answer, Ask, Begun};
+use dy_node::{Answer, Ask, Begun, RowFor};
 use dy_shares::{Naming, Receipt, Seen, SessionShare, Since};
-use dy_siblings::{Key, Row, Value};
+use dy_siblings::{Key, Value};
 use dy_transport::{AnswerKind, Direct, Transport};
 use std::sync::Wait;
+
+// What is done while the call is under way.
+#[derive(Clone, Copy, PartialEq, Eq)]
+pub enum Meanwhile {
+    Nothing,
+    // A handover comes before the put is told.
+    HandOver,
+    // A message comes after the hints were listed.
+    Deliver,
+}
 
 // Nodes that are reached on the caller's own thread, and the list so far.
 #[derive(Drop)]
 pub struct Wrapped<'a, J: Naming> {
     pub stage: &'a Stage<'a, J>,
+    pub meanwhile: Meanwhile,
     pub direct: Direct<'a, J>,
     pub list: String,
 }
 
 // The transport of one call.
-pub fn wrapped_on<'a, J: Naming>(stage: &'a Stage<'a, J>) -> Result<Wrapped<'a, J>, Fault>
+pub fn wrapped_on<'a, J: Naming>(
+    stage: &'a Stage<'a, J>,
+    meanwhile: Meanwhile,
+) -> Result<Wrapped<'a, J>, Fault>
     ensures { IfOk result (λ wrapped. wrapped.direct ≡ nothing_told 32) }
 {
     let direct = Direct::new(stage.alloc, stage.nodes, stage.book, 32)?;
     let list = String::new(stage.alloc);
     Ok(Wrapped {
         stage,
+        meanwhile,
         direct,
         list,
     })
@@ -70,16 +87,22 @@ fn list_begun<J: Naming>(list: &mut String, gave: &Result<Begun<J>, Fault>) -> R
 }
 
 // Lists an answer, or that none was left.
-fn list_read<J: Naming>(
-    list: &mut String,
-    read: &Option<(NodeId, NodeId, Answer<J>)>,
-) -> Result<(), Fault> {
+fn list_read<J: Naming>(list: &mut String, read: &Option<(Place, Answer<J>)>) -> Result<(), Fault> {
     match read {
-        Some((node, home, answer)) => {
+        Some((Place { holder, home }, answer)) => {
             let kind = AnswerKind::of(answer);
-            write!(list, " read {node}/{home}={kind}")?;
+            write!(list, " read {holder}/{home}={kind}")?;
         }
         None => list.push_str(" read none")?,
+    }
+    Ok(())
+}
+
+// Lists what came of the record.
+fn list_recorded(list: &mut String, gave: &Result<(), Fault>) -> Result<(), Fault> {
+    match gave {
+        Ok(()) => list.push_str(" recorded")?,
+        Err(fault) => write!(list, " not recorded {fault}")?,
     }
     Ok(())
 }
@@ -95,6 +118,20 @@ fn hand_over_before<J: Naming, R: Wait>(rt: &R, stage: &Stage<'_, J>) -> Result<
 fn deliver_after<J: Naming, R: Wait>(rt: &R, stage: &Stage<'_, J>) -> Result<(), Fault> {
     let _count = deliver(rt, stage, 3)?;
     set_up(rt, stage, 0, true)
+}
+
+// What comes before the put is told.
+fn before_record<J: Naming, R: Wait>(rt: &R, stage: &Stage<'_, J>, meanwhile: Meanwhile) {
+    if meanwhile == Meanwhile::HandOver {
+        let _done = hand_over_before(rt, stage);
+    }
+}
+
+// What comes after the hints were listed.
+fn after_offer<J: Naming, R: Wait>(rt: &R, stage: &Stage<'_, J>, meanwhile: Meanwhile) {
+    if meanwhile == Meanwhile::Deliver {
+        let _done = deliver_after(rt, stage);
+    }
 }
 
 impl<J: Naming> Transport<J> for Wrapped<'_, J> {
@@ -129,10 +166,9 @@ impl<J: Naming> Transport<J> for Wrapped<'_, J> {
         self.direct.look(rt, node, home, key, since)
     }
 
-    // A message comes after the hints were listed.
-    fn offer<R: Wait>(&mut self, rt: &R, node: NodeId) -> Result<Vec<(NodeId, Row)>, Fault> {
+    fn offer<R: Wait>(&mut self, rt: &R, node: NodeId) -> Result<Vec<RowFor>, Fault> {
         let gave = self.direct.offer(rt, node);
-        let _done = deliver_after(rt, self.stage);
+        after_offer(rt, self.stage, self.meanwhile);
         gave
     }
 
@@ -149,21 +185,22 @@ impl<J: Naming> Transport<J> for Wrapped<'_, J> {
         self.direct.ask(rt, to, ask);
     }
 
-    fn next_reply<R: Wait>(&mut self, rt: &R) -> Option<(NodeId, NodeId, Answer<J>)> {
+    fn next_reply<R: Wait>(&mut self, rt: &R) -> Option<(Place, Answer<J>)> {
         let read = self.direct.next_reply(rt);
         let _listed = list_read(&mut self.list, &read);
         read
     }
 
-    // A handover comes before the put is told.
     fn record<R: Wait>(
         &mut self,
         rt: &R,
         session: &mut SessionShare<J>,
         w: u8,
-        receipts: &[Receipt<J>],
+        receipts: &Vec<Receipt<J>>,
     ) -> Result<(), Fault> {
-        let _done = hand_over_before(rt, self.stage);
-        self.direct.record(rt, session, w, receipts)
+        before_record(rt, self.stage, self.meanwhile);
+        let gave = self.direct.record(rt, session, w, receipts);
+        let _listed = list_recorded(&mut self.list, &gave);
+        gave
     }
 }

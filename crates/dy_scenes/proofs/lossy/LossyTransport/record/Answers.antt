@@ -1,0 +1,10 @@
+use Rattle.std.proofs.Common.{◌≡◌, ◌<◌, ◌+◌, length, arith}
+use Rattle.std.proofs.lemmas.Result.{on_ok_weaker}
+use Rattle.dy_scenes.proofs.lossy.LossyTransport.record.Goals as goal
+
+-- the number of the step is the one after the log, which has all that the session was told
+pub returns-clause-ok : goal.returns-clause-ok
+returns-clause-ok g c = λ key d of.
+    on_ok_weaker c.ack-gave.result
+    (λ told. record { at = _; later = omega (arith, c.ack-gave.ensures.later); told = told })
+    (c.ack-gave.ensures.share key d of)
