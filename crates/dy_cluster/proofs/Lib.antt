@@ -1,3 +1,4 @@
+pub mod Sent
 pub mod Firsts
 pub mod StoreCovers
 pub mod Together

@@ -26,7 +26,7 @@ use Rattle.dy_node.specs.Nodes.{RestState}
 use Rattle.dy_node.specs.Stored.{Shows, versions_at}
 use Rattle.dy_node.proofs.Worldly.{matches_world}
 use Rattle.dy_cluster.specs.Ends.{AtRest, GoesWith, IsEndOf}
-use Rattle.dy_cluster.specs.Stores.{AreCovering, IsKept, KeepsCover}
+use Rattle.dy_cluster.specs.Stores.{AreCovering, IsKept, KeepsCover, TellsStores}
 use Rattle.dy_cluster.specs.declared.restings.Closed.{Closed}
 
 -- of two lists that go together: what goes with an item of the first
@@ -157,18 +157,32 @@ module _ (ring : Tokens) (n r : ℕ) (c : AtRest) (tellings : List SessionPart) 
       )
 
   pub stores_cover : (x : Acked) → IsTold tellings x →
-      AreCovering closed.rests.items x.key x.dot x.w
+      AreCovering ring n closed.rests.items x.key x.dot x.w
   stores_cover x told =
       let w = world_of c.book in
-      let cover : HasCover w x.key x.dot x.w =
-      All-contains (λ a. HasCover w a.key a.dot a.w) w.acks x ended.audit.covered
+      let layout = layout_of ring n in
+      let cover : HasCover layout w x.key x.dot x.w =
+      All-contains (λ a. HasCover layout w a.key a.dot a.w) w.acks x ended.audit.covered
       (acked_in ring.nodes r (account_of c.book) c.parts tellings ended.audit.all x told) in
-      record {
-        places = cover.places;
-        count_is = cover.is_cover.count_is;
-        homes_distinct = cover.is_cover.homes_distinct;
-        holders_distinct = cover.is_cover.holders_distinct;
-        each_keeps = All-weaker (λ p. CoversAt w x.key x.dot p.holder p.home)
-            (λ p. KeepsCover closed.rests.items p.holder p.home x.key x.dot)
-            (keeps_cover x.key x.dot) cover.places cover.is_cover.each_covers;
-      }
+      let is = cover.is_cover in (
+        cover.places,
+        record {
+          count_is = is.count_is;
+          each_home = is.each_home;
+          homes_distinct = is.homes_distinct;
+          holders_distinct = is.holders_distinct;
+          each_covers = All-weaker (λ p. CoversAt w x.key x.dot p.holder p.home)
+              (λ p. KeepsCover closed.rests.items p.holder p.home x.key x.dot)
+              (keeps_cover x.key x.dot) cover.places is.each_covers;
+        },
+      )
+
+  -- so the audit tells what the stores have
+  pub tells_stores : TellsStores ring n closed
+  tells_stores = record {
+    held = λ holder home key d. (let shown = ended.audit.held_shown holder home key d in (
+      (λ told. kept_from holder home key d (shown.0 told)),
+      (λ kept. shown.1 (kept_in holder home key d kept)),
+    ));
+    covered = λ x lists. stores_cover x ((ended.audit.acked_told x).0 lists);
+  }

@@ -39,7 +39,7 @@ GoTogether ring n parts rests = AllZip (GoesWith ring n) parts rests
 pub record IsEndOf (ring : Tokens) (n r : ℕ) (c : AtRest) (tellings : List SessionPart)
     (closed : Closed) : Type 0 where
   pub legal : IsLegal (layout_of ring n) (steps_of c.book.log)
-  pub audit : IsAuditOf ring r c.book c.parts tellings closed.audit
+  pub audit : IsAuditOf ring n r c.book c.parts tellings closed.audit
   pub count : length c.parts ≡ ring.nodes
   pub rests_are : closed.rests.items ≡ c.rests
   pub together : GoTogether ring n c.parts c.rests

@@ -3,3 +3,4 @@ pub mod Lists
 pub mod Named
 pub mod Refusals
 pub mod Stores
+pub mod Deliveries

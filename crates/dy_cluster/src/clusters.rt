@@ -1,11 +1,12 @@
-ghost use Rattle.std.specs.Prelude.{◌≡◌, ◌≤◌, ◌⊎◌, ◌++◌, ◌∷◌, [], length, vec_len, vec_capacity};
-ghost use Rattle.std.specs.Prelude.{IfOk, IfErr, OnErr, IsOkUnless};
+ghost use Rattle.std.specs.Prelude.{◌≡◌, ◌≤◌, ◌⊎◌, ◌↔◌, ◌++◌, ◌∷◌, [], length, vec_len};
+ghost use Rattle.std.specs.Prelude.{vec_capacity, IfOk, IfErr, OnErr, IsOkUnless};
 ghost use Rattle.dy_dots.specs.declared.nodes.TheConstants.{MAX_NODES};
-ghost use Rattle.dy_shares.specs.Shares.{SessionPart};
+ghost use Rattle.dy_shares.specs.Shares.{IsMissing, SessionPart};
 ghost use Rattle.dy_book.specs.Limits.{IsQuorum};
 ghost use Rattle.dy_transport.specs.Told.{nothing_told};
 ghost use Rattle.dy_cluster.specs.Ends.{IsClosed};
 ghost use Rattle.dy_cluster.specs.Named.{NamesBook};
+ghost use Rattle.dy_cluster.specs.Stores.{TellsAcks, TellsStores};
 
 use crate::locks::{lock_all, rejoin_all, retire_all};
 use crate::openings::Opened;
@@ -185,7 +186,12 @@ impl<J: Naming> Cluster<J> {
     /// Ends the cluster, where each of its sessions is handed in; otherwise all comes back. Whoever
     /// may have kept a session back goes by `rest`.
     pub fn close(self, sessions: Vec<SessionShare<J>>) -> Result<Closed, ClusterRefused<J>>
+        ensures stores { IfOk result (TellsStores J.ring J.n) }
+        ensures acks { IfOk result (TellsAcks sessions.items) }
         ensures closed { IfOk result (λ closed. IsClosed J.ring J.n J.r sessions.items closed) }
+        ensures shares_missing { IfErr result (λ refused. (refused.fault ≡ Fault.SharesMissing)
+            ↔ IsMissing J.ring.nodes refused.cluster.book.sessions refused.cluster.parts
+            sessions.items) }
         ensures only { IfErr result (λ refused. (refused.fault ≡ Fault.SharesMissing)
             ⊎ (refused.fault ≡ Fault.OutOfMemory)) }
         ensures sessions_back { IfErr result (λ refused. refused.sessions.items ≡ sessions.items) }

@@ -6,6 +6,7 @@ ghost use Rattle.dy_shares.specs.Shares.{SessionPart};
 ghost use Rattle.dy_cluster.specs.Ends.{IsClosed};
 ghost use Rattle.dy_cluster.specs.Named.{NamesBook};
 ghost use Rattle.dy_cluster.specs.Refusals.{IsRunRefusal};
+ghost use Rattle.dy_cluster.specs.Stores.{TellsAcks, TellsStores};
 
 use crate::clusters::Cluster;
 use crate::embedding::{MOST_CLIENTS, seat_clients};
@@ -50,6 +51,9 @@ pub fn with_workers<C: Correspondent + Sync, G: Gate + Sync, R: Threads + Wait +
     clients: u8,
     client: &C,
 ) -> Result<Closed, Fault>
+    ensures stores { IfOk result (TellsStores ring options.n) }
+    ensures acks { IfOk result (λ closed. (tellings : List SessionPart)
+        × TellsAcks tellings closed × length tellings ≡ clients) }
     ensures closed { IfOk result (λ closed. (tellings : List SessionPart)
         × IsClosed ring options.n options.r tellings closed × length tellings ≡ clients) }
     ensures too_many { ¬ (AreLimits options) → IsErrOf result Fault.TooMany }
@@ -69,6 +73,9 @@ fn run_staffed<
     R: Threads + Wait + Sync,
 >(rt: &R, alloc: Global, opened: Opened, gate: &G, clients: u8, client: &C) -> Result<Closed, Fault>
     requires named { NamesBook J.book J.table J.ring J.n J.r opened }
+    ensures stores { IfOk result (TellsStores opened.ring opened.options.n) }
+    ensures acks { IfOk result (λ closed. (tellings : List SessionPart)
+        × TellsAcks tellings closed × (length tellings ≡ clients)) }
     ensures closed { IfOk result (λ closed. (tellings : List SessionPart)
         × IsClosed opened.ring opened.options.n opened.options.r tellings closed
         × (length tellings ≡ clients)) }

@@ -4,6 +4,7 @@ ghost use Rattle.dy_shares.specs.Shares.{SessionPart};
 ghost use Rattle.dy_cluster.specs.Ends.{IsClosed};
 ghost use Rattle.dy_cluster.specs.Named.{NamesBook};
 ghost use Rattle.dy_cluster.specs.Refusals.{IsRunRefusal};
+ghost use Rattle.dy_cluster.specs.Stores.{TellsAcks, TellsStores};
 
 use crate::clusters::Cluster;
 use crate::openings::Opened;
@@ -59,6 +60,9 @@ pub fn with_cluster<W: Work, R: Wait>(
     options: Options,
     work: &mut W,
 ) -> Result<Closed, Fault>
+    ensures stores { IfOk result (TellsStores ring options.n) }
+    ensures acks { IfOk result (λ closed. (tellings : List SessionPart)
+        × TellsAcks tellings closed × W.told work.new tellings) }
     ensures closed { IfOk result (λ closed. (tellings : List SessionPart)
         × IsClosed ring options.n options.r tellings closed × W.told work.new tellings) }
     ensures too_many { ¬ (AreLimits options) → IsErrOf result Fault.TooMany }
@@ -77,7 +81,10 @@ fn run_named<J: Naming, W: Work, R: Wait>(
     work: &mut W,
 ) -> Result<Closed, Fault>
     requires named { NamesBook J.book J.table J.ring J.n J.r opened }
-    ensures { IfOk result (λ closed. (tellings : List SessionPart)
+    ensures stores { IfOk result (TellsStores opened.ring opened.options.n) }
+    ensures acks { IfOk result (λ closed. (tellings : List SessionPart)
+        × TellsAcks tellings closed × W.told work.new tellings) }
+    ensures closed { IfOk result (λ closed. (tellings : List SessionPart)
         × IsClosed opened.ring opened.options.n opened.options.r tellings closed
         × W.told work.new tellings) }
 {
@@ -103,6 +110,9 @@ pub fn with_clients<C: Client + Sync, R: Threads + Wait + Sync>(
     clients: u8,
     client: &C,
 ) -> Result<Closed, Fault>
+    ensures stores { IfOk result (TellsStores ring options.n) }
+    ensures acks { IfOk result (λ closed. (tellings : List SessionPart)
+        × TellsAcks tellings closed × length tellings ≡ clients) }
     ensures closed { IfOk result (λ closed. (tellings : List SessionPart)
         × IsClosed ring options.n options.r tellings closed × length tellings ≡ clients) }
     ensures too_many { ¬ (AreLimits options) → IsErrOf result Fault.TooMany }
@@ -123,6 +133,7 @@ fn run_clients<J: Naming + Send + Sync, C: Client + Sync, R: Threads + Wait + Sy
     client: &C,
 ) -> Result<Closed, Fault>
     requires named { NamesBook J.book J.table J.ring J.n J.r opened }
+    ensures stores { IfOk result (TellsStores opened.ring opened.options.n) }
     ensures closed { IfOk result (λ closed. (tellings : List SessionPart)
         × IsClosed opened.ring opened.options.n opened.options.r tellings closed
         × (length tellings ≡ clients)) }

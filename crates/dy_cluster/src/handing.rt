@@ -1,12 +1,16 @@
 // What is done at one node of a cluster: passes, kept messages, and what it shows.
 ghost use Rattle.std.specs.Prelude.{◌≤◌, IfOk, IfErr, ◌⊎◌, ◌≡◌};
+ghost use Rattle.dy_transport.specs.Told.{Told};
+ghost use Rattle.dy_handoff.specs.Passes.{IsPass};
+ghost use Rattle.dy_cluster.specs.Deliveries.{IsDelivery};
 
 use crate::clusters::Cluster;
 use dy_dots::{Fault, NodeId};
 use dy_handoff::{Pass, pass};
 use dy_mailboxes::{Mailboxes, Post};
+use dy_node::RowFor;
 use dy_shares::Naming;
-use dy_siblings::{Key, Row};
+use dy_siblings::Key;
 use dy_transport::Direct;
 use std::sync::Wait;
 
@@ -25,6 +29,7 @@ impl<J: Naming> Cluster<J> {
     /// A pass over the hints that the node keeps now, on the caller's own thread: each home is
     /// asked to hold its row, and what it holds then is settled. May wait for locks.
     pub fn handoff<R: Wait>(&self, rt: &R, node: NodeId) -> Result<Pass, Fault>
+        ensures ok { IfOk result (λ done. (told : Told J) × IsPass {J = J} node told done) }
         ensures fewer { IfOk result (λ done. done.stored ≤ done.offers) }
         ensures only { IfErr result (λ fault. (fault ≡ Fault.Down) ⊎ (fault ≡ Fault.OutOfMemory)) }
     {
@@ -41,6 +46,7 @@ impl<J: Naming> Cluster<J> {
         post: &mut Post<J>,
         node: NodeId,
     ) -> Result<Pass, Fault>
+        ensures ok { IfOk result (λ done. (told : Told J) × IsPass {J = J} node told done) }
         ensures fewer { IfOk result (λ done. done.stored ≤ done.offers) }
         ensures only { IfErr result (λ fault. (fault ≡ Fault.Down) ⊎ (fault ≡ Fault.OutOfMemory)) }
     {
@@ -53,7 +59,9 @@ impl<J: Naming> Cluster<J> {
 
     /// Lets the node store the messages that it kept, the oldest first, and tells how many. A node
     /// that the ring has not is down. May wait for locks.
-    pub fn deliver<R: Wait>(&self, rt: &R, node: NodeId) -> Result<usize, Fault> {
+    pub fn deliver<R: Wait>(&self, rt: &R, node: NodeId) -> Result<usize, Fault>
+        ensures ok { IfOk result IsDelivery }
+    {
         let Some(lock) = self.nodes.get(usize::from(node.number())) else {
             return Err(Fault::Down);
         };
@@ -64,12 +72,7 @@ impl<J: Naming> Cluster<J> {
 
     /// Copies of what the node keeps of the key: its own row, and then its hints in the order of
     /// their homes. May wait for a lock.
-    pub fn show<R: Wait>(
-        &self,
-        rt: &R,
-        node: NodeId,
-        key: &Key,
-    ) -> Result<Vec<(NodeId, Row)>, Fault> {
+    pub fn show<R: Wait>(&self, rt: &R, node: NodeId, key: &Key) -> Result<Vec<RowFor>, Fault> {
         let mut copies = Vec::new(self.alloc);
         let Some(lock) = self.nodes.get(usize::from(node.number())) else {
             return Ok(copies);

@@ -20,5 +20,5 @@ pub fn stores_cover_acks()
         ↔ IsKept closed.rests.items holder home key d }
     ensures covered { (ring : Tokens) (n r : ℕ) (tellings : List SessionPart) (closed : Closed) →
         IsClosed ring n r tellings closed → (x : Acked) → IsTold tellings x →
-        AreCovering closed.rests.items x.key x.dot x.w }
+        AreCovering ring n closed.rests.items x.key x.dot x.w }
 {}

@@ -29,7 +29,7 @@ fn put<J: Naming, R: Wait>(
 }
 
 // Seats a session, and puts by it.
-fn seat_and_put<J: Naming, R: Wait>(
+pub fn seat_and_put<J: Naming, R: Wait>(
     rt: &R,
     alloc: Global,
     cluster: &Cluster<J>,

@@ -105,7 +105,7 @@ fn ask_all<J: Naming, R: Wait>(
 // Counts the answers with a row.
 fn count_rows<J: Naming, R: Wait>(rt: &R, mailboxes: &mut Mailboxes<'_, J>, rows: &AtomicU64) {
     for _ in 0..ASKS {
-        let Some((_node, _home, answer)) = mailboxes.next_reply(rt) else {
+        let Some((_place, answer)) = mailboxes.next_reply(rt) else {
             return;
         };
         if AnswerKind::of(&answer) == AnswerKind::Rows {

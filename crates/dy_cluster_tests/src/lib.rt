@@ -18,6 +18,8 @@ mod leaves;
 #[cfg(test)]
 mod posted;
 #[cfg(test)]
+mod refused_calls;
+#[cfg(test)]
 mod rings;
 #[cfg(test)]
 mod signals;

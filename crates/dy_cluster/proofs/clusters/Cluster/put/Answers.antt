@@ -4,8 +4,8 @@ use Rattle.dy_coord.specs.PutEnds.{PutEnds}
 use Rattle.dy_cluster.proofs.clusters.Cluster.put.Goals as goal
 
 -- a number of homes that there are not is refused before the list is made
-pub returns-then-w-lt1 : goal.returns-then-w-lt1
-returns-then-w-lt1 g c =
+pub returns-then-w-lt1-clause-ends : goal.returns-then-w-lt1-clause-ends
+returns-then-w-lt1-clause-ends g c =
     let none : c.args.w ≡ 0 = omega (arith, c.if-w-lt1.true) in
     inr (
       inl none,
@@ -20,8 +20,8 @@ returns-then-w-lt1 g c =
       ),
     )
 
-pub returns-then-self-w : goal.returns-then-self-w
-returns-then-self-w g c =
+pub returns-then-self-w-clause-ends : goal.returns-then-self-w-clause-ends
+returns-then-self-w-clause-ends g c =
     let many : g.J.Naming.n < c.args.w = omega (arith, c.args.self.now.n_is, c.if-self-w.true) in
     inr (
       inr many,
@@ -37,15 +37,15 @@ returns-then-self-w g c =
     )
 
 -- the list is the key's
-pub returns-in-Ok : goal.returns-in-Ok
-returns-in-Ok g c =
+pub returns-in-Ok-clause-ends : goal.returns-in-Ok-clause-ends
+returns-in-Ok-clause-ends g c =
     subst (λ (list : Preferred). PutEnds list c.args.w c.args.key.now c.args.context.now
     c.args.value c.args.session.now c.put.new.session (g.T.Transport.told c.args.transport.now)
-    (g.T.Transport.told c.put.new.transport) c.put.result) c.in-Ok.ensures.ok c.put.ensures
+    (g.T.Transport.told c.put.new.transport) c.put.result) c.in-Ok.ensures.ok c.put.ensures.ends
 
 -- there is no memory for it, and nobody was tried or asked
-pub returns-in-Err : goal.returns-in-Err
-returns-in-Err g c =
+pub returns-in-Err-clause-ends : goal.returns-in-Err-clause-ends
+returns-in-Err-clause-ends g c =
     let some : 1 ≤ c.args.w = omega (arith, c.if-w-lt1.false) in
     let few : c.args.w ≤ g.J.Naming.n =
     omega (arith, c.args.self.now.n_is, c.if-self-w.false) in

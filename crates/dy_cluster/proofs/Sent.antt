@@ -1,0 +1,13 @@
+-- A client's session, with its post, may go to another thread.
+use denote.RattleType.{RattleType}
+use denote.Param.Send.{IsSend, sendable}
+use Rattle.dy_shares.specs.declared.names.Naming.{Ghosts}
+use Rattle.dy_shares.proofs.Sent.{session_share_goes}
+use Rattle.dy_mailboxes.proofs.posts.Post.TheSendSync as post
+use Rattle.dy_cluster.specs.contracts.seats.Seat as Seat
+
+pub seat_goes : (J : RattleType) (name : Ghosts J.Denot) → IsSend (Seat.the_row J name)
+seat_goes J name =
+    let share = session_share_goes J name in
+    let ends = post.the_send J name in
+    search sendable depth 20

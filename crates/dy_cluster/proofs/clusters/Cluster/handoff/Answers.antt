@@ -1,0 +1,6 @@
+use Rattle.std.proofs.lemmas.Result.{IfOk-weaker}
+use Rattle.dy_cluster.proofs.clusters.Cluster.handoff.Goals as goal
+
+-- what the transport tells of it
+pub returns-clause-ok : goal.returns-clause-ok
+returns-clause-ok g c = IfOk-weaker c.pass.result _ _ (λ done is. (_, is)) c.pass.ensures.ok

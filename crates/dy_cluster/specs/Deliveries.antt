@@ -1,0 +1,13 @@
+-- What a delivery tells.
+use Rattle.std.specs.Prelude.{◌≡◌, ℕ, length}
+use Rattle.dy_book.specs.Books.{BookParts}
+use Rattle.dy_node.specs.Nodes.{IsDelivered, NodeState}
+
+-- as many messages were stored as waited at a node, each by one hold, and no other
+pub record IsDelivery (count : ℕ) : Type 0 where
+  pub before : NodeState
+  pub after : NodeState
+  pub book : BookParts
+  pub book_after : BookParts
+  pub count_is : count ≡ length before.waiting
+  pub delivered : IsDelivered book before count book_after after
