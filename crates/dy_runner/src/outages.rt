@@ -12,10 +12,10 @@ use dy_cluster::Cluster;
 use dy_dots::{Fault, NodeId};
 use dy_handoff::Pass;
 use dy_lines::{Kept, Outcome, Word};
-use dy_node::Mode as NodeMode;
+use dy_node::{Mode as NodeMode, RowFor};
 use dy_script::Mode;
 use dy_shares::Naming;
-use dy_siblings::{Key, Row};
+use dy_siblings::Key;
 use std::alloc::Global;
 use std::sync::Wait;
 
@@ -158,7 +158,7 @@ fn shown<J: Naming, R: Wait>(
 }
 
 // The dots of each row, with its home.
-fn kept_of(alloc: Global, rows: &[(NodeId, Row)]) -> Result<Vec<Kept>, Fault>
+fn kept_of(alloc: Global, rows: &[RowFor]) -> Result<Vec<Kept>, Fault>
     ensures ok { IfOk result (λ kept. kept.items ≡ map kept_row rows.now) }
     ensures memory { IsOkUnless result Fault.OutOfMemory }
 {

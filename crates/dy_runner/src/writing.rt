@@ -17,10 +17,9 @@ use crate::running::Run;
 use dy_book::{AckedAt, Audit};
 use dy_cluster::with_cluster;
 use dy_core::Holding;
-use dy_dots::NodeId;
 use dy_lines::{AckedLine, EndLine, HeldLine, KeyLine, SettledLine, Stopped, TokenLine};
 use dy_preference::preference;
-use dy_ring::Ring;
+use dy_ring::{Ring, Token};
 use dy_script::Script;
 use dy_siblings::Key;
 use std::alloc::Global;
@@ -146,7 +145,7 @@ pub fn write_ring<W: Write>(alloc: Global, script: &Script, out: &mut W) -> Resu
     Ok(())
 }
 
-fn write_tokens<W: Write>(tokens: &[(u128, NodeId)], out: &mut W) -> Result<(), Stopped>
+fn write_tokens<W: Write>(tokens: &[Token], out: &mut W) -> Result<(), Stopped>
     ensures { OnOk result (Appends (W.contents out.old) (W.contents out.new)
         (token_lines tokens.now)) }
 {

@@ -11,10 +11,11 @@ use Rattle.dy_dots.specs.Dots.{DotSet}
 use Rattle.dy_dots.specs.declared.dots.Dot.{Dot}
 use Rattle.dy_ring.specs.Rings.{Tokens}
 use Rattle.dy_preference.specs.Preferences.{Preferred}
-use Rattle.dy_core.specs.declared.steps.Step.TheVariants.{Ack}
-use Rattle.dy_shares.specs.Shares.{ReceiptParts, SessionPart, since_of, with_ack, with_get}
+use Rattle.dy_shares.specs.Shares.{ReceiptParts, SessionPart, since_of, with_get}
 use Rattle.dy_quorum.specs.Gatherings.{first_answers}
+use Rattle.dy_transport.specs.Tellings.{IsAckTold}
 use Rattle.dy_transport.specs.Told.{Told}
+use Rattle.dy_transport.specs.declared.tries.Try.{Try}
 use Rattle.dy_transport.specs.declared.kinds.AnswerRead.{AnswerRead}
 use Rattle.dy_cluster.specs.Lists.{list_of}
 use Rattle.dy_coord.specs.Gets.{IsGot}
@@ -39,15 +40,15 @@ unchanged before after same = (
 )
 
 -- an ack more
-acked : (before after : SessionPart) (at w : ℕ) (key : List ℕ) (dot : Dot)
-    → after ≡ with_ack before at (Ack key dot w) → Grows before after 0 1
-acked before after at w key dot is = (
-  omega (arith, ap (λ (s : SessionPart). length s.gets) is),
+acked : (before after : SessionPart) (key : List ℕ) (dot : Dot) (w : ℕ)
+    (spent : List ReceiptParts) → IsAckTold before after key dot w spent → Grows before after 0 1
+acked before after key dot w spent is = (
+  omega (arith, ap (λ (s : SessionPart). length s.gets) is.told),
   omega (
     arith,
-    ap (λ (s : SessionPart). length s.acks) is,
+    ap (λ (s : SessionPart). length s.acks) is.told,
     length-append before.acks
-        (record { at = at; key = key; dot = dot; w = w } ∷ []),
+        (record { at = is.at; key = key; dot = dot; w = w } ∷ []),
   ),
 )
 
@@ -61,15 +62,17 @@ refused answer e before after is same =
     subst (λ (a : Result PutDone PutFault). GrowsBy a before after) (sym is)
     (unchanged before after same)
 
-ends : (key : List ℕ) (dot : Dot) (w : ℕ) (added : List ReceiptParts) (answers : List AnswerRead)
-    (before after : SessionPart) (answer : Result PutDone PutFault)
-    → EndsAfter key dot w added answers before after answer → GrowsBy answer before after
-ends key dot w added answers before after answer (inl (can, ok)) =
+ends : {J : Type 0} (key : List ℕ) (dot : Dot) (w : ℕ) (added : List ReceiptParts)
+    (answers : List AnswerRead) (begins tries : List (Try J)) (before after : SessionPart)
+    (answer : Result PutDone PutFault)
+    → EndsAfter key dot w added answers begins tries before after answer →
+    GrowsBy answer before after
+ends key dot w added answers begins tries before after answer (inl (spent, last, ok)) =
     subst (λ (a : Result PutDone PutFault). GrowsBy a before after) (sym ok.result_is)
-    (acked before after ok.at w key dot ok.told)
-ends key dot w added answers before after answer (inr (inl (can, same, why))) =
+    (acked before after key dot w spent.items ok.tells)
+ends key dot w added answers begins tries before after answer (inr (inl (same, why))) =
     refused answer why.0 before after why.1 same
-ends key dot w added answers before after answer (inr (inr (can, same, why))) =
+ends key dot w added answers begins tries before after answer (inr (inr (can, none, same, why))) =
     refused answer why.0 before after why.1 same
 
 -- a put tells its session one ack exactly where it is Ok, and no get
@@ -80,7 +83,7 @@ pub put_grows : {J : Type 0} (list : Preferred) (w : ℕ) (key : List ℕ) (cont
     GrowsBy answer before after
 put_grows list w key context value before after old new answer (inl (some, few, inl run)) =
     let put = run.2 in
-    ends key run.1.dot w put.added put.answers before after answer put.ends
+    ends key run.1.dot w put.added put.answers put.begins new.tries before after answer put.ends
 put_grows list w key context value before after old new answer (inl (some, few, inr early)) =
     let why = early.3 in refused answer why.0 before after why.1 early.0
 put_grows list w key context value before after old new answer (inr (out, same, still, why)) =
@@ -109,7 +112,11 @@ get_turn J list r key (Some context) before after got =
         arith,
         ap (λ (s : SessionPart). length s.gets) heard,
         length-append before.gets
-            (record { since = since_of before; answers = first_answers got.0.seen.items } ∷ []),
+            (record {
+              since = since_of before;
+              answers = first_answers got.0.seen.items;
+              acks = length before.acks;
+            } ∷ []),
       ),
       omega (arith, ap (λ (s : SessionPart). length s.acks) heard),
     )

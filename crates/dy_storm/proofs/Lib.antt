@@ -1,3 +1,4 @@
 pub mod Counting
 pub mod FiveTokens
 pub mod Growing
+pub mod Sent

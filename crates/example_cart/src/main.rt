@@ -1,13 +1,18 @@
 //! A cart that three shoppers fill at once, while nodes go down and come back.
 #![tactic(auto)]
 
+ghost use Rattle.std.specs.Prelude.{IfOk};
+ghost use Rattle.dy_core.specs.declared.acks.Acked.{Acked};
+ghost use Rattle.dy_book.specs.Audits.{ListsAck};
+ghost use Rattle.dy_cluster.specs.Stores.{AreCovering};
+
 mod carts;
 mod shoppers;
 
 use crate::carts::{Cart, text_of, unite};
 use crate::shoppers::Shoppers;
 use dy_book::Options;
-use dy_cluster::with_clients;
+use dy_cluster::{Closed, with_clients};
 use dy_dots::Fault;
 use dy_ring::Ring;
 use std::alloc::Global;
@@ -32,10 +37,24 @@ fn shop<R: Threads + Wait + Sync>(rt: &R, alloc: Global) -> Result<(usize, Strin
         versions_limit: 100,
         steps_limit: 10_000,
     };
-    let closed = with_clients(rt, alloc, ring, options, 3, &Shoppers)?;
+    let closed = fill(rt, alloc, ring, options)?;
     let mut cart = Cart::new(alloc);
     for holding in &closed.audit.held {
         unite(alloc, &mut cart, &holding.row)?;
     }
     Ok((closed.audit.acked.len(), text_of(alloc, &cart)?))
+}
+
+/// Lets the shoppers fill the cart, and closes the cluster: each cart that was acknowledged is in
+/// the nodes' stores at the end, at as many of its homes as its put named.
+fn fill<R: Threads + Wait + Sync>(
+    rt: &R,
+    alloc: Global,
+    ring: Ring,
+    options: Options,
+) -> Result<Closed, Fault>
+    ensures { IfOk result (λ closed. (x : Acked) → ListsAck closed.audit x →
+        AreCovering ring options.n closed.rests.items x.key x.dot x.w) }
+{
+    with_clients(rt, alloc, ring, options, 3, &Shoppers)
 }

@@ -15,6 +15,6 @@ returns-in-Ok g c =
       ends = subst (λ (told : Told g.row.J.Denot). PutEnds {J = g.row.J.Denot} list c.args.w
           given.key given.context given.value c.args.session.now c.put-answer.new.session
           told c.put-answer.new.transport c.put-answer.result)
-          c.in-Ok.ensures.ok c.put-answer.ensures;
+          c.in-Ok.ensures.ok c.put-answer.ensures.ends;
       tells = c.written.ensures;
     })

@@ -14,6 +14,6 @@ returns g c =
       ends = subst (λ (told : Told g.row.J.Denot). PutEnds {J = g.row.J.Denot} list 2
           c.args.key.now c.args.context.now (Some c.args.value) c.args.session.now
           c.put-answer.new.session told c.put-answer.new.transport c.put-answer.result)
-          c.in-Ok.ensures.ok c.put-answer.ensures;
+          c.in-Ok.ensures.ok c.put-answer.ensures.ends;
       is = c.is_ok.ensures.value;
     })
