@@ -1,13 +1,13 @@
 ghost use Rattle.std.specs.Prelude.{◌≡◌, ◌++◌, [], IfOk, OnOk, OnErr, MatchOption, IsOkUnless};
 ghost use Rattle.dy_siblings.specs.Siblings.{Siblings, AreOneByDot, IsSameRow, merge, without};
 ghost use Rattle.std.specs.List.{Contains, list_any};
-ghost use Rattle.dy_core.specs.Orders.{key_cmp, place_cmp};
-ghost use Rattle.dy_core.specs.inside.Meanings.{gathered, is_covering, is_hint, kept, others};
-ghost use Rattle.dy_core.specs.inside.Meanings.{place_of};
+ghost use Rattle.dy_core.specs.Orders.{key_cmp};
+ghost use Rattle.dy_core.specs.inside.Meanings.{gathered, is_hint, kept, others};
 ghost use Rattle.dy_core.specs.inside.Meanings.{row_in, settled_in};
 ghost use Rattle.dy_core.specs.declared.holdings.Holding.{Holding as HoldingParts};
 
 use crate::lists::{self, Ranked};
+use crate::placed::Placed;
 use crate::places::Place;
 use dy_dots::{Dot, Fault, NodeId};
 use dy_siblings::{Key, Row, Version};
@@ -35,31 +35,29 @@ impl Ranked for Holding {
     }
 }
 
-impl Holding {
-    ghost use Rattle.dy_core.specs.inside.Meanings.{is_at, is_covering, is_hint, place_of};
+impl Placed for Holding {
+    ghost holding = { λ h. h };
 
-    // Whether it is of the key and covers the dot.
-    fn is_covering(&self, key: &Key, dot: Dot) -> bool
-        ensures { result ≡ is_covering key.now dot self.now }
-    {
+    fn place(&self) -> Place {
+        Place {
+            holder: self.holder,
+            home: self.home,
+        }
+    }
+
+    fn is_covering(&self, key: &Key, dot: Dot) -> bool {
         self.row.key() == key && self.row.covers(dot)
     }
+}
+
+impl Holding {
+    ghost use Rattle.dy_core.specs.inside.Meanings.{is_at, is_hint};
 
     // Whether it is of the key, and for another node.
     fn is_hint(&self, key: &Key) -> bool
         ensures { result ≡ is_hint key.now self.now }
     {
         self.holder != self.home && self.row.key() == key
-    }
-
-    // Its holder and its home.
-    fn place(&self) -> Place
-        ensures { result ≡ place_of self.now }
-    {
-        Place {
-            holder: self.holder,
-            home: self.home,
-        }
     }
 
     // Whether it is at the place.
@@ -203,26 +201,6 @@ fn have_hint(held: &[Holding], key: &Key) -> bool
     ensures { result ≡ list_any (is_hint key.now) held.now }
 {
     held.iter().any(|holding| holding.is_hint(key))
-}
-
-/// The places whose row covers the dot, by home and holder.
-pub(crate) fn covering(
-    alloc: Global,
-    held: &[Holding],
-    key: &Key,
-    dot: Dot,
-) -> Result<Vec<Place>, Fault>
-    ensures ok { IfOk result
-        (λ places. places.items ≡ gathered place_cmp (is_covering key.now dot) place_of held.now) }
-    ensures memory { IsOkUnless result Fault.OutOfMemory }
-{
-    let mut places = Vec::new(alloc);
-    for holding in held {
-        if holding.is_covering(key, dot) {
-            lists::put(&mut places, holding.place())?;
-        }
-    }
-    Ok(places)
 }
 
 /// The keys of versions that are settled, by their bytes.

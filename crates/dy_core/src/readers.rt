@@ -12,7 +12,7 @@ ghost use Rattle.dy_core.specs.Listings.{IsLeastUnknown, ListsCovers, ListsSettl
 
 use crate::places::Place;
 use crate::worlds::World;
-use crate::{holdings, issuing, unknowns};
+use crate::{holdings, issuing, placed, unknowns};
 use dy_dots::{Context, Dot, Fault, NodeId};
 use dy_siblings::{Key, Row, Version};
 use std::alloc::Global;
@@ -79,7 +79,7 @@ impl World {
             (is_home (homes_of self.now.ring self.now.n key.now) p.home)) places.items) }
         ensures memory { IsOkUnless result Fault.OutOfMemory }
     {
-        let places = holdings::covering(alloc, self.held.as_slice(), key, dot)?;
+        let places = placed::covering(alloc, self.held.as_slice(), key, dot)?;
         Ok(places)
     }
 
