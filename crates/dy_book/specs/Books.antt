@@ -13,7 +13,8 @@ use Rattle.dy_core.specs.Logs.{world_after}
 use Rattle.dy_core.specs.declared.steps.Step.{Step}
 use Rattle.dy_core.specs.declared.steps.Step.TheVariants.{Issue, Hold, Release}
 use Rattle.dy_shares.specs.declared.entries.Entry.{Entry}
-use Rattle.dy_shares.specs.Shares.{entries_code, steps_of, untold, ReceiptParts, receipt_parts}
+use Rattle.dy_shares.specs.Shares.{steps_of, untold, ReceiptParts, receipt_parts}
+use Rattle.dy_shares.specs.Codes.{entries_code}
 use Rattle.dy_book.specs.contracts.options.Options as options
 use Rattle.dy_book.specs.declared.options.Options.{Options}
 

@@ -5,7 +5,8 @@ use Rattle.std.specs.List.{AllZip}
 use Rattle.dy_ring.specs.Rings.{Tokens}
 use Rattle.dy_core.specs.Worlds.{layout_of}
 use Rattle.dy_core.specs.Logs.{IsLegal}
-use Rattle.dy_shares.specs.Shares.{NodePart, SessionPart, node_part_code, steps_of}
+use Rattle.dy_shares.specs.Shares.{NodePart, SessionPart, steps_of}
+use Rattle.dy_shares.specs.Codes.{node_part_code}
 use Rattle.dy_book.specs.Audits.{IsAuditOf}
 use Rattle.dy_book.specs.Books.{BookParts, book_code}
 use Rattle.dy_node.specs.Nodes.{AreDeferred, RestState, rest_code}

@@ -38,7 +38,7 @@ impl<'a, J: Naming> Model for Mailboxes<'a, J> {
     ghost use Rattle.std.specs.Coded.{codes};
     ghost use Rattle.dy_dots.specs.Dots.{dot_set_code};
     ghost use Rattle.dy_siblings.specs.Siblings.{siblings_code};
-    ghost use Rattle.dy_shares.specs.Shares.{answer_code, receipt_parts_code as receipt_code};
+    ghost use Rattle.dy_shares.specs.Codes.{answer_code, receipt_parts_code as receipt_code};
     ghost use Rattle.dy_transport.specs.Told.{Told};
 
     ghost Value = { Told J };

@@ -14,7 +14,8 @@ use Rattle.dy_core.specs.Worlds.{World, row_at}
 use Rattle.dy_core.specs.Steps.{version_made, place_for}
 use Rattle.dy_core.specs.declared.steps.Step.{Step}
 use Rattle.dy_core.specs.declared.steps.Step.TheVariants.{Hold, Fetch}
-use Rattle.dy_shares.specs.Shares.{NodePart, node_part_code, with_steps}
+use Rattle.dy_shares.specs.Shares.{NodePart, with_steps}
+use Rattle.dy_shares.specs.Codes.{node_part_code}
 use Rattle.dy_book.specs.Books.{BookParts, with_untold, world_of}
 use Rattle.dy_node.specs.Stored.{Rooms, Stored, empty_rooms, rooms_code, stored_code, versions_at}
 use Rattle.dy_node.specs.contracts.messages.Message as message

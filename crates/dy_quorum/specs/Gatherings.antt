@@ -4,7 +4,7 @@ use Rattle.std.specs.List.{All, Contains, IsDistinct}
 use Rattle.std.specs.Coded.{Coded, coded×, coded_ℕ, coded_list, code_by}
 use Rattle.dy_core.specs.Logs.{Answer}
 use Rattle.dy_core.specs.declared.places.Place.{Place}
-use Rattle.dy_shares.specs.Shares.{answer_code}
+use Rattle.dy_shares.specs.Codes.{answer_code}
 use Rattle.dy_quorum.specs.Firsts.{firsts_by}
 
 -- what a gathering is seen as: how many homes its get needs, and the answers added, in order

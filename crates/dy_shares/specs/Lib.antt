@@ -1,3 +1,4 @@
+pub mod Codes
 pub mod Shares
 pub mod Merged
 pub mod inside

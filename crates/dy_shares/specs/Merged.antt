@@ -8,7 +8,8 @@ use Rattle.dy_siblings.specs.Siblings.{IsSameRow, newest}
 use Rattle.dy_siblings.specs.declared.versions.Version.{Version}
 use Rattle.dy_core.specs.Worlds.{Layout, AreMadeOf}
 use Rattle.dy_core.specs.Logs.{Answer, IsLegal, rows_of, world_after}
-use Rattle.dy_shares.specs.Shares.{entries_code, steps_of}
+use Rattle.dy_shares.specs.Shares.{steps_of}
+use Rattle.dy_shares.specs.Codes.{entries_code}
 use Rattle.dy_shares.specs.declared.entries.Entry.{Entry}
 
 -- what a merging is seen as: a key, the versions of its row, and the log as far as it was seen

@@ -1,14 +1,11 @@
 -- Shares: which part of a log is a node's and which a session's, and what each part shows.
 use Rattle.std.specs.Prelude.{◌≡◌, ℕ, zero, suc, ◌+◌, ◌-◌, ◌<◌, ◌≤◌, ◌⊎◌, ◌==◌, max, Bool, false}
 use Rattle.std.specs.Prelude.{Option, None, Some, List, [], ◌∷◌, ◌++◌, map, filter, take, drop}
-use Rattle.std.specs.Prelude.{length, nat_eq, if◌then◌else◌, refl}
+use Rattle.std.specs.Prelude.{length, nat_eq, if◌then◌else◌}
 use Rattle.std.specs.List.{All, Any, IsDistinct}
-use Rattle.std.specs.Coded.{Coded, coded×, coded_ℕ, coded_list, code_by}
 use Rattle.logbook.specs.Pages.{Book}
 use Rattle.atomic_table.specs.Seated.{TableId}
-use Rattle.dy_dots.specs.Dots.{dot_code}
 use Rattle.dy_dots.specs.declared.dots.Dot.{Dot}
-use Rattle.dy_siblings.specs.Versions.{version_code}
 use Rattle.dy_siblings.specs.Siblings.{Siblings, IsSameRow}
 use Rattle.dy_siblings.specs.declared.versions.Version.{Version}
 use Rattle.dy_ring.specs.Rings.{Tokens}
@@ -16,11 +13,9 @@ use Rattle.dy_core.specs.Worlds.{World, empty_world, layout_of, row_at}
 use Rattle.dy_core.specs.Steps.{version_made, after_issue, after_hold, after_release}
 use Rattle.dy_core.specs.Covers.{ReceiptHolds}
 use Rattle.dy_core.specs.Logs.{world_after, IsLegalFrom, Answer, MatchesLog}
-use Rattle.dy_core.specs.contracts.steps.Step as step
 use Rattle.dy_core.specs.declared.steps.Step.{Step}
 use Rattle.dy_core.specs.declared.acks.Acked.{Acked}
 use Rattle.dy_core.specs.declared.steps.Step.TheVariants.{Issue, Hold, Release, Fetch, Ack}
-use Rattle.dy_shares.specs.contracts.entries.Entry as entry
 use Rattle.dy_shares.specs.declared.entries.Entry.{Entry}
 
 -- what a blank is seen as: the names of its log and of its roll
@@ -32,15 +27,6 @@ pub record BlankNames : Type 0 where
 pub record Account : Type 0 where
   pub log : List Entry
   pub sessions : ℕ
-
--- the codes of a log and of an account
-abbrev pub entries_code : Coded (List Entry)
-entries_code = coded_list entry.the_row.coded
-
-abbrev pub account_code : Coded Account
-account_code =
-    code_by (List Entry × ℕ) (coded× entries_code coded_ℕ)
-    (λ a. (a.log, a.sessions)) (λ p. record { log = p.0; sessions = p.1 }) (λ _. refl)
 
 -- at first nothing is logged, and no session is open
 abbrev pub empty_account : Account
@@ -106,12 +92,6 @@ pub record NodePart : Type 0 where
   pub node : ℕ
   pub steps : List Step
 
--- the code of a node's part
-abbrev pub node_part_code : Coded NodePart
-node_part_code =
-    code_by (ℕ × List Step) (coded× coded_ℕ (coded_list step.the_row.coded))
-    (λ p. (p.node, p.steps)) (λ p. record { node = p.0; steps = p.1 }) (λ _. refl)
-
 -- the part with these steps at its end
 abbrev pub with_steps : NodePart → List Step → NodePart
 with_steps p steps = record p { steps = p.steps ++ steps }
@@ -171,14 +151,6 @@ pub record ReceiptParts : Type 0 where
   pub holder : ℕ
   pub home : ℕ
 
--- the code of a receipt
-abbrev pub receipt_parts_code : Coded ReceiptParts
-receipt_parts_code =
-    code_by (List ℕ × (Dot × (ℕ × ℕ)))
-    (coded× (coded_list coded_ℕ) (coded× dot_code (coded× coded_ℕ coded_ℕ)))
-    (λ r. (r.key, (r.dot, (r.holder, r.home))))
-    (λ p. record { key = p.0; dot = p.1.0; holder = p.1.1.0; home = p.1.1.1 }) (λ _. refl)
-
 -- the receipt of this key, dot, holder and home
 abbrev pub receipt_parts : List ℕ → Dot → ℕ → ℕ → ReceiptParts
 receipt_parts key dot holder home =
@@ -213,40 +185,6 @@ pub record SessionPart : Type 0 where
   pub acks : List AckTold
   pub spent : List (List ReceiptParts)
   pub gets : List GetTold
-
--- the codes of what a session was told
-abbrev pub ack_told_code : Coded AckTold
-ack_told_code =
-    code_by (ℕ × (List ℕ × (Dot × ℕ)))
-    (coded× coded_ℕ (coded× (coded_list coded_ℕ) (coded× dot_code coded_ℕ)))
-    (λ a. (a.at, (a.key, (a.dot, a.w))))
-    (λ p. record { at = p.0; key = p.1.0; dot = p.1.1.0; w = p.1.1.1 }) (λ _. refl)
-
-abbrev pub answer_code : Coded Answer
-answer_code =
-    code_by (ℕ × (ℕ × (ℕ × (List ℕ × List Version))))
-    (coded× coded_ℕ (coded× coded_ℕ (coded× coded_ℕ
-    (coded× (coded_list coded_ℕ) (coded_list version_code)))))
-    (λ a. (a.at, (a.holder, (a.home, (a.key, a.row)))))
-    (λ p. record { at = p.0; holder = p.1.0; home = p.1.1.0; key = p.1.1.1.0; row = p.1.1.1.1 })
-    (λ _. refl)
-
-abbrev pub get_told_code : Coded GetTold
-get_told_code =
-    code_by (ℕ × (List Answer × ℕ)) (coded× coded_ℕ (coded× (coded_list answer_code) coded_ℕ))
-    (λ g. (g.since, (g.answers, g.acks)))
-    (λ p. record { since = p.0; answers = p.1.0; acks = p.1.1 }) (λ _. refl)
-
-abbrev pub spent_code : Coded (List ReceiptParts)
-spent_code = coded_list receipt_parts_code
-
-abbrev pub session_part_code : Coded SessionPart
-session_part_code =
-    code_by (ℕ × (List AckTold × (List (List ReceiptParts) × List GetTold)))
-    (coded× coded_ℕ (coded× (coded_list ack_told_code)
-    (coded× (coded_list spent_code) (coded_list get_told_code))))
-    (λ s. (s.session, (s.acks, (s.spent, s.gets))))
-    (λ p. record { session = p.0; acks = p.1.0; spent = p.1.1.0; gets = p.1.1.1 }) (λ _. refl)
 
 -- the answer of this number, holder, home, key and row
 abbrev pub answer_of : ℕ → ℕ → ℕ → List ℕ → Siblings → Answer

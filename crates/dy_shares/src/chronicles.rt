@@ -170,7 +170,7 @@ impl<J: Naming> Model for Chronicle<J> {
     ghost use Rattle.std.specs.Prelude.{◌≡◌, suc, List, length};
     ghost use Rattle.logbook.specs.Pages.{nib, may_write};
     ghost use Rattle.dy_shares.specs.inside.Growth.{head_of, joined};
-    ghost use Rattle.dy_shares.specs.Shares.{entries_code};
+    ghost use Rattle.dy_shares.specs.Codes.{entries_code};
     ghost use Rattle.dy_shares.specs.declared.entries.Entry.{Entry};
 
     ghost Value = { List Entry };
@@ -196,7 +196,7 @@ pub struct Front<J: Naming> {
 impl<J: Naming> Model for Front<J> {
     ghost use Rattle.std.specs.Prelude.{◌≡◌, List};
     ghost use Rattle.dy_shares.specs.inside.Growth.{joined};
-    ghost use Rattle.dy_shares.specs.Shares.{entries_code};
+    ghost use Rattle.dy_shares.specs.Codes.{entries_code};
     ghost use Rattle.dy_shares.specs.declared.entries.Entry.{Entry};
 
     ghost Value = { List Entry };

@@ -51,7 +51,8 @@ impl<J: Naming> Model for Ledger<J> {
     ghost use Rattle.std.specs.Prelude.{◌≡◌};
     ghost use Rattle.dy_core.specs.Worlds.{layout_of};
     ghost use Rattle.dy_shares.specs.inside.Parts.{IsLedger};
-    ghost use Rattle.dy_shares.specs.Shares.{Account, account_code};
+    ghost use Rattle.dy_shares.specs.Shares.{Account};
+    ghost use Rattle.dy_shares.specs.Codes.{account_code};
 
     ghost Value = { Account };
 

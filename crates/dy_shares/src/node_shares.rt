@@ -18,7 +18,8 @@ pub struct NodeShare<J: Naming> {
 impl<J: Naming> Model for NodeShare<J> {
     ghost use Rattle.std.specs.Prelude.{◌≡◌, ◌<◌};
     ghost use Rattle.dy_shares.specs.inside.Parts.{done_steps};
-    ghost use Rattle.dy_shares.specs.Shares.{NodePart, node_part_code};
+    ghost use Rattle.dy_shares.specs.Shares.{NodePart};
+    ghost use Rattle.dy_shares.specs.Codes.{node_part_code};
 
     ghost Value = { NodePart };
 

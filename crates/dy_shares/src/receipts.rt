@@ -20,7 +20,8 @@ pub struct Receipt<J: Naming> {
 }
 
 impl<J: Naming> Model for Receipt<J> {
-    ghost use Rattle.dy_shares.specs.Shares.{ReceiptParts, receipt_parts, receipt_parts_code};
+    ghost use Rattle.dy_shares.specs.Shares.{ReceiptParts, receipt_parts};
+    ghost use Rattle.dy_shares.specs.Codes.{receipt_parts_code};
     ghost use Rattle.dy_shares.specs.Shares.{IsReceipt, steps_of};
 
     ghost Value = { ReceiptParts };

@@ -26,7 +26,8 @@ impl<J: Naming> Model for Seen<J> {
     ghost use Rattle.std.specs.Prelude.{◌≡◌};
     ghost use Rattle.dy_core.specs.Worlds.{layout_of};
     ghost use Rattle.dy_core.specs.Logs.{Answer, IsAnswer, IsLegal};
-    ghost use Rattle.dy_shares.specs.Shares.{answer_code, answer_of, steps_of};
+    ghost use Rattle.dy_shares.specs.Shares.{answer_of, steps_of};
+    ghost use Rattle.dy_shares.specs.Codes.{answer_code};
 
     ghost Value = { Answer };
 

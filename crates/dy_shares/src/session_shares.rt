@@ -25,7 +25,8 @@ pub struct Spent<J: Naming> {
 
 impl<J: Naming> Model for Spent<J> {
     ghost use Rattle.std.specs.Prelude.{List};
-    ghost use Rattle.dy_shares.specs.Shares.{ReceiptParts, spent_code};
+    ghost use Rattle.dy_shares.specs.Shares.{ReceiptParts};
+    ghost use Rattle.dy_shares.specs.Codes.{spent_code};
 
     ghost Value = { List ReceiptParts };
 
@@ -54,7 +55,8 @@ pub struct Get<J: Naming> {
 }
 
 impl<J: Naming> Model for Get<J> {
-    ghost use Rattle.dy_shares.specs.Shares.{GetTold, get_told_code};
+    ghost use Rattle.dy_shares.specs.Shares.{GetTold};
+    ghost use Rattle.dy_shares.specs.Codes.{get_told_code};
 
     ghost Value = { GetTold };
 
@@ -77,7 +79,8 @@ pub struct SessionShare<J: Naming> {
 
 impl<J: Naming> Model for SessionShare<J> {
     ghost use Rattle.dy_shares.specs.inside.Parts.{IsSessionShare, told_parts};
-    ghost use Rattle.dy_shares.specs.Shares.{SessionPart, session_part_code};
+    ghost use Rattle.dy_shares.specs.Shares.{SessionPart};
+    ghost use Rattle.dy_shares.specs.Codes.{session_part_code};
 
     ghost Value = { SessionPart };
 

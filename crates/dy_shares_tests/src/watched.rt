@@ -36,7 +36,8 @@ pub struct Watched<J: Naming> {
 
 impl<J: Naming> Model for Watched<J> {
     ghost use Rattle.std.specs.Prelude.{◌≡◌, IsTrue};
-    ghost use Rattle.dy_shares.specs.Shares.{Account, account_code, steps_of};
+    ghost use Rattle.dy_shares.specs.Shares.{Account, steps_of};
+    ghost use Rattle.dy_shares.specs.Codes.{account_code};
 
     ghost Value = { Account };
 

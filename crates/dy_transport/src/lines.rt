@@ -45,7 +45,7 @@ impl<J: Naming> Model for Line<J> {
     ghost use Rattle.std.specs.Coded.{codes};
     ghost use Rattle.dy_dots.specs.Dots.{dot_set_code};
     ghost use Rattle.dy_siblings.specs.Siblings.{siblings_code};
-    ghost use Rattle.dy_shares.specs.Shares.{answer_code, receipt_parts_code as receipt_code};
+    ghost use Rattle.dy_shares.specs.Codes.{answer_code, receipt_parts_code as receipt_code};
     ghost use Rattle.dy_transport.specs.Lines.{LineParts};
     ghost use Rattle.dy_transport.specs.inside.Lines.{IsLine};
 
