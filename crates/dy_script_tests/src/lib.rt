@@ -9,3 +9,5 @@ mod long;
 mod reading;
 #[cfg(test)]
 mod tokens;
+#[cfg(test)]
+mod whole;
