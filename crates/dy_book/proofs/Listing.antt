@@ -2,7 +2,7 @@
 use Rattle.std.proofs.Common.{◌≡◌, ℕ, ◌+◌, ◌<◌, Bool, true, false, cond, not, ◌⊎◌, List, [], ◌∷◌}
 use Rattle.std.proofs.Common.{◌++◌, length, take, get_or, Option, None, Some, refl, sym, ap, ◌∙◌}
 use Rattle.std.proofs.Common.{subst, inl, inr, ⊎_elim, arith}
-use Rattle.std.specs.List.{All, Contains}
+use Rattle.std.specs.List.{All, Contains, sum_by}
 use Rattle.std.proofs.lemmas.Bool.{cond_both, cond-true, true≢false}
 use Rattle.std.proofs.lemmas.List.Elements.{All-contains, Contains-append_cases}
 use Rattle.std.proofs.lemmas.List.Elements.{Contains-append_left, Contains-append_right}
@@ -17,24 +17,21 @@ use Rattle.dy_siblings.proofs.Members.{not_in_nil, in_head, in_tail, in_cases}
 use Rattle.dy_core.proofs.Held.{Spot, at_from, spots_tie, row_in-of, row_in-from}
 use Rattle.dy_core.proofs.Keeping.{all_from}
 use Rattle.dy_shares.specs.Shares.{SessionPart}
-use Rattle.dy_book.specs.Audits.{count_gets}
 use Rattle.std.proofs.lemmas.List.{take_more}
+use Rattle.std.proofs.lemmas.List.Sums.{sum_by-append}
 use Rattle.dy_book.specs.inside.Lists.{IsInOrder, is_some, listed_from}
 use Rattle.dy_book.specs.inside.Indexes.{IsIndex, IsPart, held_in_all, part_at, places_in}
 use Rattle.dy_book.specs.declared.parts.KeyPart.{KeyPart}
 
-count_end : (xs : List SessionPart) (s : SessionPart) →
-    count_gets xs + length s.gets ≡ count_gets (xs ++ s ∷ [])
-count_end [] s = omega arith
-count_end (x ∷ xs) s = let e = count_end xs s in omega (arith, e)
-
 -- one session more
-pub count_more : (ss : List SessionPart) (i : ℕ) (s : SessionPart) → i < length ss →
-    s ≡ get_or ss i s →
-    count_gets (take i ss) + length s.gets ≡ count_gets (take (i + 1) ss)
-count_more ss i s lt is =
-    count_end (take i ss) s ∙ ap (λ y. count_gets (take i ss ++ y ∷ [])) is
-    ∙ sym (ap count_gets (take_more ss i s lt))
+pub count_more : (count : SessionPart → ℕ) (ss : List SessionPart) (i : ℕ) (s : SessionPart) →
+    i < length ss → s ≡ get_or ss i s →
+    sum_by count (take i ss) + count s ≡ sum_by count (take (i + 1) ss)
+count_more count ss i s lt is =
+    let more = sym (sum_by-append count (take i ss) (s ∷ []))
+    ∙ ap (λ y. sum_by count (take i ss ++ y ∷ [])) is
+    ∙ sym (ap (sum_by count) (take_more ss i s lt)) in
+    omega (arith, more)
 
 -- an item of an entry of the index that has a version
 record IsListed (es : List (List ℕ × KeyPart)) (h : Holding) : Type 0 where

@@ -1,6 +1,6 @@
 -- Audits: what a book tells as it ends.
 use Rattle.std.specs.Prelude.{◌≡◌, ◌↔◌, IsTrue, ℕ, ◌+◌, List, [], ◌∷◌, length, map}
-use Rattle.std.specs.List.{All, Contains}
+use Rattle.std.specs.List.{All, Contains, sum_by}
 use Rattle.dy_dots.specs.declared.dots.Dot.{Dot}
 use Rattle.dy_siblings.specs.declared.versions.Version.{Version}
 use Rattle.dy_ring.specs.Rings.{Tokens}
@@ -15,10 +15,13 @@ use Rattle.dy_book.specs.Books.{BookParts, world_of}
 use Rattle.dy_book.specs.declared.audits.AckedAt.{AckedAt}
 use Rattle.dy_book.specs.declared.audits.Audit.{Audit}
 
+-- how many acks the sessions were told
+abbrev pub count_acks : List SessionPart → ℕ
+count_acks tellings = sum_by (λ s. length s.acks) tellings
+
 -- how many gets the sessions were told
 abbrev pub count_gets : List SessionPart → ℕ
-count_gets [] = 0
-count_gets (s ∷ ss) = length s.gets + count_gets ss
+count_gets tellings = sum_by (λ s. length s.gets) tellings
 
 -- the book as its ledger is seen
 abbrev pub account_of : BookParts → Account
@@ -29,10 +32,11 @@ pub record ListsCovered (w : World) (acked : List AckedAt) : Type 0 where
   pub acks : ListsAcks w (map (λ x. x.ack) acked)
   pub places : All (λ x. ListsCovers w x.ack.key x.ack.dot x.places.items) acked
 
--- the audit tells what the book has, and how many gets these sessions were told
+-- the audit tells what the book has, and how many acks and gets these sessions were told
 pub record Tells (b : BookParts) (tellings : List SessionPart) (a : Audit) : Type 0 where
   pub held : ListsHoldings (world_of b) a.held.items
   pub acked : ListsCovered (world_of b) a.acked.items
+  pub acks : a.acks ≡ count_acks tellings
   pub gets : a.gets ≡ count_gets tellings
   pub steps : a.steps ≡ length b.log
   pub settled : ListsSettled (world_of b) a.settled.items

@@ -8,7 +8,7 @@ ghost use Rattle.std.specs.BTreeMap.{IsOrdered};
 ghost use Rattle.dy_core.specs.Orders.{key_cmp};
 ghost use Rattle.dy_core.specs.Listings.{ListsAcks, ListsCovers, ListsHoldings, ListsSettled};
 ghost use Rattle.dy_shares.specs.Shares.{IsMissing};
-ghost use Rattle.dy_book.specs.Audits.{IsAuditOf, ListsCovered, Tells, count_gets};
+ghost use Rattle.dy_book.specs.Audits.{IsAuditOf, ListsCovered, Tells, count_acks, count_gets};
 ghost use Rattle.dy_book.specs.Books.{world_of};
 
 use crate::audits::{AckedAt, Audit};
@@ -110,6 +110,17 @@ fn settled_of(alloc: Global, keys: &BTreeMap<Key, KeyPart>) -> Result<Vec<Key>, 
     Ok(settled)
 }
 
+// How many acks the sessions were told.
+fn acks_told<J: Naming>(sessions: &[SessionShare<J>]) -> u128
+    ensures { result ≡ count_acks sessions.now }
+{
+    let mut acks: u128 = 0;
+    for session in sessions {
+        acks += session.acks() as u128;
+    }
+    acks
+}
+
 // How many gets the sessions were told.
 fn gets_of<J: Naming>(sessions: &[SessionShare<J>]) -> u128
     ensures { result ≡ count_gets sessions.now }
@@ -131,7 +142,7 @@ impl<J: Naming> Book<J> {
         let _alloc = &self.alloc;
         match self.part(key) {
             Some(part) => {
-                let places = custodies::covering(self.alloc, part.places.as_slice(), key, dot)?;
+                let places = dy_core::covering(self.alloc, part.places.as_slice(), key, dot)?;
                 Ok(places)
             }
             None => Ok(Vec::new(self.alloc)),
@@ -183,7 +194,7 @@ impl<J: Naming> Book<J> {
         Ok(settled)
     }
 
-    // What the book has, and how many gets these sessions were told.
+    // What the book has, and how many acks and gets these sessions were told.
     fn audit(&self, sessions: &[SessionShare<J>]) -> Result<Audit, Fault>
         ensures ok { IfOk result (λ audit. Tells self.now sessions.now audit) }
         ensures memory { IsOkUnless result Fault.OutOfMemory }
@@ -191,11 +202,13 @@ impl<J: Naming> Book<J> {
         let held = self.held()?;
         let acked = self.acked()?;
         let settled = self.settled()?;
+        let acks = acks_told(sessions);
         let gets = gets_of(sessions);
         let steps = self.ledger.steps().len();
         Ok(Audit {
             held,
             acked,
+            acks,
             gets,
             steps,
             settled,

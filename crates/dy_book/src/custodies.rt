@@ -1,14 +1,14 @@
 // What is held of one key, place by place.
 ghost use Rattle.std.specs.Prelude.{◌≡◌, ◌<◌, ◌++◌, map, [], vec_len, vec_capacity, IfOk, OnOk};
 ghost use Rattle.std.specs.Prelude.{IsOkUnless, MatchOption};
-ghost use Rattle.dy_core.specs.Orders.{holding_cmp, place_cmp, put};
-ghost use Rattle.dy_core.specs.inside.Meanings.{gathered, is_covering, place_of, row_in};
+ghost use Rattle.dy_core.specs.Orders.{holding_cmp, put};
+ghost use Rattle.dy_core.specs.inside.Meanings.{row_in};
 ghost use Rattle.std.specs.List.{list_any};
 ghost use Rattle.dy_siblings.specs.Siblings.{AreOneByDot, IsSameRow, merge};
 ghost use Rattle.dy_book.specs.inside.Lists.{is_hint_here, listed_from, released};
 ghost use Rattle.dy_book.specs.Books.{DotsRise};
 
-use dy_core::{Holding, Place, Ranked};
+use dy_core::{Holding, Place, Placed, Ranked};
 use dy_dots::{Dot, Fault, NodeId};
 use dy_siblings::{Key, Row, Version};
 use std::alloc::Global;
@@ -50,8 +50,23 @@ fn dots_of(alloc: Global, versions: &[Version]) -> Result<Vec<Dot>, Fault>
     Ok(dots)
 }
 
+impl Placed for Custody {
+    ghost holding = { λ c. c };
+
+    fn place(&self) -> Place {
+        Place {
+            holder: self.holder,
+            home: self.home,
+        }
+    }
+
+    fn is_covering(&self, key: &Key, dot: Dot) -> bool {
+        self.row.key() == key && self.row.covers(dot)
+    }
+}
+
 impl Custody {
-    ghost use Rattle.dy_core.specs.inside.Meanings.{is_at, is_covering, place_of};
+    ghost use Rattle.dy_core.specs.inside.Meanings.{is_at};
     ghost use Rattle.dy_book.specs.inside.Lists.{is_hint_here};
 
     // The custody of the row at the place.
@@ -87,23 +102,6 @@ impl Custody {
     {
         let _versions = self.row.versions();
         self.dots.as_slice()
-    }
-
-    // Whether it is of the key and covers the dot.
-    pub(crate) fn is_covering(&self, key: &Key, dot: Dot) -> bool
-        ensures { result ≡ is_covering key.now dot self.now }
-    {
-        self.row.key() == key && self.row.covers(dot)
-    }
-
-    // Its holder and its home.
-    pub(crate) fn place(&self) -> Place
-        ensures { result ≡ place_of self.now }
-    {
-        Place {
-            holder: self.holder,
-            home: self.home,
-        }
     }
 
     // Whether it is at the place.
@@ -227,26 +225,6 @@ pub(crate) fn dots_at<'a>(places: &'a [Custody], place: Place, key: &Key) -> &'a
         Some(custody) => custody.dots(),
         None => &[],
     }
-}
-
-// The places whose row covers the dot, by home and holder.
-pub(crate) fn covering(
-    alloc: Global,
-    custodies: &[Custody],
-    key: &Key,
-    dot: Dot,
-) -> Result<Vec<Place>, Fault>
-    ensures ok { IfOk result (λ places. places.items ≡
-        gathered place_cmp (is_covering key.now dot) place_of custodies.now) }
-    ensures memory { IsOkUnless result Fault.OutOfMemory }
-{
-    let mut places = Vec::new(alloc);
-    for custody in custodies {
-        if custody.is_covering(key, dot) {
-            dy_core::put(&mut places, custody.place())?;
-        }
-    }
-    Ok(places)
 }
 
 // Lists what is held there, where it has a version.
