@@ -1,7 +1,7 @@
 -- Each call keeps what a node has as its share shows it, and as the world holds it.
 use Rattle.std.proofs.Common.{[], ◌≡◌, ℕ, ◌+◌, ◌<◌, ◌==◌, Bool, true, false, cond, max}
 use Rattle.std.proofs.Common.{unwrap_or, List, ◌∷◌, ◌++◌, Some, None, inl, inr, ◌⊎◌}
-use Rattle.std.proofs.Common.{⊎_elim, refl, sym, ap, ◌∙◌, subst, arith}
+use Rattle.std.proofs.Common.{⊎_elim, refl, sym, ap, ◌∙◌, subst, arith, zero, suc, Option}
 use Rattle.std.specs.List.{Contains}
 use Rattle.std.specs.FinMap as maps
 use Rattle.std.specs.Ordering.{nat_cmp, is_eq}
@@ -10,6 +10,7 @@ use Rattle.std.specs.Cmp.Lexicographic.{slice_cmp, nat_list_cmp_total}
 use Rattle.std.proofs.lemmas.Bool.{cases_lt}
 use Rattle.std.proofs.lemmas.List.Elements.{All-contains, Contains-append_left}
 use Rattle.std.proofs.lemmas.List.Elements.{Contains-append_cases}
+use Rattle.dy_dots.specs.declared.nodes.TheConstants.{MAX_NODES}
 use Rattle.dy_siblings.specs.Siblings.{Siblings, IsSameRow, AreOneByDot}
 use Rattle.dy_siblings.specs.declared.versions.Version.{Version}
 use Rattle.dy_node_store.specs.Rows.{versions_in, versions_of}
@@ -31,6 +32,7 @@ use Rattle.dy_book.proofs.Holding.{steps_grown, world_grown}
 use Rattle.dy_book.specs.Books.{BookParts, issue_steps, row_alone, with_untold, world_of}
 use Rattle.dy_core.specs.declared.steps.Step.TheVariants.{Issue, Hold}
 use Rattle.dy_node.specs.Stored.{Rooms, Stored, Matches, Shows, empty_rooms, shown_world}
+use Rattle.dy_node.specs.Stored.{hints_below, kept_rows, listed}
 use Rattle.dy_node.specs.Stored.{ShowsNothing, versions_at}
 use Rattle.dy_node.specs.inside.Agreed.{IsAgreed}
 use Rattle.dy_node.specs.Nodes.{HasCounterLeft, LacksCounter}
@@ -305,3 +307,17 @@ counter_lacks layout b p s key limit agreed is limit_is none =
     (λ lacks. let same = counter_is layout b p s key agreed is in omega
     (arith, same, limit_is, lacks))
     (cases_lt (greatest_used s.counters key) limit)
+
+no_hints : (key : List ℕ) (n : ℕ) → hints_below maps.empty key n ≡ []
+no_hints key zero = refl
+no_hints key (suc n) =
+    ap (λ (o : Option Siblings). hints_below maps.empty key n ++ listed n o)
+    (maps.get-empty home_then_key (n, key))
+    ∙ ap (λ (rows : List (ℕ × Siblings)). rows ++ []) (no_hints key n)
+
+-- a node that keeps nothing shows nothing of a key
+pub nothing_kept : (node : ℕ) (key : List ℕ) → kept_rows (empty_rooms node) key ≡ []
+nothing_kept node key =
+    ap (λ (o : Option Siblings). listed node o ++ hints_below maps.empty key MAX_NODES)
+    (maps.get-empty (slice_cmp nat_cmp) key)
+    ∙ no_hints key MAX_NODES

@@ -1,4 +1,6 @@
 ghost use Rattle.std.specs.Prelude.{◌≡◌, map, IfOk, IsOkUnless};
+ghost use Rattle.std.specs.List.{All};
+ghost use Rattle.dy_node_store.specs.Rows.{IsRowOf};
 ghost use Rattle.dy_hint_store.specs.Hints.{shown};
 ghost use Rattle.dy_shares.specs.Shares.{BelongsTo, steps_of};
 ghost use Rattle.dy_book.specs.Books.{world_of};
@@ -116,6 +118,8 @@ impl<J: Naming> Node<J> {
     pub fn rows(&self, key: &Key) -> Result<Vec<RowRefFor<'_>>, Fault>
         ensures value { IfOk result
             (λ rows. map shown rows.items ≡ kept_rows self.now.rooms key.now) }
+        ensures of_key { IfOk result
+            (λ rows. All (λ row. IsRowOf key.now row.1) (map shown rows.items)) }
         ensures memory { IsOkUnless result Fault.OutOfMemory }
     {
         let rows = self.stores.list_key(self.alloc, key)?;

@@ -291,6 +291,8 @@ impl Stores {
     pub(crate) fn list_key(&self, alloc: Global, key: &Key) -> Result<Vec<RowRefFor<'_>>, Fault>
         ensures value { IfOk result
             (λ rows. map shown rows.items ≡ kept_rows self.now.rooms key.now) }
+        ensures of_key { IfOk result
+            (λ rows. All (λ row. IsRowOf key.now row.1) (map shown rows.items)) }
         ensures memory { IsOkUnless result Fault.OutOfMemory }
     {
         let mut rows = Vec::new(alloc);
