@@ -1,4 +1,7 @@
+pub mod Delivered
 pub mod Sent
+pub mod Seated
+pub mod Shown
 pub mod Firsts
 pub mod StoreCovers
 pub mod Together

@@ -1,6 +1,10 @@
+pub mod Deliveries
 pub mod Ends
+pub mod Firsts
 pub mod Lists
 pub mod Named
 pub mod Refusals
+pub mod Settings
+pub mod Shows
 pub mod Stores
-pub mod Deliveries
+pub mod Tellings

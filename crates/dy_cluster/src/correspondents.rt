@@ -1,18 +1,22 @@
 // Clients that write to the nodes' workers.
-ghost use Rattle.std.specs.Prelude.{◌≡◌, ◌↔◌, ◌⊎◌, [], List, length};
+ghost use denote.Param.Send.{IsSend};
+ghost use Rattle.std.specs.Prelude.{◌≡◌, ◌≤◌, ◌<◌, ◌↔◌, ◌⊎◌, ℕ, [], List, length, IsTrue};
 ghost use Rattle.std.specs.Prelude.{IfOk, IfErr, IsErrOf, IsOkUnless};
+ghost use Rattle.std.specs.declared.marker.Brand.{Brand as BrandParts};
 ghost use Rattle.dy_book.specs.Limits.{AreLimits, IsQuorum};
 ghost use Rattle.dy_shares.specs.Shares.{SessionPart};
 ghost use Rattle.dy_cluster.specs.Ends.{IsClosed};
 ghost use Rattle.dy_cluster.specs.Named.{NamesBook};
 ghost use Rattle.dy_cluster.specs.Refusals.{IsRunRefusal};
+ghost use Rattle.dy_cluster.specs.Settings.{Setting, setting};
 ghost use Rattle.dy_cluster.specs.Stores.{TellsAcks, TellsStores};
+ghost use Rattle.dy_cluster.specs.Tellings.{AreTold, IsUntold, as_fact};
 
 use crate::clusters::Cluster;
 use crate::embedding::{MOST_CLIENTS, seat_clients};
 use crate::openings::Opened;
 use crate::restings::Closed;
-use crate::seats::{Seat, let_go, rise_all, seat_all};
+use crate::seats::{Seat, Telling, let_go, rise_all, seat_all};
 use dy_book::Options;
 use dy_dots::Fault;
 use dy_mailboxes::{Gate, Inbox, Post, Posted};
@@ -26,7 +30,12 @@ use std::thread::{Threads, for_each_mut};
 
 /// What each of many clients does, in a thread of its own, with a session and a post of its own.
 pub trait Correspondent {
-    /// Clients are numbered from 0. While it runs, each node has a worker.
+    // What the session of the client of this number was told, once it ran on a cluster of this
+    // setting; nothing, where it is left out.
+    ghost told: { Setting → Self → ℕ → SessionPart → Type 0 } = { λ _ _ _ _. Unit {0} };
+
+    /// Clients are numbered from 0. The session was told nothing before. While it runs, each node
+    /// has a worker.
     fn run<J: Naming, R: Wait>(
         &self,
         rt: &R,
@@ -35,7 +44,10 @@ pub trait Correspondent {
         number: usize,
         session: &mut SessionShare<J>,
         post: &mut Post<J>,
-    );
+    )
+        requires few { number < 255 }
+        requires untold { IsUntold session.old }
+        ensures told { told (setting J J.ring J.n J.r) self.now number session.new };
 }
 
 /// Opens a cluster on the ring, starts a worker for each node, runs so many clients beside each
@@ -53,9 +65,13 @@ pub fn with_workers<C: Correspondent + Sync, G: Gate + Sync, R: Threads + Wait +
 ) -> Result<Closed, Fault>
     ensures stores { IfOk result (TellsStores ring options.n) }
     ensures acks { IfOk result (λ closed. (tellings : List SessionPart)
-        × TellsAcks tellings closed × length tellings ≡ clients) }
+        × TellsAcks tellings closed × (length tellings ≡ clients)
+        × AreTold (as_fact (C.told (setting BrandParts ring options.n options.r) client.now))
+        tellings) }
     ensures closed { IfOk result (λ closed. (tellings : List SessionPart)
-        × IsClosed ring options.n options.r tellings closed × length tellings ≡ clients) }
+        × IsClosed ring options.n options.r tellings closed × (length tellings ≡ clients)
+        × AreTold (as_fact (C.told (setting BrandParts ring options.n options.r) client.now))
+        tellings) }
     ensures too_many { ¬ (AreLimits options) → IsErrOf result Fault.TooMany }
     ensures bad_quorum { IsErrOf result Fault.BadQuorum
         ↔ (AreLimits options × ¬ (IsQuorum options ring.nodes)) }
@@ -75,15 +91,27 @@ fn run_staffed<
     requires named { NamesBook J.book J.table J.ring J.n J.r opened }
     ensures stores { IfOk result (TellsStores opened.ring opened.options.n) }
     ensures acks { IfOk result (λ closed. (tellings : List SessionPart)
-        × TellsAcks tellings closed × (length tellings ≡ clients)) }
+        × TellsAcks tellings closed × (length tellings ≡ clients)
+        × AreTold (as_fact (C.told (setting J opened.ring opened.options.n opened.options.r)
+        client.now)) tellings) }
     ensures closed { IfOk result (λ closed. (tellings : List SessionPart)
         × IsClosed opened.ring opened.options.n opened.options.r tellings closed
-        × (length tellings ≡ clients)) }
+        × (length tellings ≡ clients)
+        × AreTold (as_fact (C.told (setting J opened.ring opened.options.n opened.options.r)
+        client.now)) tellings) }
     ensures only { IfErr result IsRunRefusal }
 {
     let cluster = Cluster::<J>::open(alloc, opened)?;
     let mut sessions = Vec::new(alloc);
-    let done = run_seated(rt, alloc, &cluster, gate, &mut sessions, clients, client);
+    let done = run_seated::<J, Brand, C, G, R>(
+        rt,
+        alloc,
+        &cluster,
+        gate,
+        &mut sessions,
+        clients,
+        client,
+    );
     match cluster.close(sessions) {
         Ok(closed) => {
             done?;
@@ -96,6 +124,7 @@ fn run_staffed<
 // Opens a session and a post for each client, and runs them. The sessions are in the list again.
 fn run_seated<
     J: Naming + Send + Sync,
+    T: Telling + Send + Sync,
     C: Correspondent + Sync,
     G: Gate + Sync,
     R: Threads + Wait + Sync,
@@ -109,15 +138,18 @@ fn run_seated<
     client: &C,
 ) -> Result<(), Fault>
     requires none { sessions.old.items ≡ [] }
+    requires tells { (number : ℕ) (telling : SessionPart) →
+        C.told (setting J J.ring J.n J.r) client.now number telling → T.told number telling }
     ensures ok { IfOk result (λ _. length sessions.new.items ≡ clients) }
+    ensures told { IfOk result (λ _. AreTold (as_fact T.told) sessions.new.items) }
     ensures only { IfErr result IsRunRefusal }
 {
     seat_clients(rt, cluster, sessions, clients)?;
     let (post, inboxes) = cluster.post()?;
     let posts = posts_for(alloc, post, clients)?;
-    let mut seats = Vec::with_capacity(alloc, sessions.len())?;
+    let mut seats = Vec::<Seat<J, T>>::with_capacity(alloc, sessions.len())?;
     seat_all(sessions, posts, &mut seats);
-    let is_staffed = run_all(
+    run_all(
         rt,
         alloc,
         cluster,
@@ -126,9 +158,9 @@ fn run_seated<
         client,
         seats.as_mut_slice(),
     );
-    rise_all(&mut seats, sessions);
+    let have_run = rise_all(&mut seats, sessions);
     seats.destroy_empty();
-    if is_staffed {
+    if have_run {
         Ok(())
     } else {
         Err(Fault::OutOfMemory)
@@ -151,12 +183,13 @@ fn posts_for<J: Naming>(
     Ok(posts)
 }
 
-// Starts a worker for each node, and then the clients; false where a worker could not be started,
-// and then no client ran. A message that lies in a mailbox lives as long as any post does, so a
-// client that posts to a worker which never starts would wait for ever: none runs before all are
-// started. At the end every post is let go, and by that the workers end.
+// Starts a worker for each node, and then the clients, but none where a worker could not be
+// started. A message that lies in a mailbox lives as long as any post does, so a client that posts
+// to a worker which never starts would wait for ever: none runs before all are started. At the end
+// every post is let go, and by that the workers end.
 fn run_all<
     J: Naming + Send + Sync,
+    T: Telling + Send + Sync,
     C: Correspondent + Sync,
     G: Gate + Sync,
     R: Threads + Wait + Sync,
@@ -167,29 +200,38 @@ fn run_all<
     gate: &G,
     inboxes: Vec<Inbox<Posted<J>>>,
     client: &C,
-    seats: &mut [Seat<J>],
-) -> bool
-    ensures { length seats.new ≡ length seats.old }
+    seats: &mut [Seat<J, T>],
+)
+    requires tells { (number : ℕ) (telling : SessionPart) →
+        C.told (setting J J.ring J.n J.r) client.now number telling → T.told number telling }
 {
-    thread::scope(thread::scope_env(), rt, |scope| {
-        let mut is_staffed = true;
-        for (number, inbox) in inboxes.into_iter().enumerate() {
-            if scope
-                .spawn(move || cluster.serve_at(rt, number, inbox, gate))
-                .is_err()
-            {
-                is_staffed = false;
+    thread::scope(
+        thread::scope_env(),
+        rt,
+        |scope|
+            requires sends { IsSend T.row }
+            requires tells { (number : ℕ) (telling : SessionPart) →
+                C.told (setting J J.ring J.n J.r) client.now number telling →
+                T.told number telling }
+        {
+            let mut is_staffed = true;
+            for (number, inbox) in inboxes.into_iter().enumerate() {
+                if scope
+                    .spawn(move || cluster.serve_at(rt, number, inbox, gate))
+                    .is_err()
+                {
+                    is_staffed = false;
+                }
             }
-        }
-        if is_staffed {
-            for_each_mut(
-                rt,
-                seats,
-                MOST_CLIENTS,
-                &|number, seat| { seat.run(rt, alloc, cluster, number, client) },
-            );
-        }
-        let_go(seats);
-        is_staffed
-    })
+            if is_staffed {
+                for_each_mut(
+                    rt,
+                    seats,
+                    MOST_CLIENTS,
+                    &|_number, seat| { seat.run(rt, alloc, cluster, client) },
+                );
+            }
+            let_go(seats);
+        },
+    )
 }

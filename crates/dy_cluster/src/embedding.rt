@@ -1,10 +1,15 @@
-ghost use Rattle.std.specs.Prelude.{◌≡◌, ◌↔◌, ◌⊎◌, [], IfOk, IfErr, IsErrOf, List, length};
+ghost use Rattle.std.specs.Prelude.{◌≡◌, ◌≤◌, ◌<◌, ◌↔◌, ◌⊎◌, ℕ, [], List, length};
+ghost use Rattle.std.specs.Prelude.{IfOk, IfErr, IsErrOf};
+ghost use Rattle.std.specs.List.{All};
+ghost use Rattle.std.specs.declared.marker.Brand.{Brand as BrandParts};
 ghost use Rattle.dy_book.specs.Limits.{AreLimits, IsQuorum};
 ghost use Rattle.dy_shares.specs.Shares.{SessionPart};
 ghost use Rattle.dy_cluster.specs.Ends.{IsClosed};
 ghost use Rattle.dy_cluster.specs.Named.{NamesBook};
 ghost use Rattle.dy_cluster.specs.Refusals.{IsRunRefusal};
+ghost use Rattle.dy_cluster.specs.Settings.{Setting, setting};
 ghost use Rattle.dy_cluster.specs.Stores.{TellsAcks, TellsStores};
+ghost use Rattle.dy_cluster.specs.Tellings.{AreTold, IsUntold};
 
 use crate::clusters::Cluster;
 use crate::openings::Opened;
@@ -23,8 +28,9 @@ pub(crate) const MOST_CLIENTS: usize = 255;
 
 /// What is done with a cluster while it is open, whatever the name of its book.
 pub trait Work {
-    // What a work that is done says of what its sessions were told; nothing, where it is left out.
-    ghost told: { Self → List SessionPart → Type 0 } = { λ work tellings. Unit {0} };
+    // What a work that is done on a cluster of this setting says of itself, as it was and as it is,
+    // and of what its sessions were told; nothing, where it is left out.
+    ghost told: { Setting → Self → Self → List SessionPart → Type 0 } = { λ _ _ _ _. Unit {0} };
 
     /// The sessions that it leaves in the list are handed in when the cluster closes.
     fn run<J: Naming, R: Wait>(
@@ -35,12 +41,17 @@ pub trait Work {
         sessions: &mut Vec<SessionShare<J>>,
     ) -> Result<(), Fault>
         requires none { sessions.old.items ≡ [] }
-        ensures told { IfOk result (λ _. told self.new sessions.new.items) };
+        ensures told { IfOk result (λ _. told (setting J J.ring J.n J.r) self.old self.new
+            sessions.new.items) };
 }
 
 /// What each of many clients does, in a thread of its own, with a session of its own.
 pub trait Client {
-    /// Clients are numbered from 0.
+    // What the session of the client of this number was told, once it ran on a cluster of this
+    // setting; nothing, where it is left out.
+    ghost told: { Setting → Self → ℕ → SessionPart → Type 0 } = { λ _ _ _ _. Unit {0} };
+
+    /// Clients are numbered from 0. The session was told nothing before.
     fn run<J: Naming, R: Wait>(
         &self,
         rt: &R,
@@ -48,7 +59,10 @@ pub trait Client {
         cluster: &Cluster<J>,
         number: usize,
         session: &mut SessionShare<J>,
-    );
+    )
+        requires few { number < 255 }
+        requires untold { IsUntold session.old }
+        ensures told { told (setting J J.ring J.n J.r) self.now number session.new };
 }
 
 /// Opens a cluster on the ring, lets the work be done, and closes it. A refusal of the work is
@@ -62,9 +76,11 @@ pub fn with_cluster<W: Work, R: Wait>(
 ) -> Result<Closed, Fault>
     ensures stores { IfOk result (TellsStores ring options.n) }
     ensures acks { IfOk result (λ closed. (tellings : List SessionPart)
-        × TellsAcks tellings closed × W.told work.new tellings) }
+        × TellsAcks tellings closed
+        × W.told (setting BrandParts ring options.n options.r) work.old work.new tellings) }
     ensures closed { IfOk result (λ closed. (tellings : List SessionPart)
-        × IsClosed ring options.n options.r tellings closed × W.told work.new tellings) }
+        × IsClosed ring options.n options.r tellings closed
+        × W.told (setting BrandParts ring options.n options.r) work.old work.new tellings) }
     ensures too_many { ¬ (AreLimits options) → IsErrOf result Fault.TooMany }
     ensures bad_quorum { AreLimits options → ¬ (IsQuorum options ring.nodes) →
         IsErrOf result Fault.BadQuorum }
@@ -83,10 +99,13 @@ fn run_named<J: Naming, W: Work, R: Wait>(
     requires named { NamesBook J.book J.table J.ring J.n J.r opened }
     ensures stores { IfOk result (TellsStores opened.ring opened.options.n) }
     ensures acks { IfOk result (λ closed. (tellings : List SessionPart)
-        × TellsAcks tellings closed × W.told work.new tellings) }
+        × TellsAcks tellings closed
+        × W.told (setting J opened.ring opened.options.n opened.options.r)
+        work.old work.new tellings) }
     ensures closed { IfOk result (λ closed. (tellings : List SessionPart)
         × IsClosed opened.ring opened.options.n opened.options.r tellings closed
-        × W.told work.new tellings) }
+        × W.told (setting J opened.ring opened.options.n opened.options.r)
+        work.old work.new tellings) }
 {
     let cluster = Cluster::<J>::open(alloc, opened)?;
     let mut sessions = Vec::new(alloc);
@@ -112,9 +131,11 @@ pub fn with_clients<C: Client + Sync, R: Threads + Wait + Sync>(
 ) -> Result<Closed, Fault>
     ensures stores { IfOk result (TellsStores ring options.n) }
     ensures acks { IfOk result (λ closed. (tellings : List SessionPart)
-        × TellsAcks tellings closed × length tellings ≡ clients) }
+        × TellsAcks tellings closed × (length tellings ≡ clients)
+        × AreTold (C.told (setting BrandParts ring options.n options.r) client.now) tellings) }
     ensures closed { IfOk result (λ closed. (tellings : List SessionPart)
-        × IsClosed ring options.n options.r tellings closed × length tellings ≡ clients) }
+        × IsClosed ring options.n options.r tellings closed × (length tellings ≡ clients)
+        × AreTold (C.told (setting BrandParts ring options.n options.r) client.now) tellings) }
     ensures too_many { ¬ (AreLimits options) → IsErrOf result Fault.TooMany }
     ensures bad_quorum { IsErrOf result Fault.BadQuorum
         ↔ (AreLimits options × ¬ (IsQuorum options ring.nodes)) }
@@ -134,24 +155,47 @@ fn run_clients<J: Naming + Send + Sync, C: Client + Sync, R: Threads + Wait + Sy
 ) -> Result<Closed, Fault>
     requires named { NamesBook J.book J.table J.ring J.n J.r opened }
     ensures stores { IfOk result (TellsStores opened.ring opened.options.n) }
+    ensures acks { IfOk result (λ closed. (tellings : List SessionPart)
+        × TellsAcks tellings closed × (length tellings ≡ clients)
+        × AreTold (C.told (setting J opened.ring opened.options.n opened.options.r) client.now)
+        tellings) }
     ensures closed { IfOk result (λ closed. (tellings : List SessionPart)
         × IsClosed opened.ring opened.options.n opened.options.r tellings closed
-        × (length tellings ≡ clients)) }
+        × (length tellings ≡ clients)
+        × AreTold (C.told (setting J opened.ring opened.options.n opened.options.r) client.now)
+        tellings) }
     ensures only { IfErr result IsRunRefusal }
 {
     let cluster = Cluster::<J>::open(alloc, opened)?;
     let mut sessions = Vec::new(alloc);
-    let seated = seat_clients(rt, &cluster, &mut sessions, clients);
-    if seated.is_ok() {
-        run_beside(rt, alloc, &cluster, client, sessions.as_mut_slice());
-    }
+    let done = run_seated(rt, alloc, &cluster, &mut sessions, clients, client);
     match cluster.close(sessions) {
         Ok(closed) => {
-            seated?;
+            done?;
             Ok(closed)
         }
         Err(refused) => Err(refused.abandon()),
     }
+}
+
+// Opens a session for each client, and runs them.
+fn run_seated<J: Naming + Send + Sync, C: Client + Sync, R: Threads + Wait + Sync>(
+    rt: &R,
+    alloc: Global,
+    cluster: &Cluster<J>,
+    sessions: &mut Vec<SessionShare<J>>,
+    clients: u8,
+    client: &C,
+) -> Result<(), Fault>
+    requires none { sessions.old.items ≡ [] }
+    ensures ok { IfOk result (λ _. length sessions.new.items ≡ clients) }
+    ensures told { IfOk result (λ _. AreTold (C.told (setting J J.ring J.n J.r) client.now)
+        sessions.new.items) }
+    ensures only { IfErr result IsRunRefusal }
+{
+    seat_clients(rt, cluster, sessions, clients)?;
+    run_beside(rt, alloc, cluster, client, sessions.as_mut_slice());
+    Ok(())
 }
 
 // A session for each client.
@@ -163,6 +207,7 @@ pub(crate) fn seat_clients<J: Naming, R: Wait>(
 ) -> Result<(), Fault>
     requires none { sessions.old.items ≡ [] }
     ensures ok { IfOk result (λ _. length sessions.new.items ≡ clients) }
+    ensures untold { IfOk result (λ _. All IsUntold sessions.new.items) }
     ensures only { IfErr result IsRunRefusal }
 {
     for _ in 0..clients {
@@ -179,7 +224,10 @@ fn run_beside<J: Naming + Send + Sync, C: Client + Sync, R: Threads + Wait + Syn
     client: &C,
     sessions: &mut [SessionShare<J>],
 )
-    ensures { length sessions.new ≡ length sessions.old }
+    requires few { length sessions.old ≤ 255 }
+    requires untold { All IsUntold sessions.old }
+    ensures count { length sessions.new ≡ length sessions.old }
+    ensures told { AreTold (C.told (setting J J.ring J.n J.r) client.now) sessions.new }
 {
     for_each_mut(
         rt,

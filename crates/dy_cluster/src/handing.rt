@@ -1,8 +1,9 @@
 // What is done at one node of a cluster: passes, kept messages, and what it shows.
-ghost use Rattle.std.specs.Prelude.{◌≤◌, IfOk, IfErr, ◌⊎◌, ◌≡◌};
+ghost use Rattle.std.specs.Prelude.{◌≡◌, ◌≤◌, ◌⊎◌, IfOk, IfErr, IsOkUnless};
 ghost use Rattle.dy_transport.specs.Told.{Told};
 ghost use Rattle.dy_handoff.specs.Passes.{IsPass};
-ghost use Rattle.dy_cluster.specs.Deliveries.{IsDelivery};
+ghost use Rattle.dy_cluster.specs.Deliveries.{IsDelivery, IsDeliveryRefusal};
+ghost use Rattle.dy_cluster.specs.Shows.{IsShow};
 
 use crate::clusters::Cluster;
 use dy_dots::{Fault, NodeId};
@@ -61,6 +62,7 @@ impl<J: Naming> Cluster<J> {
     /// that the ring has not is down. May wait for locks.
     pub fn deliver<R: Wait>(&self, rt: &R, node: NodeId) -> Result<usize, Fault>
         ensures ok { IfOk result IsDelivery }
+        ensures only { IfErr result IsDeliveryRefusal }
     {
         let Some(lock) = self.nodes.get(usize::from(node.number())) else {
             return Err(Fault::Down);
@@ -72,14 +74,17 @@ impl<J: Naming> Cluster<J> {
 
     /// Copies of what the node keeps of the key: its own row, and then its hints in the order of
     /// their homes. May wait for a lock.
-    pub fn show<R: Wait>(&self, rt: &R, node: NodeId, key: &Key) -> Result<Vec<RowFor>, Fault> {
+    pub fn show<R: Wait>(&self, rt: &R, node: NodeId, key: &Key) -> Result<Vec<RowFor>, Fault>
+        ensures ok { IfOk result (λ rows. IsShow key.now rows.items) }
+        ensures memory { IsOkUnless result Fault.OutOfMemory }
+    {
         let mut copies = Vec::new(self.alloc);
         let Some(lock) = self.nodes.get(usize::from(node.number())) else {
             return Ok(copies);
         };
         let held = lock.lock(rt);
         let rows = held.rows(key)?;
-        for row in rows {
+        for row in rows.as_slice() {
             let copy = row.1.try_clone(self.alloc)?;
             copies.push((row.0, copy))?;
         }

@@ -1,20 +1,20 @@
 // The nodes into their locks, and out of them.
-ghost use Rattle.std.specs.Prelude.{◌≡◌, ◌≤◌, ◌+◌, [], length, vec_len, vec_capacity};
-ghost use Rattle.std.specs.List.{All};
+ghost use Rattle.std.specs.Prelude.{◌≡◌, ◌≤◌, ◌<◌, ◌+◌, [], length, vec_len, vec_capacity};
 ghost use Rattle.dy_cluster.specs.Ends.{GoTogether};
+ghost use Rattle.dy_cluster.specs.Firsts.{AreFirstFrom};
 
 use dy_node::{Node, Rest};
 use dy_shares::{Naming, NodeShare};
 use std::alloc::Global;
 use std::sync::Mutex;
 
-// Puts a new node for each share into a lock.
+// Puts a new node for each share into a lock, each at the place of its number.
 pub(crate) fn lock_all<J: Naming>(
     alloc: Global,
     shares: &mut Vec<NodeShare<J>>,
     locks: &mut Vec<Mutex<Node<J>>>,
 )
-    requires fresh { All (λ p. p.steps ≡ []) shares.old.items }
+    requires first { AreFirstFrom (vec_len locks.old) shares.old.items }
     requires room { vec_len locks.old + length shares.old.items ≤ vec_capacity locks.old }
     ensures count { vec_len locks.new ≡ vec_len locks.old + length shares.old.items }
     ensures emptied { shares.new.items ≡ [] }
@@ -22,8 +22,19 @@ pub(crate) fn lock_all<J: Naming>(
 {
     shares.reverse();
     while let Some(share) = shares.pop() {
-        locks.push_reserved(Mutex::new(Node::new(alloc, share)));
+        lock_next(alloc, share, locks);
     }
+}
+
+// Puts the new node of the next number into a lock.
+fn lock_next<J: Naming>(alloc: Global, share: NodeShare<J>, locks: &mut Vec<Mutex<Node<J>>>)
+    requires number { share.node ≡ vec_len locks.old }
+    requires fresh { share.steps ≡ [] }
+    requires room { vec_len locks.old < vec_capacity locks.old }
+    ensures count { vec_len locks.new ≡ vec_len locks.old + 1 }
+    ensures memory { vec_capacity locks.new ≡ vec_capacity locks.old }
+{
+    locks.push_reserved(Mutex::new(Node::new(alloc, share)));
 }
 
 // Takes the nodes out of their locks, the last first. The list keeps its memory.

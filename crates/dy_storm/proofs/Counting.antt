@@ -1,28 +1,41 @@
--- Turns and sessions counted together.
-use Rattle.std.proofs.Common.{◌≡◌, ◌+◌, ◌*◌, ◌++◌, ◌∷◌, [], ℕ, List, length, add-mul, arith}
-use Rattle.dy_shares.specs.Shares.{SessionPart}
+-- What the sessions of a storm were told together.
+use Rattle.std.proofs.Common.{◌≡◌, ◌+◌, ◌*◌, ◌≤◌, ℕ, List, length, get_or, add-mul, arith}
+use Rattle.std.proofs.Math.Bridge.{le_prop}
+use Rattle.std.proofs.Math.Logic.{∥∥₁_elim}
 use Rattle.std.specs.List.{sum_by}
-use Rattle.std.proofs.lemmas.List.Sums.{sum_by-append}
-use Rattle.dy_book.specs.Audits.{count_gets}
-use Rattle.dy_storm.specs.Ends.{count_acks}
+use Rattle.std.proofs.lemmas.List.Sums.{sum_by-le}
+use Rattle.std.proofs.lemmas.Option.{slice_get-get_or}
+use Rattle.dy_shares.specs.Shares.{SessionPart}
+use Rattle.dy_book.specs.Audits.{count_acks, count_gets}
+use Rattle.dy_cluster.specs.Settings.{Setting}
+use Rattle.dy_cluster.specs.Tellings.{AreTold, as_fact}
+use Rattle.rand_pcg.specs.Lcg.{Lcg}
+use Rattle.dy_storm.specs.Turns.{AreTurns}
+use Rattle.dy_storm.proofs.Growing.{turns_tell}
 
--- the gets of one session more
-pub gets_more : (xs : List SessionPart) (s : SessionPart) →
-    count_gets (xs ++ s ∷ []) ≡ count_gets xs + length s.gets
-gets_more [] s = omega arith
-gets_more (x ∷ xs) s = let e = gets_more xs s in omega (arith, e)
+-- where each was told so much at most, all were told no more than so much for each
+most_told : (told : ℕ → SessionPart → Type 0) (count : SessionPart → ℕ) (most : ℕ)
+    → ((number : ℕ) (telling : SessionPart) → told number telling → count telling ≤ most)
+    → (tellings : List SessionPart) → AreTold (as_fact told) tellings →
+    sum_by count tellings ≤ length tellings * most
+most_told told count most each tellings are =
+    sum_by-le count most tellings (λ k d within.
+    ∥∥₁_elim (are k (get_or tellings k d) (slice_get-get_or tellings k d within)) le_prop
+    (each k (get_or tellings k d)))
 
--- and its acks
-pub acks_more : (xs : List SessionPart) (s : SessionPart) →
-    count_acks (xs ++ s ∷ []) ≡ count_acks xs + length s.acks
-acks_more xs s =
-    let f : SessionPart → ℕ = λ (t : SessionPart). length t.acks in
-    let e : sum_by f (xs ++ s ∷ []) ≡ sum_by f xs + (0 + length s.acks) =
-    sum_by-append f xs (s ∷ []) in omega (arith, e)
-
--- one client more counts twice for each of its turns
-pub one_more : (m k t a g r x y z : ℕ) → m ≡ k + 1 → x + y + z ≡ 2 * k * t → a + g + r ≡ 2 * t →
-    (x + a) + (y + g) + (z + r) ≡ 2 * m * t
-one_more m k t a g r x y z e f h =
-    let d : 2 * m ≡ 2 * k + 2 = omega (arith, e) in
-    rw d (omega (arith, add-mul (2 * k) 2 t, f, h))
+-- so many clients that make so many turns are told no more than two for each turn
+pub turns_most : (s : Setting) (generators : ℕ → Lcg) (clients turns : ℕ)
+    (tellings : List SessionPart) → length tellings ≡ clients
+    → AreTold (as_fact (λ number telling. AreTurns s (generators number) number turns telling))
+    tellings → count_acks tellings + count_gets tellings ≤ 2 * clients * turns
+turns_most s generators clients turns tellings many are =
+    let told : ℕ → SessionPart → Type 0 =
+    λ number telling. AreTurns s (generators number) number turns telling in
+    let acks : count_acks tellings ≤ length tellings * turns =
+    most_told told (λ t. length t.acks) turns
+    (λ number telling is. (turns_tell s (generators number) number turns telling is).1) tellings are in
+    let gets : count_gets tellings ≤ length tellings * turns =
+    most_told told (λ t. length t.gets) turns
+    (λ number telling is. (turns_tell s (generators number) number turns telling is).0) tellings are in
+    let twice : 2 * clients ≡ length tellings + length tellings = omega (arith, many) in
+    rw twice (omega (arith, add-mul (length tellings) (length tellings) turns, acks, gets))

@@ -1,4 +1,3 @@
 pub mod Counting
 pub mod FiveTokens
 pub mod Growing
-pub mod Sent

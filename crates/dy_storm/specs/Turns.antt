@@ -1,10 +1,9 @@
 -- What a client does in one turn.
-use Rattle.std.specs.Prelude.{◌≡◌, ◌⊎◌, ℕ, List, Bool, false, Option, Some, None, is_some}
-use Rattle.std.specs.Prelude.{Result, is_ok, unwrap_or}
+use Rattle.std.specs.Prelude.{◌≡◌, ◌⊎◌, ℕ, zero, suc, ◌%◌, List, Option, Some, None, Result}
+use Rattle.std.specs.Prelude.{unwrap_or}
 use Rattle.std.specs.FinSet as set
 use Rattle.dy_dots.specs.Dots.{DotSet}
 use Rattle.dy_dots.specs.declared.nodes.TheConstants.{MAX_NODES}
-use Rattle.dy_ring.specs.Rings.{Tokens}
 use Rattle.dy_preference.specs.Preferences.{Preferred}
 use Rattle.dy_shares.specs.Shares.{SessionPart, since_of, with_get}
 use Rattle.dy_quorum.specs.Gatherings.{first_answers}
@@ -15,7 +14,11 @@ use Rattle.dy_coord.specs.declared.get_dones.GetDone.{GetDone}
 use Rattle.dy_coord.specs.declared.put_results.PutDone.{PutDone}
 use Rattle.dy_coord.specs.declared.put_results.PutFault.{PutFault}
 use Rattle.dy_cluster.specs.Lists.{list_of}
-use Rattle.dy_storm.specs.declared.turns.Turn.{Turn}
+use Rattle.dy_cluster.specs.Settings.{Setting}
+use Rattle.dy_cluster.specs.Tellings.{IsUntold}
+use Rattle.rand_pcg.specs.Lcg.{Lcg}
+use Rattle.rand_pcg.specs.Pcg.{pcg32}
+use Rattle.dy_storm.specs.Words.{key_text, value_text}
 
 -- a get of the key was answered so, and the session was told of it
 pub record HasGot (J : Type 0) (list : Preferred) (r : ℕ) (key : List ℕ) (done : GetDone J)
@@ -37,29 +40,43 @@ IsGetOf J list r key None before after = after ≡ before
 IsGetOf J list r key (Some context) before after =
     (done : GetDone J) × (context ≡ done.context) × HasGot J list r key done before after
 
--- a put that names two homes was answered so
+-- a put that names two homes was answered
 pub record HasPut (J : Type 0) (list : Preferred) (key : List ℕ) (context : DotSet)
-    (value : List ℕ) (before after : SessionPart) (is_acked : Bool) : Type 0 where
+    (value : List ℕ) (before after : SessionPart) : Type 0 where
   pub told : Told J
   pub answer : Result PutDone PutFault
   pub ends : PutEnds {J = J} list 2 key context (Some value) before after
       (nothing_told MAX_NODES) told answer
-  pub is : is_acked ≡ is_ok answer
 
--- a put was answered so, or the session was told nothing
+-- a put was answered, or the session was told nothing
 abbrev pub IsPutOf : Type 0 → Preferred → List ℕ → DotSet → List ℕ
-    → SessionPart → SessionPart → Bool → Type 0
-IsPutOf J list key context value before after is_acked =
-    HasPut J list key context value before after is_acked
-    ⊎ ((is_acked ≡ false) × (after ≡ before))
+    → SessionPart → SessionPart → Type 0
+IsPutOf J list key context value before after =
+    HasPut J list key context value before after ⊎ (after ≡ before)
 
 -- a turn gets the key, and then puts this value with the context of the get, which is empty where
 -- the get was refused
-pub record IsTurnOf (J : Type 0) (ring : Tokens) (n r : ℕ) (key value : List ℕ)
-    (before after : SessionPart) (turn : Turn) : Type 0 where
+pub record IsTurnOf (s : Setting) (key value : List ℕ) (before after : SessionPart)
+    : Type 0 where
   pub context : Option DotSet
   pub between : SessionPart
-  pub gets : IsGetOf J (list_of ring n key) r key context before between
-  pub puts : IsPutOf J (list_of ring n key) key (unwrap_or context set.empty) value between
-      after turn.has_put
-  pub got : turn.has_got ≡ is_some context
+  pub gets : IsGetOf s.book (list_of s.ring s.n key) s.r key context before between
+  pub puts : IsPutOf s.book (list_of s.ring s.n key) key (unwrap_or context set.empty) value
+      between after
+
+-- the generator after so many draws
+abbrev pub after_draws : Lcg → ℕ → Lcg
+after_draws generator zero = generator
+after_draws generator (suc n) = (pcg32 (after_draws generator n)).1
+
+-- the number of the key that is drawn after so many draws, one of sixteen
+abbrev pub key_drawn : Lcg → ℕ → ℕ
+key_drawn generator n = (pcg32 (after_draws generator n)).0 % 16
+
+-- the session was told nothing but by so many turns of this client, each of the key that is drawn
+-- for it
+abbrev pub AreTurns : Setting → Lcg → ℕ → ℕ → SessionPart → Type 0
+AreTurns s generator client zero session = IsUntold session
+AreTurns s generator client (suc turn) session =
+    (before : SessionPart) × AreTurns s generator client turn before
+    × IsTurnOf s (key_text (key_drawn generator turn)) (value_text client turn) before session

@@ -15,13 +15,57 @@ use std::sync::Wait;
 /// How many nodes there are.
 const NODES: u32 = 5;
 
-/// As many failures and returns of nodes as a client has turns. At the end every node is
-/// up, and does what it is asked. May wait for locks.
-pub(crate) fn fall<J: Naming, R: Wait>(rt: &R, cluster: &Cluster<J>, plan: Storm) {
-    let mut generator = generator_after(plan);
-    for _ in 0..plan.puts {
-        disturb(rt, cluster, &mut generator);
+/// What fails and comes back while clients make their turns: one thing for as many turns as there
+/// are clients, and so as many things as a client has turns.
+#[derive(Drop)]
+pub(crate) struct Outages {
+    plan: Storm,
+    generator: Lcg64Xsh32,
+    // How many turns were made since something failed, and how many things did.
+    turns: u8,
+    made: u32,
+    // How many versions the passes handed over.
+    handed_over: usize,
+}
+
+impl Outages {
+    /// Nothing has failed yet. The draws are behind those of the clients.
+    pub fn new(plan: Storm) -> Outages
+        ensures { result.generator ≡ generator_of ((plan.seed + plan.threads) % 2 ^ 64) }
+    {
+        Outages {
+            plan,
+            generator: Lcg64Xsh32::seed_from_u64(plan.seed.wrapping_add(u64::from(plan.threads))),
+            turns: 0,
+            made: 0,
+            handed_over: 0,
+        }
     }
+
+    /// A client has made a turn. Where it is the last of all, every node is up after it, and does
+    /// what it is asked. May wait for locks.
+    pub fn go_on<J: Naming, R: Wait>(&mut self, rt: &R, cluster: &Cluster<J>) {
+        self.turns = self.turns.saturating_add(1);
+        if self.turns < self.plan.threads {
+            return;
+        }
+        self.turns = 0;
+        let handed_over = disturb(rt, cluster, &mut self.generator);
+        self.handed_over = self.handed_over.saturating_add(handed_over);
+        self.made = self.made.saturating_add(1);
+        if self.made == self.plan.puts {
+            mend(rt, cluster);
+        }
+    }
+
+    /// How many versions the passes handed over.
+    pub fn handed_over(&self) -> usize {
+        self.handed_over
+    }
+}
+
+// Every node is up, and does what it is asked.
+fn mend<J: Naming, R: Wait>(rt: &R, cluster: &Cluster<J>) {
     for number in 0..NODES as usize {
         let node = NodeId::nth(number);
         cluster.set_up(rt, node, true);
@@ -29,24 +73,24 @@ pub(crate) fn fall<J: Naming, R: Wait>(rt: &R, cluster: &Cluster<J>, plan: Storm
     }
 }
 
-// The generator behind those of the clients.
-fn generator_after(plan: Storm) -> Lcg64Xsh32
-    ensures { result ≡ generator_of ((plan.seed + plan.threads) % 2 ^ 64) }
-{
-    Lcg64Xsh32::seed_from_u64(plan.seed.wrapping_add(u64::from(plan.threads)))
-}
-
-// One node goes down, comes up, hands over or takes a mode.
-fn disturb<J: Naming, R: Wait>(rt: &R, cluster: &Cluster<J>, generator: &mut Lcg64Xsh32) {
+// One node goes down, comes up, hands over or takes a mode. Gives how many versions were handed
+// over.
+fn disturb<J: Naming, R: Wait>(rt: &R, cluster: &Cluster<J>, generator: &mut Lcg64Xsh32) -> usize {
     let node = NodeId::nth(draw(generator, NODES) as usize);
     match draw(generator, 4) {
         0 => cluster.set_up(rt, node, false),
         1 => cluster.set_up(rt, node, true),
-        2 => {
-            // A pass at a node that is down, or without memory, hands over nothing.
-            let _ = cluster.handoff(rt, node);
-        }
+        2 => return hand_over(rt, cluster, node),
         _ => cluster.fault(rt, node, mode_of(draw(generator, 4))),
+    }
+    0
+}
+
+// How many versions a pass hands over. At a node that is down, or without memory, it is none.
+fn hand_over<J: Naming, R: Wait>(rt: &R, cluster: &Cluster<J>, node: NodeId) -> usize {
+    match cluster.handoff(rt, node) {
+        Ok(pass) => pass.released,
+        Err(_) => 0,
     }
 }
 

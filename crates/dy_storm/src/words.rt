@@ -15,7 +15,7 @@ pub(crate) fn key_of(alloc: Global, number: u32) -> Result<Key, Fault>
 }
 
 /// What a client puts in a turn.
-pub(crate) fn value_of(alloc: Global, client: u8, turn: u32) -> Result<Value, Fault>
+pub(crate) fn value_of(alloc: Global, client: usize, turn: u32) -> Result<Value, Fault>
     ensures { IfOk result (λ value. value ≡ value_text client turn) }
 {
     let text = format!(in alloc; "t{client}-{turn}")?;

@@ -1,5 +1,6 @@
 ghost use Rattle.std.specs.Prelude.{◌≡◌, OnOk, IfErr};
 ghost use Rattle.std.specs.Io.KnownBytes.{Appends};
+ghost use Rattle.std.specs.declared.marker.Brand.{Brand as BrandParts};
 ghost use Rattle.dy_ring.specs.Rings.{Tokens};
 ghost use Rattle.dy_ring.specs.Lists.{IsRingOf};
 ghost use Rattle.dy_lines.specs.Texts.{line};
@@ -26,7 +27,7 @@ pub fn write_storm<O: Write, R: Threads + Wait + Sync>(
     out: &mut O,
 ) -> Result<(), Stopped>
     ensures written { OnOk result ((ring : Tokens) × IsRingOf five_tokens ring
-        × ((done : StormDone) × IsStormed ring 3 2 plan.threads plan.puts done
+        × ((done : StormDone) × IsStormed BrandParts ring 3 2 plan done
         × Appends (O.contents out.old) (O.contents out.new)
         (line (counts_text done.counts.acked done.counts.gets done.counts.refused)))) }
     ensures refused { IfErr result (λ stopped. (fault : Fault)

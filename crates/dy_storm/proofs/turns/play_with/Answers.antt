@@ -4,14 +4,13 @@ use Rattle.std.specs.FinSet as set
 use Rattle.dy_dots.specs.Dots.{DotSet}
 use Rattle.dy_cluster.specs.Lists.{list_of}
 use Rattle.dy_storm.specs.Turns.{IsPutOf}
-use Rattle.dy_storm.proofs.Growing.{turn_grows}
 use Rattle.dy_storm.proofs.turns.play_with.Goals as goal
 
 -- the get, and then the put with its context
-pub returns-clause-told : goal.returns-clause-told
-returns-clause-told g c =
+pub returns : goal.returns
+returns g c =
     let got = c.get_one-got in
-    let put = c.put_one-has_put in
+    let put = c.put_one in
     let key = c.args.key.now in
     let empty : c.unwrap_or-context.result ≡ unwrap_or got.result set.empty =
     c.unwrap_or-context.ensures ∙ ap (λ (x : DotSet). unwrap_or got.result x) c.new.ensures in
@@ -21,19 +20,5 @@ returns-clause-told g c =
       gets = got.ensures;
       puts = subst (λ (x : DotSet). IsPutOf g.row.J.Denot
           (list_of g.J.Naming.ring g.J.Naming.n key) key x c.args.value got.new.session
-          put.new.session put.result) empty put.ensures;
-      got = c.is_some-has_got.ensures;
+          put.new.session) empty put.ensures;
     }
-
--- what it tells its session
-pub returns-clause-gets : goal.returns-clause-gets
-returns-clause-gets g c =
-    (turn_grows g.row.J.Denot g.J.Naming.ring g.J.Naming.n g.J.Naming.r c.args.key.now
-    c.args.value c.args.session.now c.put_one-has_put.new.session _
-    (returns-clause-told g c)).0
-
-pub returns-clause-acks : goal.returns-clause-acks
-returns-clause-acks g c =
-    (turn_grows g.row.J.Denot g.J.Naming.ring g.J.Naming.n g.J.Naming.r c.args.key.now
-    c.args.value c.args.session.now c.put_one-has_put.new.session _
-    (returns-clause-told g c)).1

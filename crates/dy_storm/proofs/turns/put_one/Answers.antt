@@ -9,11 +9,10 @@ pub returns : goal.returns
 returns g c =
     let list = list_of g.J.Naming.ring g.J.Naming.n c.args.key.now in
     inl (record {
-      told = c.put-answer.new.transport;
-      answer = c.put-answer.result;
+      told = c.put.new.transport;
+      answer = c.put.result;
       ends = subst (λ (told : Told g.row.J.Denot). PutEnds {J = g.row.J.Denot} list 2
           c.args.key.now c.args.context.now (Some c.args.value) c.args.session.now
-          c.put-answer.new.session told c.put-answer.new.transport c.put-answer.result)
-          c.in-Ok.ensures.ok c.put-answer.ensures.ends;
-      is = c.is_ok.ensures.value;
+          c.put.new.session told c.put.new.transport c.put.result)
+          c.in-Ok.ensures.ok c.put.ensures.ends;
     })

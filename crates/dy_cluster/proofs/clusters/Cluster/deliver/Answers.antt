@@ -1,4 +1,6 @@
+use Rattle.std.proofs.Common.{refl}
 use Rattle.std.proofs.lemmas.Result.{IfOk-weaker}
+use Rattle.dy_cluster.proofs.Delivered.{delivery_refused}
 use Rattle.dy_cluster.proofs.clusters.Cluster.deliver.Goals as goal
 
 -- what the node tells of it
@@ -13,4 +15,6 @@ returns g c = record {
         count_is = is.0;
         delivered = is.1;
       }) c.deliver.ensures.ok;
+  only = delivery_refused _ c.deliver.result c.deliver.ensures.down c.deliver.ensures.stopped
+      (λ f is. is.4.only f refl);
 }

@@ -1,16 +1,15 @@
-use Rattle.std.proofs.Common.{◌≡◌, ◌∙◌, List, [], length}
+use Rattle.std.proofs.Common.{◌≡◌, ◌∙◌, ℕ, length}
 use Rattle.std.proofs.Common.{arith, ap, sym, subst}
-use Rattle.std.specs.List.{All}
 use Rattle.dy_ring.specs.Rings.{Tokens}
-use Rattle.dy_shares.specs.Shares.{NodePart}
-use Rattle.dy_cluster.proofs.Firsts.{first_fresh, first_length}
+use Rattle.dy_cluster.specs.Firsts.{AreFirstFrom}
+use Rattle.dy_cluster.proofs.Firsts.{first_in_order, first_length}
 use Rattle.dy_cluster.proofs.clusters.Cluster.open.Goals as goal
 
--- no share has made a step
-pub lock_all-requires-clause-fresh : goal.lock_all-requires-clause-fresh
-lock_all-requires-clause-fresh g c =
-    subst (λ (ps : List NodePart). All (λ p. p.steps ≡ []) ps) (sym c.in-Ok.ensures.shares)
-    (first_fresh g.J.Naming.ring.nodes)
+-- the shares are those of the nodes in their order, and no lock is made yet
+pub lock_all-requires-clause-first : goal.lock_all-requires-clause-first
+lock_all-requires-clause-first g c =
+    subst (λ (n : ℕ). AreFirstFrom n c.in-Ok.opened.1.items) (sym c.in_ok-nodes.ensures.len)
+    (subst (AreFirstFrom 0) (sym c.in-Ok.ensures.shares) (first_in_order g.J.Naming.ring.nodes))
 
 -- there is a lock for each
 pub lock_all-requires-clause-room : goal.lock_all-requires-clause-room

@@ -1,0 +1,20 @@
+use Rattle.std.proofs.Common.{◌≡◌, ◌+◌, ◌*◌, ◌≤◌, ◌%◌, ◌^◌, ap, arith}
+use Rattle.dy_book.specs.Audits.{count_acks, count_gets}
+use Rattle.dy_storm.specs.Seeds.{generator_of}
+use Rattle.dy_storm.specs.declared.plans.Storm.{Storm}
+use Rattle.dy_storm.proofs.Counting.{turns_most}
+use Rattle.dy_storm.proofs.storms.storm.Goals as goal
+
+-- the sessions were told no more than two for each turn
+pub of-counts-requires : goal.of-counts-requires
+of-counts-requires g c =
+    let closed = c.in_ok-closed.ensures.closed in
+    let tells = closed.1.1.audit.tells in
+    let plan = c.new-clients.result.plan in
+    let threads = c.args.plan.threads in
+    let most : count_acks closed.0 + count_gets closed.0 ≤ 2 * threads * plan.puts =
+    turns_most _ (λ number. generator_of ((plan.seed + number) % 2 ^ 64)) threads plan.puts
+    closed.0 closed.2 closed.3 in
+    let same : 2 * threads * plan.puts ≡ 2 * threads * c.args.plan.puts =
+    ap (λ (p : Storm). 2 * threads * p.puts) c.new-clients.ensures in
+    record { most = omega (arith, tells.acks, tells.gets, most, same) }
