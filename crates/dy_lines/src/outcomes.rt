@@ -211,7 +211,7 @@ impl fmt::Display for After {
 /// The line of a command: its number, from 1, and what came of it.
 #[derive(Clone, Copy, Debug)]
 pub struct CommandLine<'a> {
-    pub number: u32,
+    pub number: usize,
     pub outcome: &'a Outcome,
 }
 

@@ -1,3 +1,4 @@
 pub mod AuditLines
+pub mod Doing
 pub mod RingLines
 pub mod Seating

@@ -1,10 +1,13 @@
 -- Where sessions are.
-use Rattle.std.proofs.Common.{◌≡◌, ◌==◌, ◌+◌, ◌<◌, ℕ, List, [], ◌∷◌, ◌++◌, length, get_or, false}
-use Rattle.std.proofs.Common.{sym, ◌∙◌, arith, eq-eqb}
+use Rattle.std.proofs.Common.{◌≡◌, ◌==◌, ◌<◌, ℕ, List, [], ◌∷◌, ◌++◌, length, get_or, false}
+use Rattle.std.proofs.Common.{Some, sym, ap, ◌∙◌, arith, eq-eqb}
+use Rattle.std.specs.Prelude.{slice_get, slice_set}
 use Rattle.std.proofs.lemmas.Grind.{common_steps}
 use Rattle.std.proofs.lemmas.List.Folds.{position_or_len_push}
 use Rattle.std.proofs.lemmas.List.Sums.{position_or_len_is}
-use Rattle.dy_runner.specs.Seats.{seat_of}
+use Rattle.std.proofs.lemmas.Option.{slice_get-get_or}
+use Rattle.dy_shares.specs.Shares.{SessionPart}
+use Rattle.dy_runner.specs.Seats.{IsSeated, IsToldAt, seat_of}
 
 -- the first place that has the number
 pub seat_of-at : (number : ℕ) (numbers : List ℕ) (i : ℕ) → i < length numbers
@@ -27,3 +30,19 @@ pub seat_of-push : (number : ℕ) (numbers : List ℕ) → seat_of number number
     seat_of number (numbers ++ number ∷ []) ≡ length numbers
 seat_of-push number numbers none =
     position_or_len_push (λ n. n == number) numbers number ∙ grind (arith, common_steps, none)
+
+-- the session at this place was told so
+pub told_at : (at place : ℕ) (before seated : List SessionPart) (old new : SessionPart)
+    (Tells : SessionPart → SessionPart → Type 0)
+    → at ≡ place → at < length seated → old ≡ get_or seated at old → IsSeated before seated
+    → Tells old new → IsToldAt place before (slice_set seated at new) Tells
+told_at at place before seated old new Tells same within here opened tells = record {
+  seated = seated;
+  opened = opened;
+  old = old;
+  old_is = ap (slice_get seated) (sym same) ∙ slice_get-get_or seated at old within
+      ∙ ap Some (sym here);
+  new = new;
+  after_is = ap (λ (k : ℕ). slice_set seated k new) same;
+  tells = tells;
+}

@@ -1,6 +1,6 @@
 -- How the outcome of a command comes from what a cluster's call answered.
 use Rattle.std.specs.Prelude.{◌≡◌, ◌≢◌, ◌≤◌, ◌⊎◌, ℕ, List, map, Option, None, Result, Ok, Err}
-use Rattle.std.specs.Prelude.{IfOk, IfErr, OnErr}
+use Rattle.std.specs.Prelude.{IfOk, IfErr, OnErr, IsOkUnless}
 use Rattle.std.specs.declared.alloc.Global.{Global}
 use Rattle.std.specs.declared.vec.Vec.{Vec}
 use Rattle.dy_dots.specs.Dots.{DotSet}
@@ -12,13 +12,18 @@ use Rattle.dy_preference.specs.Preferences.{Preferred}
 use Rattle.dy_shares.specs.Shares.{SessionPart, since_of, with_get}
 use Rattle.dy_quorum.specs.Gatherings.{first_answers}
 use Rattle.dy_transport.specs.Told.{Told, nothing_told}
+use Rattle.dy_reads.specs.Lists.{homes_in}
 use Rattle.dy_coord.specs.Gets.{IsGetRefused, IsGot}
 use Rattle.dy_coord.specs.PutEnds.{PutEnds}
 use Rattle.dy_coord.specs.declared.get_dones.GetDone.{GetDone}
 use Rattle.dy_coord.specs.declared.get_faults.GetFault.{GetFault}
 use Rattle.dy_coord.specs.declared.put_results.PutDone.{PutDone}
 use Rattle.dy_coord.specs.declared.put_results.PutFault.{PutFault}
+use Rattle.dy_repair.specs.Repairs.{IsRepaired}
+use Rattle.dy_handoff.specs.Passes.{IsPass}
 use Rattle.dy_handoff.specs.declared.counts.Pass.{Pass}
+use Rattle.dy_cluster.specs.Deliveries.{IsDelivery, IsDeliveryRefusal}
+use Rattle.dy_cluster.specs.Shows.{IsShow}
 use Rattle.dy_lines.specs.declared.keeping.Kept.{Kept}
 use Rattle.dy_lines.specs.declared.outcomes.Outcome.{Outcome}
 use Rattle.dy_lines.specs.declared.outcomes.Outcome.TheVariants.{Stored, Read, Lacking, Refused}
@@ -48,29 +53,34 @@ pass_outcome (Err f) = Refused word.Handoff f None
 abbrev pub kept_row : ℕ × Siblings → Kept
 kept_row row = record { home = row.0; dots = own_dots row.1.versions }
 
--- the outcome tells what a delivery answered
-abbrev pub IsDeliveryTold : Outcome → Type 0
-IsDeliveryTold outcome = (answer : Result ℕ Fault) × (outcome ≡ delivery_outcome answer)
+-- the outcome tells what a delivery answered: it was one, or was refused
+pub record IsDeliveryTold (outcome : Outcome) : Type 0 where
+  pub answer : Result ℕ Fault
+  pub ok : IfOk answer IsDelivery
+  pub only : IfErr answer IsDeliveryRefusal
+  pub tells : outcome ≡ delivery_outcome answer
 
--- the outcome tells what a pass answered: it stored no more than it offered, or it was refused for
--- a node that is down, or for memory
-pub record IsPassTold (outcome : Outcome) : Type 0 where
+-- the outcome tells what a pass at this node answered: it was one, which stored no more than it
+-- offered, or it was refused for a node that is down, or for memory
+pub record IsPassTold (J : Type 0) (node : ℕ) (outcome : Outcome) : Type 0 where
   pub answer : Result Pass Fault
+  pub ok : IfOk answer (λ pass. (told : Told J) × IsPass {J = J} node told pass)
   pub fewer : IfOk answer (λ pass. pass.stored ≤ pass.offers)
   pub only : IfErr answer (λ f. (f ≡ Down) ⊎ (f ≡ OutOfMemory))
   pub tells : outcome ≡ pass_outcome answer
 
--- the outcome tells some rows, as those of this node
-pub record TellsRows (number : ℕ) (outcome : Outcome) : Type 0 where
+-- the outcome tells what a node keeps of the key, as what is kept of this one
+pub record TellsRows (number : ℕ) (key : List ℕ) (outcome : Outcome) : Type 0 where
   pub rows : List (ℕ × Siblings)
+  pub shown : IsShow key rows
   pub kept : Vec Kept Global
   pub kept_are : kept.items ≡ map kept_row rows
   pub tells : outcome ≡ Shown number kept
 
--- the outcome tells rows of this node, or a refusal
-abbrev pub IsShowTold : ℕ → Outcome → Type 0
-IsShowTold number outcome =
-    TellsRows number outcome ⊎ ((f : Fault) × (outcome ≡ Refused word.Show f None))
+-- the outcome tells what the node keeps of the key, or a refusal
+abbrev pub IsShowTold : ℕ → List ℕ → Outcome → Type 0
+IsShowTold number key outcome =
+    TellsRows number key outcome ⊎ ((f : Fault) × (outcome ≡ Refused word.Show f None))
 
 module _ {J : Type 0} where
   -- the outcome tells the answer of a get: its context, whose rows it used, and the merged row, or
@@ -91,6 +101,14 @@ pub record IsPutTold (J : Type 0) (list : Preferred) (w : ℕ) (key : List ℕ) 
       PutEnds {J = J} list w key context value before after (nothing_told MAX_NODES) told answer
   pub tells : TellsPut word answer outcome
 
+-- each home that answered by itself with another row than the get's was asked to store this one, or
+-- memory was wanting for that
+pub record IsMended (J : Type 0) (list : Preferred) (done : GetDone J) : Type 0 where
+  pub answer : Result (Unit {0}) Fault
+  pub ok : IfOk answer (λ _. (told : Told J)
+      × IsRepaired (homes_in list) done.row done.seen.items told)
+  pub memory : IsOkUnless answer OutOfMemory
+
 -- the outcome tells what a get of the key answered, and so ended the session's part in it
 pub record IsGetTold (J : Type 0) (list : Preferred) (r : ℕ) (key : List ℕ) (outcome : Outcome)
     (before after : SessionPart) : Type 0 where
@@ -99,6 +117,7 @@ pub record IsGetTold (J : Type 0) (list : Preferred) (r : ℕ) (key : List ℕ) 
   pub got : IfOk answer (λ done. IsGot list key r (since_of before) told done)
   pub heard : IfOk answer (λ done.
       after ≡ with_get before (since_of before) (first_answers done.seen.items))
+  pub mended : IfOk answer (λ done. IsMended J list done)
   pub unheard : OnErr answer (after ≡ before)
   pub refused : IfErr answer (λ e. IsGetRefused list key r (since_of before) told e)
   pub tells : TellsGet answer outcome

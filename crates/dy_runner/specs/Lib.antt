@@ -3,6 +3,7 @@ pub mod AuditLines
 pub mod Modes
 pub mod Openings
 pub mod RingLines
+pub mod Runs
 pub mod Seats
 pub mod Texts
 pub mod Writes

@@ -1,5 +1,5 @@
 -- Which session of a script lies where among those that a cluster opened.
-use Rattle.std.specs.Prelude.{◌≡◌, ◌<◌, ◌+◌, ◌==◌, ◌++◌, ◌∷◌, ◌⊎◌, [], ℕ, List, Some, length}
+use Rattle.std.specs.Prelude.{◌≡◌, ◌==◌, ◌++◌, ◌∷◌, ◌⊎◌, [], ℕ, List, Some, length}
 use Rattle.std.specs.Prelude.{slice_get, slice_set}
 use Rattle.std.specs.List.{position_or_len}
 use Rattle.dy_shares.specs.Shares.{SessionPart}
@@ -7,6 +7,13 @@ use Rattle.dy_shares.specs.Shares.{SessionPart}
 -- where the session of this number is among those opened, or where it is to be opened
 abbrev pub seat_of : ℕ → List ℕ → ℕ
 seat_of number numbers = position_or_len (λ n. n == number) numbers
+
+-- the numbers of the sessions that are opened are those that were, or this one behind them, which
+-- was not among them
+abbrev pub IsOpened : ℕ → List ℕ → List ℕ → Type 0
+IsOpened number before after =
+    (after ≡ before)
+    ⊎ ((seat_of number before ≡ length before) × (after ≡ before ++ number ∷ []))
 
 -- the sessions are those that were there, or one that was told nothing was opened behind them
 abbrev pub IsSeated : List SessionPart → List SessionPart → Type 0

@@ -1,11 +1,15 @@
-ghost use Rattle.std.specs.Prelude.{◌≡◌, ◌⊎◌, length, IfOk, IsOkUnless};
+ghost use Rattle.std.specs.Prelude.{◌≡◌, ◌⊎◌, length, IfOk, IfErr, OnErr, IsOkUnless};
+ghost use Rattle.dy_dots.specs.declared.nodes.TheConstants.{MAX_NODES};
+ghost use Rattle.dy_shares.specs.Shares.{since_of, with_get};
+ghost use Rattle.dy_quorum.specs.Gatherings.{first_answers};
 ghost use Rattle.dy_reads.specs.Lists.{homes_in};
+ghost use Rattle.dy_transport.specs.Told.{Told, nothing_told};
+ghost use Rattle.dy_coord.specs.Gets.{IsGetRefused, IsGot};
 ghost use Rattle.dy_repair.specs.Repairs.{IsRepaired};
-ghost use Rattle.dy_transport.specs.Told.{Told};
 ghost use Rattle.dy_cluster.specs.Lists.{list_of};
 ghost use Rattle.dy_lines.specs.declared.outcomes.Word.TheVariants as word;
-ghost use Rattle.dy_runner.specs.Answers.{IsUnseated, TellsGet};
-ghost use Rattle.dy_runner.specs.Seats.{IsToldAt, seat_of};
+ghost use Rattle.dy_runner.specs.Answers.{IsMended, IsUnseated, TellsGet};
+ghost use Rattle.dy_runner.specs.Seats.{IsOpened, IsToldAt, seat_of};
 ghost use Rattle.dy_runner.specs.Writes.{IsRead};
 
 use crate::seats::Seats;
@@ -16,6 +20,7 @@ use dy_dots::Fault;
 use dy_lines::{Outcome, Word};
 use dy_shares::Naming;
 use dy_siblings::Key;
+use dy_transport::Direct;
 use std::alloc::Global;
 use std::sync::Wait;
 
@@ -31,6 +36,7 @@ pub(crate) fn run_get<J: Naming, R: Wait>(
 ) -> Outcome
     requires together { length seats.old.numbers.items ≡ length sessions.old.items }
     ensures together { length seats.new.numbers.items ≡ length sessions.new.items }
+    ensures opened { IsOpened number seats.old.numbers.items seats.new.numbers.items }
     ensures told { IsToldAt (seat_of number seats.new.numbers.items)
         sessions.old.items sessions.new.items (IsRead J J.ring J.n J.r key.now result)
         ⊎ IsUnseated word.Get result sessions.old.items sessions.new.items }
@@ -56,18 +62,36 @@ fn get_in<J: Naming, R: Wait>(
     ensures { IsRead J J.ring J.n J.r key.now result session.old session.new }
 {
     match cluster.direct() {
-        Ok(mut direct) => {
-            let answer = cluster.get(rt, &mut direct, session, key);
-            if let Ok(done) = &answer {
-                let _ = mend(rt, cluster, done);
-            }
-            read(answer)
-        }
+        Ok(mut direct) => read(get_mended(rt, cluster, &mut direct, session, key)),
         Err(fault) => refused(Word::Get, fault),
     }
 }
 
-// Repairs what the get found stale. What comes of it changes nothing in the get.
+// Gets in this session, and repairs what was found stale. What comes of it changes nothing in the
+// get.
+fn get_mended<J: Naming, R: Wait>(
+    rt: &R,
+    cluster: &Cluster<J>,
+    direct: &mut Direct<'_, J>,
+    session: &mut Session<J>,
+    key: &Key,
+) -> Result<GetDone<J>, GetFault>
+    requires fresh { direct.old ≡ nothing_told MAX_NODES }
+    ensures ok { IfOk result (λ done. IsGot (list_of J.ring J.n key.now) key.now J.r
+        (since_of session.old) direct.new done) }
+    ensures told { IfOk result (λ done. session.new ≡
+        with_get session.old (since_of session.old) (first_answers done.seen.items)) }
+    ensures mended { IfOk result (λ done. IsMended J (list_of J.ring J.n key.now) done) }
+    ensures err { OnErr result (session.new ≡ session.old) }
+    ensures refused { IfErr result (λ e. IsGetRefused (list_of J.ring J.n key.now) key.now J.r
+        (since_of session.old) direct.new e) }
+{
+    let done = cluster.get(rt, direct, session, key)?;
+    let _ = mend(rt, cluster, &done);
+    Ok(done)
+}
+
+// Repairs what the get found stale.
 fn mend<J: Naming, R: Wait>(rt: &R, cluster: &Cluster<J>, done: &GetDone<J>) -> Result<(), Fault>
     ensures ok { IfOk result (λ _. (told : Told J)
         × IsRepaired (homes_in (list_of J.ring J.n done.now.row.key)) done.now.row

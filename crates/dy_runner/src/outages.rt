@@ -1,8 +1,9 @@
 // What a command does at one node.
 ghost use Rattle.std.specs.Prelude.{◌≡◌, ◌<◌, ◌↔◌, None, IfOk, IsOkUnless, IfSome, IsSome};
-ghost use Rattle.std.specs.Prelude.{List, map, ℕ};
+ghost use Rattle.std.specs.Prelude.{List, map, ℕ, string_bytes};
 ghost use Rattle.dy_dots.specs.declared.nodes.TheConstants.{MAX_NODES};
 ghost use Rattle.dy_siblings.specs.Siblings.{Siblings};
+ghost use Rattle.dy_cluster.specs.Shows.{IsShow};
 ghost use Rattle.dy_runner.specs.Answers.{IsDeliveryTold, IsPassTold, IsShowTold};
 ghost use Rattle.dy_runner.specs.Answers.{delivery_outcome, kept_row, pass_outcome};
 ghost use Rattle.dy_runner.specs.Modes.{node_mode};
@@ -99,7 +100,7 @@ pub(crate) fn run_handoff<J: Naming, R: Wait>(
     cluster: &Cluster<J>,
     number: usize,
 ) -> Outcome
-    ensures { IsPassTold result }
+    ensures { IsPassTold J number result }
 {
     match node_of(number) {
         Some(node) => handed_over(cluster.handoff(rt, node)),
@@ -129,7 +130,7 @@ pub(crate) fn run_show<J: Naming, R: Wait>(
     number: usize,
     key: &str,
 ) -> Outcome
-    ensures { IsShowTold number result }
+    ensures { IsShowTold number key.now result }
 {
     let Some(node) = node_of(number) else {
         return refused(Word::Show, Fault::Down);
@@ -149,7 +150,7 @@ fn shown<J: Naming, R: Wait>(
     key: &str,
 ) -> Result<Vec<Kept>, Fault>
     ensures { IfOk result (λ kept. (rows : List (ℕ × Siblings))
-        × (kept.items ≡ map kept_row rows)) }
+        × IsShow key.now rows × (kept.items ≡ map kept_row rows)) }
 {
     let key = Key::new(alloc, key.as_bytes())?;
     let rows = cluster.show(rt, node, &key)?;

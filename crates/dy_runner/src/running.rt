@@ -1,4 +1,8 @@
-ghost use Rattle.std.specs.Prelude.{◌≡◌, [], length};
+ghost use Rattle.std.specs.Prelude.{◌≡◌, [], length, OnOk};
+ghost use Rattle.dy_script.specs.Orders.{command_parts};
+ghost use Rattle.dy_script.specs.Reading.{script_parts};
+ghost use Rattle.dy_cluster.specs.Settings.{setting};
+ghost use Rattle.dy_runner.specs.Runs.{Does, HasRun, seated};
 
 use crate::gets::run_get;
 use crate::outages::{run_deliver, run_handoff, run_set_mode, run_set_up, run_show};
@@ -23,6 +27,18 @@ pub(crate) struct Run<'a, O: Write> {
 }
 
 impl<O: Write> Work for Run<'_, O> {
+    ghost use Rattle.std.specs.Prelude.{None};
+    ghost use Rattle.dy_script.specs.Reading.{script_parts as parts};
+    ghost use Rattle.dy_runner.specs.Runs.{HasRun as IsDone};
+
+    // The output stays the same one; and where it took all, the commands are done, and their lines
+    // are written.
+    ghost told = { λ setting before after tellings.
+        (after.out.ghost_name ≡ before.out.ghost_name)
+        × (after.lost ≡ None →
+        IsDone setting (parts before.script.now) tellings
+        (O.contents before.out.now) (O.contents after.out.now)) };
+
     fn run<J: Naming, R: Wait>(
         &mut self,
         rt: &R,
@@ -47,14 +63,14 @@ fn run_all<J: Naming, O: Write, R: Wait>(
     out: &mut O,
 ) -> io::Result<()>
     requires none { sessions.old.items ≡ [] }
+    ensures { OnOk result (HasRun (setting J J.ring J.n J.r) (script_parts script.now)
+        sessions.new.items (O.contents out.old) (O.contents out.new)) }
 {
     let mut seats = Seats::new(alloc);
-    let mut number = 0u32;
-    for command in &script.run {
-        number = number.saturating_add(1);
+    for (index, command) in script.run.iter().enumerate() {
         let outcome = run_command(rt, alloc, cluster, &mut seats, sessions, script.w, command);
         let line = CommandLine {
-            number,
+            number: index + 1,
             outcome: &outcome,
         };
         writeln!(out, "{line}")?;
@@ -74,18 +90,13 @@ fn run_command<J: Naming, R: Wait>(
 ) -> Outcome
     requires together { length seats.old.numbers.items ≡ length sessions.old.items }
     ensures together { length seats.new.numbers.items ≡ length sessions.new.items }
+    ensures done { Does (setting J J.ring J.n J.r) w (command_parts command.now) result
+        (seated seats.old sessions.old.items) (seated seats.new sessions.new.items) }
 {
     match command {
-        Command::Put { write, value } => run_put(
-            rt,
-            alloc,
-            cluster,
-            seats,
-            sessions,
-            w,
-            write,
-            value.as_slice(),
-        ),
+        Command::Put { write, value } => {
+            run_put(rt, alloc, cluster, seats, sessions, w, write, value)
+        }
         Command::Delete { write } => run_delete(rt, alloc, cluster, seats, sessions, w, write),
         Command::Get { key, session } => run_get(
             rt,

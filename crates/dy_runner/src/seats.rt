@@ -1,5 +1,5 @@
-ghost use Rattle.std.specs.Prelude.{◌≡◌, ◌<◌, ◌≤◌, length, IfOk, OnErr};
-ghost use Rattle.dy_runner.specs.Seats.{IsSeated, seat_of};
+ghost use Rattle.std.specs.Prelude.{◌≡◌, ◌<◌, ◌≤◌, [], length, IfOk, OnErr};
+ghost use Rattle.dy_runner.specs.Seats.{IsOpened, IsSeated, seat_of};
 
 use dy_cluster::{Cluster, Session};
 use dy_dots::Fault;
@@ -17,7 +17,7 @@ pub(crate) struct Seats {
 impl Seats {
     /// No session of the script is opened yet. Takes no memory.
     pub(crate) fn new(alloc: Global) -> Seats
-        ensures none { length result.numbers.items ≡ 0 }
+        ensures none { result.numbers.items ≡ [] }
     {
         Seats {
             numbers: Vec::new(alloc),
@@ -37,6 +37,7 @@ impl Seats {
         ensures together { length self.new.numbers.items ≡ length sessions.new.items }
         ensures place { IfOk result (λ place. place ≡ seat_of number self.new.numbers.items) }
         ensures there { IfOk result (λ place. place < length sessions.new.items) }
+        ensures opened { IsOpened number self.old.numbers.items self.new.numbers.items }
         ensures seated { IsSeated sessions.old.items sessions.new.items }
         ensures err { OnErr result (sessions.new.items ≡ sessions.old.items) }
     {

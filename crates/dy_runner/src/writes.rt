@@ -3,7 +3,7 @@ ghost use Rattle.dy_dots.specs.declared.faults.Fault.{Fault as FaultParts};
 ghost use Rattle.dy_lines.specs.declared.outcomes.Word.TheVariants as word;
 ghost use Rattle.dy_runner.specs.Answers.{TellsPut};
 ghost use Rattle.dy_runner.specs.Openings.{given_or};
-ghost use Rattle.dy_runner.specs.Seats.{seat_of};
+ghost use Rattle.dy_runner.specs.Seats.{IsOpened, seat_of};
 ghost use Rattle.dy_runner.specs.Texts.{IsDeleteJudged, IsPutJudged};
 ghost use Rattle.dy_runner.specs.Writes.{IsWritten, RunsJudged, WritesAt};
 ghost use Rattle.dy_runner.specs.declared.givens.Given.{Given as GivenParts};
@@ -32,6 +32,7 @@ pub(crate) fn run_put<J: Naming, R: Wait>(
 ) -> Outcome
     requires together { length seats.old.numbers.items ≡ length sessions.old.items }
     ensures together { length seats.new.numbers.items ≡ length sessions.new.items }
+    ensures opened { IsOpened write.now.session seats.old.numbers.items seats.new.numbers.items }
     ensures told { (judged : Result GivenParts FaultParts)
         × IsPutJudged (string_bytes write.now.key)
         (option_map string_bytes write.now.context) value.now judged
@@ -70,6 +71,7 @@ pub(crate) fn run_delete<J: Naming, R: Wait>(
 ) -> Outcome
     requires together { length seats.old.numbers.items ≡ length sessions.old.items }
     ensures together { length seats.new.numbers.items ≡ length sessions.new.items }
+    ensures opened { IsOpened write.now.session seats.old.numbers.items seats.new.numbers.items }
     ensures told { (judged : Result GivenParts FaultParts)
         × IsDeleteJudged (string_bytes write.now.key)
         (option_map string_bytes write.now.context) judged
@@ -109,6 +111,7 @@ fn run_write<J: Naming, R: Wait>(
 ) -> Outcome
     requires together { length seats.old.numbers.items ≡ length sessions.old.items }
     ensures together { length seats.new.numbers.items ≡ length sessions.new.items }
+    ensures opened { IsOpened number seats.old.numbers.items seats.new.numbers.items }
     ensures told { WritesAt J J.ring J.n (seat_of number seats.new.numbers.items)
         w given word result sessions.old.items sessions.new.items }
 {

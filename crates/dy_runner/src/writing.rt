@@ -1,21 +1,23 @@
-ghost use Rattle.std.specs.Prelude.{List, OnOk};
+ghost use Rattle.std.specs.Prelude.{List, ℕ, IfOk, OnOk};
 ghost use Rattle.std.specs.Io.KnownBytes.{Appends};
 ghost use Rattle.std.specs.List.{flat_map};
+ghost use Rattle.std.specs.declared.marker.Brand.{Brand};
 ghost use Rattle.dy_ring.specs.Rings.{Tokens};
 ghost use Rattle.dy_script.specs.Reading.{script_parts};
 ghost use Rattle.dy_book.specs.Limits.{AreLimits};
 ghost use Rattle.dy_shares.specs.Shares.{SessionPart};
 ghost use Rattle.dy_cluster.specs.Ends.{IsClosed};
-ghost use Rattle.dy_cluster.specs.declared.restings.Closed.{Closed};
+ghost use Rattle.dy_cluster.specs.Settings.{setting};
 ghost use Rattle.dy_runner.specs.AuditLines.{acked_line, audit_lines, end_line, held_line};
 ghost use Rattle.dy_runner.specs.AuditLines.{settled_line, settled_lines};
 ghost use Rattle.dy_runner.specs.Openings.{options_for};
 ghost use Rattle.dy_runner.specs.RingLines.{IsLaidOut, key_lines, ring_lines, token_lines};
+ghost use Rattle.dy_runner.specs.Runs.{HasRun, IsRun};
 
 use crate::options::{options_of, ring_of};
 use crate::running::Run;
-use dy_book::{AckedAt, Audit};
-use dy_cluster::with_cluster;
+use dy_book::{AckedAt, Audit, Options};
+use dy_cluster::{Closed, with_cluster};
 use dy_core::Holding;
 use dy_lines::{AckedLine, EndLine, HeldLine, KeyLine, SettledLine, Stopped, TokenLine};
 use dy_preference::preference;
@@ -34,30 +36,40 @@ pub fn write_run<O: Write, R: Wait>(
     out: &mut O,
 ) -> Result<(), Stopped>
     ensures limits { OnOk result (AreLimits (options_for (script_parts script.now))) }
-    ensures closed { OnOk result ((ring : Tokens)
-        × IsLaidOut (script_parts script.now).layout ring
-        × ((tellings : List SessionPart) × (closed : Closed)
-        × IsClosed ring (script_parts script.now).n (script_parts script.now).r tellings closed)) }
+    ensures run { OnOk result ((wrote : List ℕ) × IsRun (script_parts script.now) wrote
+        × Appends (O.contents out.old) (O.contents out.new) wrote) }
 {
     let ring = ring_of(alloc, &script.layout)?;
     let options = options_of(script)?;
+    let closed = run_script(rt, alloc, ring, options, script, out)?;
+    write_audit(alloc, script.w, script.settled, &closed.audit, out)?;
+    Ok(())
+}
+
+// Runs the script on a cluster of this ring, which it closes, and writes a line for each command.
+fn run_script<O: Write, R: Wait>(
+    rt: &R,
+    alloc: Global,
+    ring: Ring,
+    options: Options,
+    script: &Script,
+    out: &mut O,
+) -> Result<Closed, Stopped>
+    ensures { IfOk result (λ closed. (tellings : List SessionPart)
+        × IsClosed ring options.n options.r tellings closed
+        × HasRun (setting Brand ring options.n options.r) (script_parts script.now) tellings
+        (O.contents out.old) (O.contents out.new)) }
+{
     let mut run = Run {
         script,
         out,
         lost: None,
     };
     let ended = with_cluster(rt, alloc, ring, options, &mut run);
-    let Run {
-        script: _,
-        out,
-        lost,
-    } = run;
-    if let Some(error) = lost {
+    if let Some(error) = run.lost {
         return Err(Stopped::Output(error));
     }
-    let closed = ended?;
-    write_audit(alloc, script.w, script.settled, &closed.audit, out)?;
-    Ok(())
+    Ok(ended?)
 }
 
 /// Writes what the nodes hold, what was acknowledged, which keys are settled where that is wanted,

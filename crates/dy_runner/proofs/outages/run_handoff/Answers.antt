@@ -1,12 +1,16 @@
-use Rattle.std.specs.Prelude.{Err, refl}
-use Rattle.std.proofs.Common.{inl}
+use Rattle.std.specs.Prelude.{Err, IfOk, refl, ℕ}
+use Rattle.std.proofs.Common.{inl, subst}
 use Rattle.dy_dots.specs.declared.faults.Fault.TheVariants.{Down}
+use Rattle.dy_handoff.specs.Passes.{IsPass}
+use Rattle.dy_transport.specs.Told.{Told}
 use Rattle.dy_runner.proofs.outages.run_handoff.Goals as goal
 
--- what the cluster answered
+-- what the cluster answered, at the node of that number
 pub returns-in-Some : goal.returns-in-Some
 returns-in-Some g c = record {
   answer = c.handoff.result;
+  ok = subst (λ (n : ℕ). IfOk c.handoff.result (λ pass. (told : Told g.row.J.Denot)
+      × IsPass {J = g.row.J.Denot} n told pass)) c.in-Some.ensures.value c.handoff.ensures.ok;
   fewer = c.handoff.ensures.fewer;
   only = c.handoff.ensures.only;
   tells = c.handed_over.ensures;
@@ -16,6 +20,7 @@ returns-in-Some g c = record {
 pub returns-in-None : goal.returns-in-None
 returns-in-None g c = record {
   answer = Err Down;
+  ok = tt;
   fewer = tt;
   only = inl refl;
   tells = c.refused.ensures;

@@ -8,7 +8,8 @@ returns-in-Ok g c =
     let told = c.in-Ok.ensures in
     inl (record {
       rows = told.0;
+      shown = told.1;
       kept = c.in-Ok.kept;
-      kept_are = told.1;
+      kept_are = told.2;
       tells = ap (λ (n : ℕ). Shown n c.in-Ok.kept) c.in-Some.ensures.value;
     })

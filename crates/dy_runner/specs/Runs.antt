@@ -1,0 +1,131 @@
+-- What a script does, from its commands to what is printed of them.
+use Rattle.std.specs.Prelude.{◌≡◌, ◌⊎◌, ◌<◌, ℕ, ◌+◌, List, [], ◌∷◌, ◌++◌, Option, Result}
+use Rattle.std.specs.Io.KnownBytes.{Appends}
+use Rattle.std.specs.declared.marker.Brand.{Brand}
+use Rattle.dy_dots.specs.declared.faults.Fault.{Fault}
+use Rattle.dy_dots.specs.declared.nodes.TheConstants.{MAX_NODES}
+use Rattle.dy_ring.specs.Rings.{Tokens}
+use Rattle.dy_script.specs.Orders.{CommandParts, WriteParts, written, puts, deletes, gets}
+use Rattle.dy_script.specs.Orders.{downs, ups, sets_mode, delivers, hands_off, shows}
+use Rattle.dy_script.specs.Reading.{ScriptParts}
+use Rattle.dy_shares.specs.Shares.{SessionPart}
+use Rattle.dy_cluster.specs.Ends.{IsClosed}
+use Rattle.dy_cluster.specs.Settings.{Setting, setting}
+use Rattle.dy_cluster.specs.declared.restings.Closed.{Closed}
+use Rattle.dy_lines.specs.Outcomes.{command_text}
+use Rattle.dy_lines.specs.Texts.{line}
+use Rattle.dy_lines.specs.declared.outcomes.Outcome.{Outcome}
+use Rattle.dy_lines.specs.declared.outcomes.Outcome.TheVariants.{Done}
+use Rattle.dy_lines.specs.declared.outcomes.Word.{Word}
+use Rattle.dy_lines.specs.declared.outcomes.Word.TheVariants as word
+use Rattle.dy_runner.specs.Answers.{IsDeliveryTold, IsPassTold, IsShowTold, IsUnseated}
+use Rattle.dy_runner.specs.AuditLines.{audit_lines}
+use Rattle.dy_runner.specs.Openings.{given_or}
+use Rattle.dy_runner.specs.RingLines.{IsLaidOut}
+use Rattle.dy_runner.specs.Seats.{IsToldAt, IsOpened, seat_of}
+use Rattle.dy_runner.specs.Texts.{IsDeleteJudged, IsPutJudged}
+use Rattle.dy_runner.specs.Writes.{IsRead, RunsJudged}
+use Rattle.dy_runner.specs.declared.givens.Given.{Given}
+use Rattle.dy_runner.specs.declared.seats.Seats.{Seats}
+
+-- the sessions of a script, in the order of their opening: their numbers, and what each was told
+pub record Seated : Type 0 where
+  pub numbers : List ℕ
+  pub tellings : List SessionPart
+
+-- no session is opened yet
+abbrev pub none_seated : Seated
+none_seated = record { numbers = []; tellings = [] }
+
+-- what was judged so was written in the session of this number, in a cluster of this setting; the
+-- session was opened if it was not there
+pub record IsWrite (s : Setting) (number w : ℕ) (word : Word) (judged : Result Given Fault)
+    (outcome : Outcome) (before after : Seated) : Type 0 where
+  pub opened : IsOpened number before.numbers after.numbers
+  pub told : RunsJudged s.book s.ring s.n (seat_of number after.numbers) w word outcome
+      before.tellings after.tellings judged
+
+-- the key was read in the session of this number
+pub record IsGet (s : Setting) (number : ℕ) (key : List ℕ) (outcome : Outcome)
+    (before after : Seated) : Type 0 where
+  pub opened : IsOpened number before.numbers after.numbers
+  pub told : IsToldAt (seat_of number after.numbers) before.tellings after.tellings
+      (IsRead s.book s.ring s.n s.r key outcome)
+      ⊎ IsUnseated word.Get outcome before.tellings after.tellings
+
+-- the sessions on these seats
+abbrev pub seated : Seats → List SessionPart → Seated
+seated seats tellings = record { numbers = seats.numbers.items; tellings = tellings }
+
+-- no session was opened, and none was told anything
+abbrev pub IsApart : Seated → Seated → Type 0
+IsApart before after = (after.numbers ≡ before.numbers) × (after.tellings ≡ before.tellings)
+
+-- what a put did, where it names its own number of homes or goes by this one
+abbrev pub DoesPut : Setting → ℕ → WriteParts → List ℕ → Outcome → Seated → Seated → Type 0
+DoesPut s w (written key context session own) value outcome before after =
+    (judged : Result Given Fault) × IsPutJudged key context value judged
+    × IsWrite s session (given_or w own) word.Put judged outcome before after
+
+-- what a delete did
+abbrev pub DoesDelete : Setting → ℕ → WriteParts → Outcome → Seated → Seated → Type 0
+DoesDelete s w (written key context session own) outcome before after =
+    (judged : Result Given Fault) × IsDeleteJudged key context judged
+    × IsWrite s session (given_or w own) word.Delete judged outcome before after
+
+-- what a command did to a node
+abbrev pub DoesAt : Word → ℕ → Outcome → Seated → Seated → Type 0
+DoesAt word node outcome before after =
+    (node < MAX_NODES → outcome ≡ Done word) × IsApart before after
+
+-- what a command did, and what came of it
+abbrev pub Does : Setting → ℕ → CommandParts → Outcome → Seated → Seated → Type 0
+Does s w (puts write value) outcome before after = DoesPut s w write value outcome before after
+Does s w (deletes write) outcome before after = DoesDelete s w write outcome before after
+Does s w (gets key session) outcome before after = IsGet s session key outcome before after
+Does s w (downs node) outcome before after = DoesAt word.Down node outcome before after
+Does s w (ups node) outcome before after = DoesAt word.Up node outcome before after
+Does s w (sets_mode node mode) outcome before after =
+    DoesAt word.SetMode node outcome before after
+Does s w (delivers node) outcome before after = IsDeliveryTold outcome × IsApart before after
+Does s w (hands_off node) outcome before after =
+    IsPassTold s.book node outcome × IsApart before after
+Does s w (shows node key) outcome before after =
+    IsShowTold node key outcome × IsApart before after
+
+-- what the commands did, one after another, and what came of each
+abbrev pub DoAll :
+    Setting → ℕ → List CommandParts → List Outcome → Seated → Seated → Type 0
+DoAll s w [] [] before after = after ≡ before
+DoAll s w [] (o ∷ os) before after = ⊥
+DoAll s w (c ∷ cs) [] before after = ⊥
+DoAll s w (c ∷ cs) (o ∷ os) before after =
+    (between : Seated) × Does s w c o before between × DoAll s w cs os between after
+
+-- a line for each outcome, numbered from here
+abbrev pub lines_from : ℕ → List Outcome → List ℕ
+lines_from number [] = []
+lines_from number (o ∷ os) = line (command_text number o) ++ lines_from (number + 1) os
+
+-- the commands of the script were done one after another in sessions that were told so, and a line
+-- for what came of each was written behind what was there
+pub record HasRun (s : Setting) (script : ScriptParts) (tellings : List SessionPart)
+    (before after : Option (List ℕ)) : Type 0 where
+  pub outcomes : List Outcome
+  pub numbers : List ℕ
+  pub done : DoAll s script.w script.run outcomes none_seated
+      (record { numbers = numbers; tellings = tellings })
+  pub wrote : Appends before after (lines_from 1 outcomes)
+
+-- what was written is a line for what came of each command of the script, in their order, on a
+-- cluster that the script asks for, and behind them the audit of this cluster as it was closed;
+-- its book has the name that is picked where a cluster is opened for some work
+pub record IsRun (s : ScriptParts) (wrote : List ℕ) : Type 0 where
+  pub ring : Tokens
+  pub laid_out : IsLaidOut s.layout ring
+  pub outcomes : List Outcome
+  pub sessions : Seated
+  pub done : DoAll (setting Brand ring s.n s.r) s.w s.run outcomes none_seated sessions
+  pub closed : Closed
+  pub ended : IsClosed ring s.n s.r sessions.tellings closed
+  pub wrote_is : wrote ≡ lines_from 1 outcomes ++ audit_lines s.w s.settled closed.audit
