@@ -5,7 +5,7 @@ pub mod Receipts
 pub mod OverLogs
 pub mod Counters
 pub mod Pigeons
-pub mod SettledGets
+pub mod GetsOfHomes
 pub mod RingValues
 pub mod LogValues
 pub mod Merging

@@ -16,6 +16,11 @@ covers_at w key d holder home = covers (row_at w holder home key) d
 abbrev pub CoversAt : World → List ℕ → Dot → ℕ → ℕ → Type 0
 CoversAt w key d holder home = IsTrue (covers_at w key d holder home)
 
+-- each of these homes, which are distinct, covers the dot for itself
+abbrev pub CoverThemselves : World → List ℕ → Dot → List ℕ → Type 0
+CoverThemselves w key d homes =
+    IsDistinct nat_eq homes × All (λ h. CoversAt w key d h h) homes
+
 -- places are a cover for these homes, where `Covers` says which holder covers for which home: so
 -- many, each of one of the homes, with distinct homes and distinct holders, and each covers
 -- (Dynamo, sections 4.5 and 4.6, with each node and each home counted once)

@@ -76,6 +76,11 @@ pub record MatchesLog (steps : List Step) (key : List ℕ) (r : ℕ) (since : �
 abbrev pub AreOfHomes : List ℕ → List Answer → Type 0
 AreOfHomes homes answers = All (λ a. IsTrue (is_home homes a.home) × (a.holder ≡ a.home)) answers
 
+-- each home that answered, within so many steps, is among those that answer later
+abbrev pub AnswerAgain : List Answer → ℕ → List Answer → Type 0
+AnswerAgain first since later =
+    All (λ a. (a.at ≤ since) × Contains (map (λ b. b.home) later) a.home) first
+
 -- what a world of `src/` is seen as: its ring, how many homes a key has, and its steps
 pub record Log : Type 0 where
   pub ring : Tokens

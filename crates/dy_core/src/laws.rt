@@ -7,15 +7,17 @@ ghost use Rattle.dy_dots.specs.Dots.{DotSet, same_dot};
 ghost use Rattle.dy_dots.specs.declared.dots.Dot.{Dot};
 ghost use Rattle.dy_siblings.specs.Siblings.{Siblings, IsSameRow, same_key, covers, newest, merge};
 ghost use Rattle.dy_siblings.specs.Siblings.{without};
+ghost use Rattle.dy_siblings.specs.Versions.{precedes};
 ghost use Rattle.dy_siblings.specs.declared.versions.Version.{Version};
 ghost use Rattle.dy_ring.specs.Rings.{Tokens};
 ghost use Rattle.dy_preference.specs.Preferences.{homes_of, may_hold};
 ghost use Rattle.dy_core.specs.Worlds.{Layout, layout_of, IsSettled, AreMadeOf, is_issued, row_at};
-ghost use Rattle.dy_core.specs.Covers.{CoversAt, HasCover, AcksAreCovered, ReceiptHolds};
+ghost use Rattle.dy_core.specs.Covers.{CoversAt, CoverThemselves, HasCover, AcksAreCovered};
+ghost use Rattle.dy_core.specs.Covers.{ReceiptHolds};
 ghost use Rattle.dy_core.specs.Steps.{IsAllowed, IsKnown, past_of, same_place, world_after_step};
 ghost use Rattle.dy_core.specs.Steps.{IsReleaseAt};
 ghost use Rattle.dy_core.specs.Logs.{Known, world_after, IsLegal, Answer, MatchesLog, AreOfHomes};
-ghost use Rattle.dy_core.specs.Logs.{rows_of};
+ghost use Rattle.dy_core.specs.Logs.{AnswerAgain, IsAnswer, rows_of};
 ghost use Rattle.dy_core.specs.declared.places.Place.{Place};
 ghost use Rattle.dy_core.specs.declared.steps.Step.{Step};
 ghost use Rattle.dy_core.specs.declared.steps.Step.TheVariants.{Hold, Issue, Release};
@@ -87,6 +89,62 @@ pub fn receipts_make_a_cover()
 pub fn acks_stay_covered()
     ensures { (layout : Layout) (steps : List Step) → IsLegal layout steps →
         AcksAreCovered layout (world_after steps) }
+{}
+
+/// What homes of a key cover for themselves, each later get of r homes themselves shows: it answers
+/// that version or one that follows it, where r and these homes are together more than the homes of
+/// the key.
+pub fn homes_show_what_they_took()
+    ensures { (ring : Tokens) (n : ℕ) (steps : List Step) → IsLegal (layout_of ring n) steps →
+        (key : List ℕ) (since : ℕ) (d : Dot) (took : List ℕ) →
+        CoverThemselves (world_after (take since steps)) key d took →
+        (r : ℕ) (answers : List Answer) → MatchesLog steps key r since answers →
+        AreOfHomes (homes_of ring n key) answers → n < r + length took →
+        IsTrue (covers (newest (rows_of answers)) d) }
+{}
+
+/// What a home answers for itself only grows: a later answer of that home covers what an earlier
+/// one did, and so does a later get that each home of an earlier one answers.
+pub fn homes_answers_grow()
+    ensures answer { (layout : Layout) (steps : List Step) → IsLegal layout steps →
+        (a b : Answer) → IsAnswer steps a → IsAnswer steps b → a.holder ≡ a.home →
+        b.holder ≡ b.home → a.home ≡ b.home → a.key ≡ b.key → a.at < b.at →
+        (d : Dot) → IsTrue (covers a.row d) → IsTrue (covers b.row d) }
+    ensures get { (layout : Layout) (steps : List Step) → IsLegal layout steps → (key : List ℕ) →
+        (q before : ℕ) (first : List Answer) → MatchesLog steps key q before first →
+        AreOfHomes (layout.homes key) first →
+        (r since : ℕ) (later : List Answer) → MatchesLog steps key r since later →
+        AreOfHomes (layout.homes key) later → AnswerAgain first since later →
+        (d : Dot) → IsTrue (covers (newest (rows_of first)) d) →
+        IsTrue (covers (newest (rows_of later)) d) }
+{}
+
+/// Where a get covers a version, as a deletion, no version that precedes it is among those that it
+/// gives; and so it is of each get that is sure to cover it: where enough homes took it, or the key
+/// is settled and it was acknowledged.
+pub fn the_deleted_does_not_come_back()
+    ensures covered { (layout : Layout) (steps : List Step) → IsLegal layout steps →
+        (v : Version) → Contains (world_after steps).versions v →
+        (r since : ℕ) (answers : List Answer) → MatchesLog steps v.key r since answers →
+        IsTrue (covers (newest (rows_of answers)) v.dot) →
+        All (λ u. precedes u v ≡ false) (newest (rows_of answers)) }
+    ensures taken { (ring : Tokens) (n : ℕ) (steps : List Step) →
+        IsLegal (layout_of ring n) steps →
+        (v : Version) → Contains (world_after steps).versions v →
+        (since : ℕ) (took : List ℕ) →
+        CoverThemselves (world_after (take since steps)) v.key v.dot took →
+        (r : ℕ) (answers : List Answer) → MatchesLog steps v.key r since answers →
+        AreOfHomes (homes_of ring n v.key) answers → n < r + length took →
+        All (λ u. precedes u v ≡ false) (newest (rows_of answers)) }
+    ensures settled { (ring : Tokens) (n : ℕ) (steps : List Step) →
+        IsLegal (layout_of ring n) steps →
+        (v : Version) → Contains (world_after steps).versions v →
+        (since : ℕ) → IsSettled (world_after (take since steps)) v.key → (w : ℕ) →
+        Contains (world_after (take since steps)).acks
+        (record { key = v.key; dot = v.dot; w = w }) →
+        (r : ℕ) (answers : List Answer) → MatchesLog steps v.key r since answers →
+        AreOfHomes (homes_of ring n v.key) answers → n < r + w →
+        All (λ u. precedes u v ≡ false) (newest (rows_of answers)) }
 {}
 
 /// Once a key is settled and a put of it was told of w homes, each later get of r homes themselves,

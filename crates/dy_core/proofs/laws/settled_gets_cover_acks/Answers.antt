@@ -1,4 +1,4 @@
-use Rattle.dy_core.proofs.SettledGets.{settled_get}
+use Rattle.dy_core.proofs.GetsOfHomes.{settled_get}
 use Rattle.dy_core.proofs.laws.settled_gets_cover_acks.Goals as goal
 
 pub returns : goal.returns
