@@ -12,3 +12,4 @@ pub mod Sessions
 pub mod Scenes
 pub mod Whole
 pub mod Mergeable
+pub mod Readings

@@ -1,7 +1,7 @@
 -- Shares: which part of a log is a node's and which a session's, and what each part shows.
 use Rattle.std.specs.Prelude.{◌≡◌, ℕ, zero, suc, ◌+◌, ◌-◌, ◌<◌, ◌≤◌, ◌⊎◌, ◌==◌, max, Bool, false}
 use Rattle.std.specs.Prelude.{Option, None, Some, List, [], ◌∷◌, ◌++◌, map, filter, take, drop}
-use Rattle.std.specs.Prelude.{length, nat_eq, if◌then◌else◌}
+use Rattle.std.specs.Prelude.{length, nat_eq, slice_get, if◌then◌else◌}
 use Rattle.std.specs.List.{All, Any, IsDistinct}
 use Rattle.logbook.specs.Pages.{Book}
 use Rattle.atomic_table.specs.Seated.{TableId}
@@ -12,7 +12,7 @@ use Rattle.dy_ring.specs.Rings.{Tokens}
 use Rattle.dy_core.specs.Worlds.{World, empty_world, layout_of, row_at}
 use Rattle.dy_core.specs.Steps.{version_made, after_issue, after_hold, after_release}
 use Rattle.dy_core.specs.Covers.{ReceiptHolds}
-use Rattle.dy_core.specs.Logs.{world_after, IsLegalFrom, Answer, MatchesLog}
+use Rattle.dy_core.specs.Logs.{world_after, IsLegalFrom, Answer, AreOfHomes, MatchesLog}
 use Rattle.dy_core.specs.declared.steps.Step.{Step}
 use Rattle.dy_core.specs.declared.acks.Acked.{Acked}
 use Rattle.dy_core.specs.declared.steps.Step.TheVariants.{Issue, Hold, Release, Fetch, Ack}
@@ -274,6 +274,21 @@ AreSpent steps [] (receipts ∷ spent) = ⊥
 AreSpent steps (t ∷ acks) [] = ⊥
 AreSpent steps (t ∷ acks) (receipts ∷ spent) =
     AreSpentFor steps t receipts × AreSpent steps acks spent
+
+-- the session's ack of this number, from 0, is this, and these receipts were spent for it
+pub record IsAckSpent (s : SessionPart) (i : ℕ) (t : AckTold) (receipts : List ReceiptParts)
+    : Type 0 where
+  pub ack_is : slice_get s.acks i ≡ Some t
+  pub spent_is : slice_get s.spent i ≡ Some receipts
+
+-- the homes whose receipts are of themselves
+abbrev pub own_homes : List ReceiptParts → List ℕ
+own_homes receipts = map (λ r. r.home) (filter (λ r. nat_eq r.holder r.home) receipts)
+
+-- the get is of the key, and each answer is of one of its homes, which holds for itself
+abbrev pub IsOfHomes : Tokens → ℕ → List ℕ → GetTold → Type 0
+IsOfHomes ring n key g =
+    All (λ a. a.key ≡ key) g.answers × AreOfHomes ((layout_of ring n).homes key) g.answers
 
 -- the get matches the log: r answers of one key and distinct homes, each a fetch of the log, after
 -- the session's since (Dynamo, section 4.5)

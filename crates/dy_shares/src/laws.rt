@@ -1,11 +1,20 @@
-//! What the shares of a ledger that ended say, all together. Each is a function that does nothing.
-ghost use Rattle.std.specs.Prelude.{◌≡◌, ℕ, ◌↔◌, IsTrue, List};
-ghost use Rattle.std.specs.List.{Contains};
+//! What the shares of a ledger that ended say, all together, and what sessions are sure to read.
+//! Each is a function that does nothing.
+ghost use Rattle.std.specs.Prelude.{◌≡◌, ℕ, ◌+◌, ◌<◌, ◌≤◌, ◌↔◌, IsTrue, List, Some, length, map};
+ghost use Rattle.std.specs.Prelude.{false, slice_get};
+ghost use Rattle.std.specs.List.{All, Contains};
 ghost use Rattle.dy_dots.specs.declared.dots.Dot.{Dot};
-ghost use Rattle.dy_core.specs.Logs.{world_after};
+ghost use Rattle.dy_siblings.specs.Siblings.{covers, newest};
+ghost use Rattle.dy_siblings.specs.Versions.{precedes};
+ghost use Rattle.dy_siblings.specs.declared.versions.Version.{Version};
+ghost use Rattle.dy_ring.specs.Rings.{Tokens};
+ghost use Rattle.dy_core.specs.Worlds.{layout_of};
+ghost use Rattle.dy_core.specs.Logs.{AnswerAgain, IsLegal, rows_of, world_after};
 ghost use Rattle.dy_core.specs.declared.acks.Acked.{Acked};
-ghost use Rattle.dy_shares.specs.Shares.{Account, AckTold, AreAll, IsAckOf, NodePart, SessionPart};
-ghost use Rattle.dy_shares.specs.Shares.{shows_held, steps_of};
+ghost use Rattle.dy_shares.specs.Shares.{Account, AckTold, AreAll, GetTold, IsAckOf, IsAckSpent};
+ghost use Rattle.dy_shares.specs.Shares.{IsOfHomes, NodePart, ReceiptParts, SessionPart};
+ghost use Rattle.dy_shares.specs.Shares.{SessionBelongsTo, own_homes, shows_held, steps_of};
+ghost use Rattle.dy_shares.specs.declared.entries.Entry.{Entry};
 
 /// Where all shares are there, what is held is what they show, and what is acknowledged is what
 /// they were told.
@@ -20,4 +29,72 @@ pub fn shares_say_all()
         Contains (world_after (steps_of a.log)).acks x ↔
         ((s : SessionPart) × Contains tellings s ×
         ((t : AckTold) × Contains s.acks t × IsAckOf t x)) }
+{}
+
+/// A session reads its own writes: of a put that was acknowledged to it, each get that it was told
+/// later, of r homes themselves, answers the version or one that follows it, where r and the homes
+/// that took the put themselves are more than n; and so does a get of another session whose since
+/// is no less than the ack's step.
+pub fn sessions_read_their_writes()
+    ensures own { (ring : Tokens) (n r : ℕ) (log : List Entry) →
+        IsLegal (layout_of ring n) (steps_of log) →
+        (s : SessionPart) → SessionBelongsTo log r s →
+        (i : ℕ) (t : AckTold) (spent : List ReceiptParts) → IsAckSpent s i t spent →
+        (g : GetTold) → Contains s.gets g → i < g.acks →
+        IsOfHomes ring n t.key g → n < r + length (own_homes spent) →
+        IsTrue (covers (newest (rows_of g.answers)) t.dot) }
+    ensures others { (ring : Tokens) (n r : ℕ) (log : List Entry) →
+        IsLegal (layout_of ring n) (steps_of log) →
+        (writer : SessionPart) → SessionBelongsTo log r writer →
+        (i : ℕ) (t : AckTold) (spent : List ReceiptParts) → IsAckSpent writer i t spent →
+        (reader : SessionPart) → SessionBelongsTo log r reader →
+        (g : GetTold) → Contains reader.gets g → t.at ≤ g.since →
+        IsOfHomes ring n t.key g → n < r + length (own_homes spent) →
+        IsTrue (covers (newest (rows_of g.answers)) t.dot) }
+{}
+
+/// Of two gets of a key, of homes themselves, the later covers what the earlier did, where each
+/// home that answered the earlier answered the later too: of one session's gets the later is that
+/// which was told later, of two sessions' that whose since is no less than the other's answers.
+pub fn reads_never_go_back()
+    ensures own { (ring : Tokens) (n r : ℕ) (log : List Entry) →
+        IsLegal (layout_of ring n) (steps_of log) →
+        (s : SessionPart) → SessionBelongsTo log r s →
+        (i j : ℕ) (f g : GetTold) → slice_get s.gets i ≡ Some f → slice_get s.gets j ≡ Some g →
+        i < j → (key : List ℕ) → IsOfHomes ring n key f → IsOfHomes ring n key g →
+        All (λ a. Contains (map (λ b. b.home) g.answers) a.home) f.answers →
+        (d : Dot) → IsTrue (covers (newest (rows_of f.answers)) d) →
+        IsTrue (covers (newest (rows_of g.answers)) d) }
+    ensures others { (ring : Tokens) (n r : ℕ) (log : List Entry) →
+        IsLegal (layout_of ring n) (steps_of log) →
+        (first : SessionPart) → SessionBelongsTo log r first →
+        (f : GetTold) → Contains first.gets f →
+        (later : SessionPart) → SessionBelongsTo log r later →
+        (g : GetTold) → Contains later.gets g →
+        (key : List ℕ) → IsOfHomes ring n key f → IsOfHomes ring n key g →
+        AnswerAgain f.answers g.since g.answers →
+        (d : Dot) → IsTrue (covers (newest (rows_of f.answers)) d) →
+        IsTrue (covers (newest (rows_of g.answers)) d) }
+{}
+
+/// A get that covers a version, as a deletion, gives none that precedes it; and so it is where the
+/// version was acknowledged, to this session or to another, and the get is sure to read it.
+pub fn the_deleted_is_not_read_again()
+    ensures covered { (ring : Tokens) (n r : ℕ) (log : List Entry) →
+        IsLegal (layout_of ring n) (steps_of log) →
+        (v : Version) → Contains (world_after (steps_of log)).versions v →
+        (s : SessionPart) → SessionBelongsTo log r s → (g : GetTold) → Contains s.gets g →
+        All (λ a. a.key ≡ v.key) g.answers →
+        IsTrue (covers (newest (rows_of g.answers)) v.dot) →
+        All (λ u. precedes u v ≡ false) (newest (rows_of g.answers)) }
+    ensures written { (ring : Tokens) (n r : ℕ) (log : List Entry) →
+        IsLegal (layout_of ring n) (steps_of log) →
+        (v : Version) → Contains (world_after (steps_of log)).versions v →
+        (writer : SessionPart) → SessionBelongsTo log r writer →
+        (i : ℕ) (t : AckTold) (spent : List ReceiptParts) → IsAckSpent writer i t spent →
+        v.key ≡ t.key → v.dot ≡ t.dot →
+        (reader : SessionPart) → SessionBelongsTo log r reader →
+        (g : GetTold) → Contains reader.gets g → t.at ≤ g.since →
+        IsOfHomes ring n t.key g → n < r + length (own_homes spent) →
+        All (λ u. precedes u v ≡ false) (newest (rows_of g.answers)) }
 {}
