@@ -29,7 +29,7 @@ use Rattle.dy_mailboxes.specs.declared.parcels.Parcel.{Parcel}
 use Rattle.dy_mailboxes.specs.declared.parcels.Parcel.TheVariants.{Store, Fetch}
 use Rattle.dy_mailboxes.specs.declared.sent.Sent.{Sent}
 use Rattle.dy_mailboxes.specs.inside.Sheets.{AllSent, FitsKept, FitsNothing, FitsParcel, FitsSent}
-use Rattle.dy_mailboxes.specs.inside.Sheets.{IsSent, IsSheet}
+use Rattle.dy_mailboxes.specs.inside.Sheets.{IsSent, IsSheet, SheetParts, with_told}
 
 -- an ask that has fewer left, or had, has an answer among those read
 gives_each : (numbers left : List ℕ) (k n after count : ℕ) →
@@ -269,14 +269,32 @@ module _ {J : Type 0} where
   sheet_drained asks room replies sent left i none k lt =
       let n = i.left_count in i.each k lt (none k (omega arith))
 
+  abbrev sheet_of : ℕ → Told J → SheetParts J
+  sheet_of call told = record { told = told; call = call }
+
+  -- what is told more is told on the sheet of the same call
+  pub tells_on : (call : ℕ) (new told : Told J) → new ≡ told →
+      sheet_of call new ≡ sheet_of call told
+  tells_on call new told is = ap (sheet_of call) is
+
+  -- the room is that of what is told
+  pub room_left : {k l : SheetParts J} → k ≡ l → length k.told.asks < k.told.room →
+      length l.told.asks < l.told.room
+  room_left is lt =
+      let P : SheetParts J → Type 0 = λ s. length s.told.asks < s.told.room in subst P is lt
+
   -- what is told of asks and answers is told beside any tries
-  pub tells_beside : (tries : List (Try J)) (old new : Told J) (r : Option (Place × Answer J)) →
-      IfSome r (λ x. (number : ℕ) × (new ≡ with_reply old number x.0.holder x.0.home x.1)
-      × Answers old.asks number x.0.holder x.0.home x.1 × IsAwaited old.replies number) →
+  pub tells_beside : (tries : List (Try J)) (old new : SheetParts J)
+      (r : Option (Place × Answer J)) →
       IfSome r (λ x. (number : ℕ)
-      × (record new { tries = tries }
-      ≡ with_reply (record old { tries = tries }) number x.0.holder x.0.home x.1)
-      × Answers old.asks number x.0.holder x.0.home x.1 × IsAwaited old.replies number)
+      × (new ≡ with_told old (with_reply old.told number x.0.holder x.0.home x.1))
+      × Answers old.told.asks number x.0.holder x.0.home x.1
+      × IsAwaited old.told.replies number) →
+      IfSome r (λ x. (number : ℕ)
+      × (record new.told { tries = tries }
+      ≡ with_reply (record old.told { tries = tries }) number x.0.holder x.0.home x.1)
+      × Answers old.told.asks number x.0.holder x.0.home x.1
+      × IsAwaited old.told.replies number)
   tells_beside tries old new None h = tt
   tells_beside tries old new (Some x) h =
-      (h.0, ap (λ (t : Told J). record t { tries = tries }) h.1, h.2, h.3)
+      (h.0, ap (λ (s : SheetParts J). record s.told { tries = tries }) h.1, h.2, h.3)

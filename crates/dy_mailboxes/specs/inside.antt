@@ -1,2 +1,3 @@
 -- What contracts of private functions and invariants alone speak of.
+pub mod Channels
 pub mod Sheets

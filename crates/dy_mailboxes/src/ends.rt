@@ -1,6 +1,6 @@
-ghost use Rattle.std.specs.Prelude.{◌<◌, IsOkUnless};
+ghost use Rattle.std.specs.Prelude.{◌≡◌, ◌<◌, IfOk, IsOkUnless};
 ghost use Rattle.crossbeam_channel.specs.Claims.{IsSeatAt};
-ghost use Rattle.crossbeam_channel.specs.Ends.{receives_on, sends_on};
+ghost use Rattle.crossbeam_channel.specs.Ends.{receives_on, ruled_capacity, sends_on};
 
 use crossbeam_channel::protocol::{Free, Split};
 use crossbeam_channel::{Pass, RuledReceiver, RuledSender, bounded_with};
@@ -17,12 +17,14 @@ impl Split<()> for Alike {
     ghost right = { λ v. v };
 }
 
-/// The end of a mailbox that sends.
+/// The end of a mailbox that sends, and for how many messages the mailbox has room.
 #[derive(Drop)]
 pub struct Outbox<T: Drop> {
     end: RuledSender<T, (), Free>,
     pass: Pass<T, ()>,
+    pub(crate) room: usize,
     ghost here: { IsSeatAt (sends_on end) pass },
+    ghost room_is: { ruled_capacity (sends_on end) ≡ room },
 }
 
 /// The end of a mailbox that receives.
@@ -36,6 +38,7 @@ pub struct Inbox<T: Drop> {
 /// A mailbox with room for so many messages, whose sends take no memory: its two ends.
 pub fn mailbox<T: Drop>(alloc: Global, room: usize) -> Result<(Outbox<T>, Inbox<T>), Fault>
     requires { 0 < room }
+    ensures room { IfOk result (λ ends. ends.0.room ≡ room) }
     ensures memory { IsOkUnless result Fault.OutOfMemory }
 {
     let (sender, receiver, mut first) = bounded_with::<T, (), Free, Global>(alloc, room)?;
@@ -44,6 +47,7 @@ pub fn mailbox<T: Drop>(alloc: Global, room: usize) -> Result<(Outbox<T>, Inbox<
         Outbox {
             end: sender,
             pass: first,
+            room,
         },
         Inbox {
             end: receiver,
@@ -55,11 +59,16 @@ pub fn mailbox<T: Drop>(alloc: Global, room: usize) -> Result<(Outbox<T>, Inbox<
 impl<T: Drop> Outbox<T> {
     /// One more end that sends to the same mailbox.
     pub fn try_clone(&mut self) -> Result<Outbox<T>, Fault>
+        ensures same { self.new.room ≡ self.old.room }
         ensures memory { IsOkUnless result Fault.OutOfMemory }
     {
         let end = self.end.try_clone()?;
         let pass = self.end.another::<Alike>(&mut self.pass);
-        Ok(Outbox { end, pass })
+        Ok(Outbox {
+            end,
+            pass,
+            room: self.room,
+        })
     }
 
     /// Sends, and says whether an end receives. May wait while the mailbox is full. Takes no
@@ -76,5 +85,10 @@ impl<T: Drop> Inbox<T> {
     /// no memory.
     pub fn receive<R: Wait>(&mut self, rt: &R) -> Option<T> {
         self.end.recv_as::<Free, R>(rt, &mut self.pass).ok()
+    }
+
+    /// A message that lies in the mailbox; none where there is none now. Takes no memory.
+    pub(crate) fn receive_now<R: Wait>(&mut self, rt: &R) -> Option<T> {
+        self.end.try_recv_as::<Free, R>(rt, &mut self.pass).ok()
     }
 }

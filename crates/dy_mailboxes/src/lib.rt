@@ -1,6 +1,7 @@
 //! A transport that sends what it asks to the nodes' workers, in threads of their own.
 #![tactic(auto)]
 
+mod channels;
 mod ends;
 mod gates;
 mod parcels;

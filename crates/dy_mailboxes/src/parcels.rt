@@ -72,10 +72,11 @@ pub(crate) fn home_asked<J: Naming>(ask: &Ask<'_, J>) -> NodeId
     }
 }
 
-/// An ask on its way to a node that may hold what it carries: the number that it has among the asks
-/// of its call, from 0, and where its answers go.
+/// An ask on its way to a node that may hold what it carries: the number of its client's call, the
+/// number that it has among the asks of that call, from 0, and where its answers go.
 #[derive(Drop)]
 pub struct Posted<J: Naming> {
+    pub(crate) call: u64,
     pub(crate) number: usize,
     pub(crate) to: NodeId,
     pub(crate) parcel: Parcel<J>,
@@ -83,10 +84,13 @@ pub struct Posted<J: Naming> {
     ghost may_carry: { may_carry J.ring J.n to parcel ≡ true },
 }
 
-/// An answer on its way back, with the number of its ask. None comes after the last one to an ask.
+/// An answer on its way back, with the number of its client's call, that of its ask, and whether it
+/// is the first to its ask, and the last.
 #[derive(Drop)]
 pub struct Answered<J: Naming> {
+    pub call: u64,
     pub number: usize,
     pub answer: Answer<J>,
+    pub is_first: bool,
     pub is_last: bool,
 }

@@ -2,9 +2,10 @@ ghost use Rattle.std.specs.Prelude.{◌≡◌, ◌<◌, ◌*◌, ◌^◌, ℕ, l
 ghost use Rattle.std.specs.Prelude.{IsOkUnless};
 ghost use Rattle.dy_node.specs.declared.asks.Answer.TheVariants.{NoAnswer};
 ghost use Rattle.dy_transport.specs.Asking.{what_of};
-ghost use Rattle.dy_transport.specs.Told.{nothing_told, with_ask, with_none, with_reply};
+ghost use Rattle.dy_transport.specs.Told.{with_ask, with_none, with_reply};
 ghost use Rattle.dy_transport.specs.Told.{AllAnswered, Answers, IsAwaited};
 ghost use Rattle.dy_mailboxes.specs.Parcels.{IsKept};
+ghost use Rattle.dy_mailboxes.specs.inside.Sheets.{nothing_on_sheet, with_told};
 
 use crate::parcels::{Answered, Parcel, home_asked};
 use crate::sent::Sent;
@@ -17,12 +18,14 @@ use std::alloc::Global;
 use std::marker::Model;
 
 /// What is told of one call's asks, with what each answer is held against, and how many answers to
-/// each ask may still be handed on: two at first, one where the first said that nothing came.
+/// each ask may still be handed on: two at first, one where the first said that nothing came; and
+/// the number of the call.
 #[derive(Drop)]
 pub struct Sheet<J: Naming> {
     trail: Trail<J>,
     sent: Vec<Sent<J>>,
     left: Vec<u8>,
+    call: u64,
 }
 
 impl<J: Naming> Model for Sheet<J> {
@@ -31,14 +34,13 @@ impl<J: Naming> Model for Sheet<J> {
     ghost use Rattle.dy_dots.specs.Dots.{dot_set_code};
     ghost use Rattle.dy_siblings.specs.Siblings.{siblings_code};
     ghost use Rattle.dy_shares.specs.Codes.{answer_code, receipt_parts_code as receipt_code};
-    ghost use Rattle.dy_transport.specs.Told.{Told};
-    ghost use Rattle.dy_mailboxes.specs.inside.Sheets.{IsSheet};
+    ghost use Rattle.dy_mailboxes.specs.inside.Sheets.{IsSheet, SheetParts};
 
-    ghost Value = { Told J };
+    ghost Value = { SheetParts J };
 
     ghost coded = { Prim.hlevel (codes, dot_set_code, siblings_code, receipt_code, answer_code) };
 
-    ghost view = { λ s. s.trail };
+    ghost view = { λ s. record { told = s.trail; call = s.call } };
 
     ghost invariant = { λ s.
         IsSheet s.trail.asks s.trail.room s.trail.replies s.sent.items s.left.items
@@ -83,28 +85,44 @@ fn left_after<J: Naming>(left: u8, answer: &Answer<J>, is_last: bool) -> u8
 }
 
 impl<J: Naming> Sheet<J> {
-    /// A sheet of nothing, with room for so many asks, and two answers to each.
+    /// A sheet of nothing, with room for so many asks, and two answers to each, for the call of
+    /// number 0.
     pub fn new(alloc: Global, room: usize) -> Result<Sheet<J>, Fault>
         requires { room < 2 ^ 32 }
-        ensures ok { IfOk result (λ sheet. sheet ≡ nothing_told room) }
+        ensures ok { IfOk result (λ sheet. sheet ≡ nothing_on_sheet room 0) }
         ensures memory { IsOkUnless result Fault.OutOfMemory }
     {
         let trail = Trail::new(alloc, room)?;
         let sent = Vec::with_capacity(alloc, room)?;
         let left = Vec::with_capacity(alloc, room)?;
-        Ok(Sheet { trail, sent, left })
+        Ok(Sheet {
+            trail,
+            sent,
+            left,
+            call: 0,
+        })
+    }
+
+    /// Tells nothing of the call before, for the one of this number. Takes no memory.
+    pub fn renew(&mut self, call: u64)
+        ensures { self.new ≡ nothing_on_sheet self.old.told.room call }
+    {
+        self.trail.renew();
+        self.sent.clear();
+        self.left.clear();
+        self.call = call;
     }
 
     /// For how many asks there is room. Takes no memory.
     pub fn room(&self) -> usize
-        ensures { result ≡ self.now.room }
+        ensures { result ≡ self.now.told.room }
     {
         self.trail.room()
     }
 
     /// How many asks are told. Takes no memory.
     pub fn ask_count(&self) -> usize
-        ensures { result ≡ length self.now.asks }
+        ensures { result ≡ length self.now.told.asks }
     {
         self.trail.ask_count()
     }
@@ -112,9 +130,9 @@ impl<J: Naming> Sheet<J> {
     /// Tells of an ask, with the copy that its answers are held against, and whether it is on its
     /// way. Takes no memory.
     pub fn put(&mut self, to: NodeId, ask: &Ask<'_, J>, kept: Option<Parcel<J>>, is_posted: bool)
-        requires room { length self.old.asks < self.old.room }
+        requires room { length self.old.told.asks < self.old.told.room }
         requires kept { IsKept (what_of ask.now) kept }
-        ensures { self.new ≡ with_ask self.old to ask.now }
+        ensures { self.new ≡ with_told self.old (with_ask self.old.told to ask.now) }
     {
         let home = home_asked(ask);
         self.trail.note_ask(to, ask);
@@ -132,21 +150,24 @@ impl<J: Naming> Sheet<J> {
         self.left.iter().any(|left| *left > 0)
     }
 
-    /// Reads an answer that came: it is handed on, as that nothing came where it is no answer to
-    /// its ask; one too many for its ask is dropped. Takes no memory.
+    /// Reads an answer that came to this call: it is handed on, as that nothing came where it is no
+    /// answer to its ask; one too many for its ask is dropped. Takes no memory.
     pub fn take(&mut self, answered: Answered<J>) -> Option<(Place, Answer<J>)>
+        requires { answered.call ≡ self.old.call }
         ensures none { IfNone result (self.new ≡ self.old) }
         ensures some { IfSome result (λ r. (number : ℕ)
-            × (self.new ≡ with_reply self.old number r.0.holder r.0.home r.1)
-            × Answers self.old.asks number r.0.holder r.0.home r.1
-            × IsAwaited self.old.replies number) }
+            × (self.new ≡ with_told self.old
+            (with_reply self.old.told number r.0.holder r.0.home r.1))
+            × Answers self.old.told.asks number r.0.holder r.0.home r.1
+            × IsAwaited self.old.told.replies number) }
         ensures within { IfSome result
-            (λ _. length self.old.replies < 2 * length self.old.asks) }
+            (λ _. length self.old.told.replies < 2 * length self.old.told.asks) }
     {
         let Answered {
             number,
             answer,
             is_last,
+            ..
         } = answered;
         if number >= self.left.len() {
             return None;
@@ -172,17 +193,20 @@ impl<J: Naming> Sheet<J> {
     pub fn take_unsent(&mut self) -> Option<(Place, Answer<J>)>
         ensures none { IfNone result (self.new ≡ self.old) }
         ensures some { IfSome result (λ r. (number : ℕ)
-            × (self.new ≡ with_reply self.old number r.0.holder r.0.home r.1)
-            × Answers self.old.asks number r.0.holder r.0.home r.1
-            × IsAwaited self.old.replies number) }
+            × (self.new ≡ with_told self.old
+            (with_reply self.old.told number r.0.holder r.0.home r.1))
+            × Answers self.old.told.asks number r.0.holder r.0.home r.1
+            × IsAwaited self.old.told.replies number) }
         ensures within { IfSome result
-            (λ _. length self.old.replies < 2 * length self.old.asks) }
+            (λ _. length self.old.told.replies < 2 * length self.old.told.asks) }
     {
         let number = unsent(&self.sent, &self.left)?;
         let answer = self.sent.get(number)?.not_sent();
         self.take(Answered {
+            call: self.call,
             number,
             answer,
+            is_first: true,
             is_last: true,
         })
     }
@@ -191,13 +215,15 @@ impl<J: Naming> Sheet<J> {
     /// memory.
     pub fn close(&mut self) -> Option<(Place, Answer<J>)>
         ensures none { IfNone result
-            ((self.new ≡ with_none self.old) × AllAnswered self.new) }
+            ((self.new ≡ with_told self.old (with_none self.old.told))
+            × AllAnswered self.new.told) }
         ensures some { IfSome result (λ r. (number : ℕ)
-            × (self.new ≡ with_reply self.old number r.0.holder r.0.home r.1)
-            × Answers self.old.asks number r.0.holder r.0.home r.1
-            × IsAwaited self.old.replies number) }
+            × (self.new ≡ with_told self.old
+            (with_reply self.old.told number r.0.holder r.0.home r.1))
+            × Answers self.old.told.asks number r.0.holder r.0.home r.1
+            × IsAwaited self.old.told.replies number) }
         ensures within { IfSome result
-            (λ _. length self.old.replies < 2 * length self.old.asks) }
+            (λ _. length self.old.told.replies < 2 * length self.old.told.asks) }
     {
         let Some(number) = unanswered(&self.left) else {
             self.trail.note_none();

@@ -1,12 +1,14 @@
-ghost use Rattle.std.specs.Prelude.{◌≡◌, ◌<◌, ◌*◌, ◌^◌, ℕ, length, IfOk, IfNone, IfSome};
-ghost use Rattle.std.specs.Prelude.{IsOkUnless};
+ghost use Rattle.std.specs.Prelude.{◌≡◌, ◌<◌, ◌≤◌, ◌+◌, ◌*◌, ◌^◌, ℕ, length, IfOk, IfNone, IfSome};
+ghost use Rattle.std.specs.Prelude.{IsOkUnless, OnErr};
 ghost use Rattle.dy_node.specs.Answers.{MayAsk};
 ghost use Rattle.dy_transport.specs.Told.{AllAnswered, Answers, IsAwaited};
 ghost use Rattle.dy_transport.specs.Told.{nothing_told, with_none, with_reply};
 ghost use Rattle.dy_mailboxes.specs.Parcels.{IsParcelOf};
+ghost use Rattle.dy_mailboxes.specs.inside.Channels.{HaveRoom, IsFewer, with_ask_if};
+ghost use Rattle.dy_mailboxes.specs.inside.Sheets.{with_told};
 
-use crate::ends::{Inbox, Outbox, mailbox};
-use crate::parcels::{Answered, Parcel, Posted};
+use crate::channels::Channel;
+use crate::parcels::{Parcel, Posted};
 use crate::posts::Post;
 use crate::sheets::Sheet;
 use dy_book::Book;
@@ -20,6 +22,11 @@ use std::alloc::Global;
 use std::marker::Model;
 use std::sync::{Mutex, Wait};
 
+// The first channel has room for one call, since many transports serve no other. A channel that is
+// made when that does not suffice has room for this many: the one under way, beside all that late
+// workers owe to three whole calls. With room for one, each late answer would cost a channel.
+const CALLS: usize = 4;
+
 /// A transport whose asks go to the nodes' workers, and whose tries and acks are made on the
 /// caller's own thread, as those of a `Direct`. The nodes lie in the order of their numbers, and so
 /// do the mailboxes.
@@ -28,8 +35,7 @@ pub struct Mailboxes<'a, J: Naming> {
     alloc: Global,
     near: Direct<'a, J>,
     post: &'a mut Post<J>,
-    back: Outbox<Answered<J>>,
-    answers: Inbox<Answered<J>>,
+    channel: Channel<J>,
     sheet: Sheet<J>,
 }
 
@@ -40,14 +46,15 @@ impl<'a, J: Naming> Model for Mailboxes<'a, J> {
     ghost use Rattle.dy_siblings.specs.Siblings.{siblings_code};
     ghost use Rattle.dy_shares.specs.Codes.{answer_code, receipt_parts_code as receipt_code};
     ghost use Rattle.dy_transport.specs.Told.{Told};
+    ghost use Rattle.dy_mailboxes.specs.inside.Channels.{HaveRoom};
 
     ghost Value = { Told J };
 
     ghost coded = { Prim.hlevel (codes, dot_set_code, siblings_code, receipt_code, answer_code) };
 
-    ghost view = { λ m. record m.sheet { tries = m.near.tries } };
+    ghost view = { λ m. record m.sheet.told { tries = m.near.tries } };
 
-    ghost invariant = { λ m. m.near.room ≡ m.sheet.room };
+    ghost invariant = { λ m. (m.near.room ≡ m.sheet.told.room) × HaveRoom m.sheet m.channel };
 }
 
 impl<'a, J: Naming> Mailboxes<'a, J> {
@@ -67,61 +74,72 @@ impl<'a, J: Naming> Mailboxes<'a, J> {
         let near = Direct::new(alloc, nodes, book, room)?;
         let sheet = Sheet::new(alloc, room)?;
         // Each ask has two answers at most, so no worker waits for room.
-        let (back, answers) = mailbox(alloc, 2 * room)?;
+        let channel = Channel::new(alloc, 2 * room)?;
         Ok(Mailboxes {
             alloc,
             near,
             post,
-            back,
-            answers,
+            channel,
             sheet,
         })
     }
 }
 
-// Posts an ask: the copy that its answers are held against, and whether it is on its way.
+// Posts an ask of the channel's call: the copy that its answers are held against, and whether it is
+// on its way.
 fn post_ask<J: Naming, R: Wait>(
     rt: &R,
     alloc: Global,
     post: &mut Post<J>,
-    back: &mut Outbox<Answered<J>>,
+    channel: &mut Channel<J>,
     number: usize,
     to: NodeId,
     ask: &Ask<'_, J>,
 ) -> Result<(Parcel<J>, bool), Fault>
-    requires { MayAsk J.ring J.n to ask.now }
+    requires may_ask { MayAsk J.ring J.n to ask.now }
+    requires room { channel.old.due + channel.old.late + 2 ≤ channel.old.room }
     ensures copy { IfOk result (λ posted. IsParcelOf ask.now posted.0) }
+    ensures counted { IfOk result (λ posted. channel.new ≡ with_ask_if posted.1 channel.old) }
+    ensures err { OnErr result (channel.new ≡ channel.old) }
     ensures memory { IsOkUnless result Fault.OutOfMemory }
 {
     let kept = Parcel::new(alloc, ask)?;
     let parcel = Parcel::new(alloc, ask)?;
-    let back = back.try_clone()?;
+    let back = channel.end()?;
     let is_posted = post.send(
         rt,
         Posted {
+            call: channel.call(),
             number,
             to,
             parcel,
             back,
         },
     );
+    channel.count_ask(is_posted);
     Ok((kept, is_posted))
 }
 
-// The next answer: that of an ask that could not be sent, else the next that comes and is not one
-// too many. Where none is left to come, that nothing came to an ask without an answer, else none.
+// The next answer: that of an ask that could not be sent, else the next that comes to this call and
+// is not one too many. Where none is left to come, that nothing came to an ask without an answer,
+// else none.
 fn next_of<J: Naming, R: Wait>(
     rt: &R,
-    answers: &mut Inbox<Answered<J>>,
+    channel: &mut Channel<J>,
     sheet: &mut Sheet<J>,
 ) -> Option<(Place, Answer<J>)>
-    ensures none { IfNone result ((sheet.new ≡ with_none sheet.old) × AllAnswered sheet.new) }
+    requires { sheet.old.call ≡ channel.old.call }
+    ensures none { IfNone result
+        ((sheet.new ≡ with_told sheet.old (with_none sheet.old.told))
+        × AllAnswered sheet.new.told) }
     ensures some { IfSome result (λ r. (number : ℕ)
-        × (sheet.new ≡ with_reply sheet.old number r.0.holder r.0.home r.1)
-        × Answers sheet.old.asks number r.0.holder r.0.home r.1
-        × IsAwaited sheet.old.replies number) }
+        × (sheet.new ≡ with_told sheet.old
+        (with_reply sheet.old.told number r.0.holder r.0.home r.1))
+        × Answers sheet.old.told.asks number r.0.holder r.0.home r.1
+        × IsAwaited sheet.old.told.replies number) }
     ensures within { IfSome result
-        (λ _. length sheet.old.replies < 2 * length sheet.old.asks) }
+        (λ _. length sheet.old.told.replies < 2 * length sheet.old.told.asks) }
+    ensures fewer { IsFewer channel.old channel.new }
 {
     if let Some(reply) = sheet.take_unsent() {
         return Some(reply);
@@ -130,7 +148,7 @@ fn next_of<J: Naming, R: Wait>(
         if !sheet.is_open() {
             break;
         }
-        let Some(answered) = answers.receive(rt) else {
+        let Some(answered) = channel.receive(rt) else {
             break;
         };
         if let Some(reply) = sheet.take(answered) {
@@ -185,14 +203,22 @@ impl<J: Naming> Transport<J> for Mailboxes<'_, J> {
 
     fn ask<R: Wait>(&mut self, rt: &R, to: NodeId, ask: &Ask<'_, J>) {
         let number = self.sheet.ask_count();
-        match post_ask(rt, self.alloc, self.post, &mut self.back, number, to, ask) {
+        match post_ask(
+            rt,
+            self.alloc,
+            self.post,
+            &mut self.channel,
+            number,
+            to,
+            ask,
+        ) {
             Ok((kept, is_posted)) => self.sheet.put(to, ask, Some(kept), is_posted),
             Err(_) => self.sheet.put(to, ask, None, false),
         }
     }
 
     fn next_reply<R: Wait>(&mut self, rt: &R) -> Option<(Place, Answer<J>)> {
-        next_of(rt, &mut self.answers, &mut self.sheet)
+        next_of(rt, &mut self.channel, &mut self.sheet)
     }
 
     fn record<R: Wait>(
@@ -203,5 +229,22 @@ impl<J: Naming> Transport<J> for Mailboxes<'_, J> {
         receipts: &Vec<Receipt<J>>,
     ) -> Result<(), Fault> {
         self.near.record(rt, session, w, receipts)
+    }
+
+    /// Takes memory only where late answers leave too little room in the channel.
+    fn renew<R: Wait>(&mut self, rt: &R) -> Result<(), Fault> {
+        let answers = 2 * self.sheet.room();
+        self.channel.drain(rt);
+        if self.channel.can_go_on(answers) {
+            self.near.renew(rt)?;
+            self.channel.go_on();
+        } else {
+            // What is still sent over the channel that is let go is read by nobody.
+            let channel = Channel::new(self.alloc, CALLS * answers)?;
+            self.near.renew(rt)?;
+            self.channel = channel;
+        }
+        self.sheet.renew(self.channel.call());
+        Ok(())
     }
 }

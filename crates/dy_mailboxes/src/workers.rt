@@ -1,6 +1,7 @@
 // A worker of a node: it answers what comes to the node's mailbox.
 ghost use Rattle.std.specs.Prelude.{◌≡◌, true, false, None};
 ghost use Rattle.dy_node.specs.Answers.{AnsweredBy, IsDown, MayAsk};
+ghost use Rattle.dy_mailboxes.specs.inside.Channels.{messages_of};
 
 use crate::ends::Inbox;
 use crate::gates::Gate;
@@ -37,6 +38,7 @@ fn serve_one<J: Naming, G: Gate, R: Wait>(
     gate: &G,
 ) {
     let Posted {
+        call,
         number,
         to,
         parcel,
@@ -45,25 +47,43 @@ fn serve_one<J: Naming, G: Gate, R: Wait>(
     let ask = parcel.ask();
     gate.pass(to, &ask);
     let (answer, later) = answer_locked(rt, node, book, to, &ask);
-    let is_last = later.is_none();
-    let _sent = back.send(
-        rt,
-        Answered {
-            number,
-            answer,
-            is_last,
-        },
-    );
-    if let Some(answer) = later {
-        let _sent = back.send(
-            rt,
-            Answered {
+    let (first, second) = messages(call, number, answer, later);
+    let _sent = back.send(rt, first);
+    if let Some(second) = second {
+        let _sent = back.send(rt, second);
+    }
+}
+
+// The messages that carry the answers to an ask.
+fn messages<J: Naming>(
+    call: u64,
+    number: usize,
+    answer: Answer<J>,
+    later: Option<Answer<J>>,
+) -> (Answered<J>, Option<Answered<J>>)
+    ensures { result ≡ messages_of call number answer later }
+{
+    let (is_last, second) = match later {
+        None => (true, None),
+        Some(answer) => {
+            let second = Answered {
+                call,
                 number,
                 answer,
+                is_first: false,
                 is_last: true,
-            },
-        );
-    }
+            };
+            (false, Some(second))
+        }
+    };
+    let first = Answered {
+        call,
+        number,
+        answer,
+        is_first: true,
+        is_last,
+    };
+    (first, second)
 }
 
 // The node's answers, under its lock and the book's. What a lock holds is known by its type alone,

@@ -245,4 +245,10 @@ impl<J: Naming> Transport<J> for Lossy<'_, J> {
         });
         gave
     }
+
+    fn renew<R: Wait>(&mut self, rt: &R) -> Result<(), Fault> {
+        let _ = rt;
+        self.line.renew();
+        Ok(())
+    }
 }

@@ -203,4 +203,9 @@ impl<J: Naming> Transport<J> for Wrapped<'_, J> {
         let _listed = list_recorded(&mut self.list, &gave);
         gave
     }
+
+    // The list stays: it is of all calls.
+    fn renew<R: Wait>(&mut self, rt: &R) -> Result<(), Fault> {
+        self.direct.renew(rt)
+    }
 }

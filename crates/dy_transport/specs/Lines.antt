@@ -1,5 +1,5 @@
 -- Lines of answers: what is told, and what waits behind it.
-use Rattle.std.specs.Prelude.{◌≡◌, ◌++◌, ◌∷◌, [], List, ℕ, Option, None, Some}
+use Rattle.std.specs.Prelude.{◌≡◌, ◌∷◌, [], List, ℕ, Option, None, Some}
 use Rattle.dy_core.specs.declared.places.Place.{Place}
 use Rattle.dy_node.specs.declared.asks.Ask.{Ask}
 use Rattle.dy_node.specs.declared.asks.Answer.{Answer}

@@ -1,4 +1,5 @@
 ghost use Rattle.std.specs.Prelude.{◌≡◌, ◌<◌, ◌^◌, true, IsTrue, IfOk, IfErr, IfSome, IsOkUnless};
+ghost use Rattle.std.specs.Prelude.{IsOk, OnErr, OnOk};
 ghost use Rattle.std.specs.List.{All};
 ghost use Rattle.dy_preference.specs.Preferences.{homes_of, may_hold};
 ghost use Rattle.dy_node.specs.Answers.{AnsweredBy, MayAsk};
@@ -342,5 +343,17 @@ impl<J: Naming> Transport<J> for Direct<'_, J> {
             gave: show(&gave),
         });
         gave
+    }
+
+    /// Takes no memory.
+    fn renew<R: Wait>(&mut self, rt: &R) -> Result<(), Fault>
+        ensures ok { OnOk result (self.new ≡ nothing_told self.old.room) }
+        ensures err { OnErr result (self.new ≡ self.old) }
+        ensures memory { IsOkUnless result Fault.OutOfMemory }
+        ensures spared { IsOk result }
+    {
+        let _ = rt;
+        self.line.renew();
+        Ok(())
     }
 }

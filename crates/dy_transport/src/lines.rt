@@ -147,6 +147,15 @@ impl<J: Naming> Line<J> {
         self.trail.note_none();
         None
     }
+
+    /// Tells nothing of the call before, and drops what nobody has read. Takes no memory.
+    pub fn renew(&mut self)
+        ensures { self.new ≡ nothing_in_line self.old.told.room }
+    {
+        self.trail.renew();
+        self.first.clear();
+        self.second.clear();
+    }
 }
 
 // Tells of an answer, and hands it on.

@@ -121,4 +121,14 @@ impl<J: Naming> Trail<J> {
     {
         self.drained = true;
     }
+
+    /// Tells nothing of the call before, for the next one. Takes no memory.
+    pub fn renew(&mut self)
+        ensures { self.new ≡ nothing_told self.old.room }
+    {
+        self.tries.clear();
+        self.asks.clear();
+        self.replies.clear();
+        self.drained = false;
+    }
 }

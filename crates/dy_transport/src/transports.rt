@@ -1,5 +1,5 @@
 ghost use Rattle.std.specs.Prelude.{◌≡◌, ◌<◌, ◌≤◌, ◌+◌, ◌*◌, ℕ, ◌∷◌, [], List, length, map, nat_eq};
-ghost use Rattle.std.specs.Prelude.{IsTrue, IfOk, IfErr, OnOk, OnErr, IfNone, IfSome};
+ghost use Rattle.std.specs.Prelude.{IsTrue, IfOk, IfErr, OnOk, OnErr, IfNone, IfSome, IsOkUnless};
 ghost use Rattle.std.specs.List.{All, IsDistinct};
 ghost use Rattle.dy_dots.specs.declared.dots.Dot.{Dot as DotParts};
 ghost use Rattle.dy_preference.specs.Preferences.{homes_of, may_hold};
@@ -10,6 +10,7 @@ ghost use Rattle.dy_transport.specs.Snapshots.{snapshot_of};
 ghost use Rattle.dy_transport.specs.Asking.{IsBegun, IsSeenAt};
 ghost use Rattle.dy_transport.specs.Refusals.{IsOfBegin, IsOfNode, IsOfOffer, IsOfStep};
 ghost use Rattle.dy_transport.specs.Told.{Told, with_try, with_ask, with_none, with_reply};
+ghost use Rattle.dy_transport.specs.Told.{nothing_told};
 ghost use Rattle.dy_transport.specs.Told.{Answers, AllAnswered, IsAwaited};
 ghost use Rattle.dy_transport.specs.Tellings.{IsAckTold};
 ghost use Rattle.dy_transport.specs.declared.tries.Try.TheVariants.{Begin, Look, Offer, Record};
@@ -130,4 +131,11 @@ pub trait Transport<J: Naming> {
             OnOk result (IsAckTold session.old session.new key d w receipts.now.items) }
         ensures err { OnErr result (session.new ≡ session.old) }
         ensures refused { IfErr result IsOfStep };
+
+    /// Tells nothing of the call before, so that one transport serves many calls of a client, one
+    /// after another. What came of that call and nobody has read is read by no later one.
+    fn renew<R: Wait>(&mut self, rt: &R) -> Result<(), Fault>
+        ensures ok { OnOk result (told self.new ≡ nothing_told (told self.old).room) }
+        ensures err { OnErr result (told self.new ≡ told self.old) }
+        ensures memory { IsOkUnless result Fault.OutOfMemory };
 }

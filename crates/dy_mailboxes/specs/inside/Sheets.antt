@@ -6,7 +6,7 @@ use Rattle.dy_book.specs.Books.{receipts_of}
 use Rattle.dy_node.specs.declared.asks.Answer.{Answer}
 use Rattle.dy_node.specs.declared.asks.Answer.TheVariants as answer
 use Rattle.dy_transport.specs.Asking.{IsSeenAt}
-use Rattle.dy_transport.specs.Told.{IsAwaited}
+use Rattle.dy_transport.specs.Told.{IsAwaited, Told, nothing_told}
 use Rattle.dy_transport.specs.declared.asked.Asked.{Asked}
 use Rattle.dy_transport.specs.declared.replies.Reply.{Reply}
 use Rattle.dy_mailboxes.specs.Parcels.{IsKept}
@@ -14,7 +14,20 @@ use Rattle.dy_mailboxes.specs.declared.parcels.Parcel.{Parcel}
 use Rattle.dy_mailboxes.specs.declared.parcels.Parcel.TheVariants.{Store, Fetch}
 use Rattle.dy_mailboxes.specs.declared.sent.Sent.{Sent}
 
+-- what a sheet is seen as: what is told, and the number of its call
+pub record SheetParts (J : Type 0) : Type 0 where
+  pub told : Told J
+  pub call : ℕ
+
 module _ {J : Type 0} where
+  -- a sheet of nothing, for the call of this number
+  abbrev pub nothing_on_sheet : ℕ → ℕ → SheetParts J
+  nothing_on_sheet room call = record { told = nothing_told room; call = call }
+
+  -- the sheet with this told
+  abbrev pub with_told : SheetParts J → Told J → SheetParts J
+  with_told s told = record s { told = told }
+
   -- the answer is one of this node, for this home, to what is carried
   abbrev pub FitsParcel : ℕ → ℕ → Parcel J → Answer J → Type 0
   FitsParcel to home (Store h row) (answer.Stored receipts) =

@@ -1,5 +1,5 @@
 use Rattle.std.proofs.Common.{refl, sym}
-use Rattle.dy_mailboxes.proofs.Owing.{sheet_asks}
+use Rattle.dy_mailboxes.proofs.Owing.{room_left, sheet_asks}
 use Rattle.dy_mailboxes.proofs.sheets.Sheet.put.Goals as goal
 
 -- the new ask has two answers left
@@ -12,7 +12,7 @@ invariant_of-self g c =
       c.push_reserved.ensures.capacity,
       c.push_reserved-2.ensures.capacity,
     ) (
-      sheet_asks _ _ _ _ _ _ _ c.self.invariant.0 (rw c.self.view_is c.requires.room)
+      sheet_asks _ _ _ _ _ _ _ c.self.invariant.0 (room_left (sym c.self.view_is) c.requires.room)
           (refl, sym c.home_asked-home.ensures, c.requires.kept),
       c.self.invariant.1,
       c.self.invariant.2,

@@ -1,6 +1,6 @@
 use Rattle.std.proofs.Common.{◌<◌, arith, length}
 use Rattle.std.proofs.lemmas.Grind.{get_or_default_zero}
-use Rattle.dy_mailboxes.proofs.Owing.{answers_sent, sheet_awaits, sheet_gives}
+use Rattle.dy_mailboxes.proofs.Owing.{answers_sent, sheet_awaits, sheet_gives, tells_on}
 use Rattle.dy_mailboxes.proofs.sheets.Sheet.take.Goals as goal
 
 -- the ask has less left
@@ -24,7 +24,7 @@ returns-clause-some g c =
     c.index-left.result.now place in
     rw (← c.self.view_is) (
       c.args.answered.number,
-      c.note_reply.ensures,
+      tells_on c.self.inside.call _ _ c.note_reply.ensures,
       answers_sent _ _ _ _ _ c.args.answered.number c.index-sent.result.now
           c.index-sent.result.now _ c.self.invariant.0 place c.index-sent.ensures
           c.only_fitting-answer.ensures,
