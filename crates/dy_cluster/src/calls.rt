@@ -2,10 +2,10 @@
 ghost use Rattle.std.specs.Prelude.{◌≡◌, ◌≤◌, [], None, IfOk, IfErr, OnErr, IsOkUnless};
 ghost use Rattle.dy_dots.specs.declared.nodes.TheConstants.{MAX_NODES};
 ghost use Rattle.dy_shares.specs.Shares.{since_of, with_get};
-ghost use Rattle.dy_transport.specs.Tellings.{IsAckHeard};
 ghost use Rattle.dy_reads.specs.Lists.{homes_in};
 ghost use Rattle.dy_quorum.specs.Gatherings.{first_answers};
 ghost use Rattle.dy_coord.specs.Gets.{IsGetRefused, IsGot};
+ghost use Rattle.dy_coord.specs.PutDones.{IsPutDone};
 ghost use Rattle.dy_coord.specs.PutEnds.{PutEnds};
 ghost use Rattle.dy_repair.specs.Repairs.{IsRepaired};
 ghost use Rattle.dy_cluster.specs.Lists.{list_of};
@@ -52,15 +52,14 @@ impl<J: Naming> Cluster<J> {
         key: &Key,
         context: &Context,
         value: Option<Value>,
-    ) -> Result<PutDone, PutFault>
+    ) -> Result<PutDone<J>, PutFault>
         requires fresh_tries { (T.told transport.old).tries ≡ [] }
         requires fresh_asks { (T.told transport.old).asks ≡ [] }
         requires fresh_replies { (T.told transport.old).replies ≡ [] }
         requires room { MAX_NODES ≤ (T.told transport.old).room }
         ensures ends { PutEnds {J = J} (list_of J.ring J.n key.now) w key.now context.now value
             session.old session.new (T.told transport.old) (T.told transport.new) result }
-        ensures ok { IfOk result
-            (λ done. IsAckHeard session.old session.new key.now done.dot w) }
+        ensures ok { IfOk result (IsPutDone session.old session.new key.now w) }
         ensures err { OnErr result (session.new ≡ session.old) }
     {
         if w < 1 {
@@ -86,15 +85,14 @@ impl<J: Naming> Cluster<J> {
         session: &mut SessionShare<J>,
         key: &Key,
         context: &Context,
-    ) -> Result<PutDone, PutFault>
+    ) -> Result<PutDone<J>, PutFault>
         requires fresh_tries { (T.told transport.old).tries ≡ [] }
         requires fresh_asks { (T.told transport.old).asks ≡ [] }
         requires fresh_replies { (T.told transport.old).replies ≡ [] }
         requires room { MAX_NODES ≤ (T.told transport.old).room }
         ensures ends { PutEnds {J = J} (list_of J.ring J.n key.now) w key.now context.now None
             session.old session.new (T.told transport.old) (T.told transport.new) result }
-        ensures ok { IfOk result
-            (λ done. IsAckHeard session.old session.new key.now done.dot w) }
+        ensures ok { IfOk result (IsPutDone session.old session.new key.now w) }
         ensures err { OnErr result (session.new ≡ session.old) }
     {
         self.put(rt, transport, w, session, key, context, None)

@@ -18,7 +18,7 @@ pub struct Got {
 }
 
 // The answers of a put.
-fn answers_of(put: Result<PutDone, PutFault>) -> Result<Vec<AnswerRead>, Fault> {
+fn answers_of<J: Naming>(put: Result<PutDone<J>, PutFault>) -> Result<Vec<AnswerRead>, Fault> {
     match put {
         Ok(done) => Ok(done.answers),
         Err(refused) => Err(refused.fault),

@@ -66,7 +66,7 @@ most_added r seens now s lt n =
     few_push (λ (x : SeenParts). x.home) seens s in
     subst P (sym n) (omega arith)
 
-what_at : (what : What) (asks : List Asked) (k : ℕ) (a : Asked) → All (λ b. b.what ≡ what) asks →
+pub what_at : (what : What) (asks : List Asked) (k : ℕ) (a : Asked) → All (λ b. b.what ≡ what) asks →
     slice_get asks k ≡ Some a → a.what ≡ what
 what_at what [] k a whats e = absurd (cc)
 what_at what (b ∷ asks) zero a whats e =
@@ -157,7 +157,7 @@ module _ {J : Type 0} where
       (seens : List SeenParts) (answers : List AnswerRead) (result : Result (GetDone J) GetFault) →
       Gathers list key r since c own told seens answers →
       AreUsed key r since (first_answers seens) →
-      IfOk result (λ done. Finishes seens answers done) → IfOk result (λ done. done.row.key ≡ key) →
+      IfOk result (λ done. Finishes since seens answers done) → IfOk result (λ done. done.row.key ≡ key) →
       IfOk result (λ done. IsGot list key r since told done)
   got list key r since c own told seens answers (Err e) gathers used ok is_of = tt
   got list key r since c own told seens answers (Ok done) gathers used ok is_of =
@@ -173,6 +173,7 @@ module _ {J : Type 0} where
         own = own;
         gathers = subst S (sym ok.answers_are) (subst R same gathers);
         used = subst P same used;
+        since_is = ok.since_is;
         from = ok.from ∙ ap (λ xs. map answer_place (first_answers xs)) same;
         row_key = is_of;
         row = subst Q same ok.row;
@@ -208,6 +209,7 @@ module _ {J : Type 0} where
     asks = x.asks;
     known = x.known;
     seens_are = x.seens_are;
+    for_homes = x.for_homes;
     answers_are = x.answers_are;
     stops = x.stops;
   }

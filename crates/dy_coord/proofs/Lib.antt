@@ -1,4 +1,6 @@
 pub mod Acked
+pub mod ForHomes
 pub mod Getting
 pub mod Holders
 pub mod Trying
+pub mod Stored

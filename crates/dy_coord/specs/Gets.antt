@@ -1,9 +1,9 @@
 -- What a get tries, asks and reads, and how it ends (Dynamo, section 4.5).
 use Rattle.std.specs.Prelude.{◌≡◌, ◌<◌, ◌++◌, ◌∷◌, ◌⊎◌, [], List, ℕ, length, map, Ok}
-use Rattle.std.specs.List.{All}
+use Rattle.std.specs.List.{All, Contains}
 use Rattle.dy_dots.specs.declared.faults.Fault.TheVariants.{OutOfMemory, NoNode, NotEnough}
 use Rattle.dy_preference.specs.Preferences.{Preferred, home_for}
-use Rattle.dy_siblings.specs.Siblings.{IsSameRow, IsSiblingSet, context_of, newest}
+use Rattle.dy_siblings.specs.Siblings.{IsSameRow, context_of, newest}
 use Rattle.dy_core.specs.Logs.{Answer as SeenParts, rows_of}
 use Rattle.dy_node.specs.declared.asks.Answer.{Answer}
 use Rattle.dy_node.specs.declared.asks.Answer.TheVariants as answer
@@ -50,8 +50,8 @@ module _ {J : Type 0} where
       length (first_answers (own ++ seens_of before)) < r
 
   -- a get began at this coordinator, with this row of its own: the nodes before it were down, the
-  -- asks are by the rule, each answer is one to an ask, and it has all rows that were read, and
-  -- lists all answers
+  -- asks are by the rule, each answer is one to an ask, and it has all rows that were read, each
+  -- for a home of the key, and lists all answers
   pub record Gathers (list : Preferred) (key : List ℕ) (r since c : ℕ) (own : SeenParts)
       (told : Told J) (seens : List SeenParts) (answers : List AnswerRead) : Type 0 where
     pub tries : TriesAt (look_try list key since) list.nodes told.tries c (Ok own)
@@ -59,11 +59,12 @@ module _ {J : Type 0} where
     pub asks : AsksByRule list (Fetch (snapshot_of key) since) c told
     pub known : All (IsReplyTo told.asks) told.replies
     pub seens_are : seens ≡ own ∷ seens_of told.replies
+    pub for_homes : All (λ s. Contains (homes_in list) s.home) seens
     pub answers_are : answers ≡ own_read list c ∷ map as_read told.replies
     pub stops : StopsSoon r (own ∷ []) told.replies
 
   -- a get of the key is answered: it uses the first answer of each of r homes, each after so many
-  -- steps, and its row is the merge of theirs
+  -- steps, as it tells, and its row is the merge of theirs
   pub record IsGot (list : Preferred) (key : List ℕ) (r since : ℕ) (told : Told J)
       (done : GetDone J) : Type 0 where
     pub coordinator : ℕ
@@ -71,6 +72,7 @@ module _ {J : Type 0} where
     pub gathers :
         Gathers list key r since coordinator own told done.seen.items done.answers.items
     pub used : AreUsed key r since (first_answers done.seen.items)
+    pub since_is : done.since ≡ since
     pub from : done.from.items ≡ map answer_place (first_answers done.seen.items)
     pub row_key : done.row.key ≡ key
     pub row : IsSameRow done.row.versions (newest (rows_of (first_answers done.seen.items)))

@@ -1,4 +1,6 @@
 pub mod Gets
 pub mod Puts
+pub mod PutDones
 pub mod PutEnds
+pub mod Sure
 pub mod inside

@@ -15,36 +15,36 @@ use Rattle.dy_node.specs.declared.begun.Begun.{Begun}
 use Rattle.dy_transport.specs.Asking.{IsBegun}
 use Rattle.dy_transport.specs.Refusals.{IsOfBegin, IsOfStep}
 use Rattle.dy_transport.specs.Snapshots.{snapshot_of}
-use Rattle.dy_transport.specs.Tellings.{IsAckTold}
 use Rattle.dy_transport.specs.Told.{Told}
 use Rattle.dy_transport.specs.declared.tries.Try.{Try}
 use Rattle.dy_transport.specs.declared.tries.Try.TheVariants.{Record}
 use Rattle.dy_transport.specs.declared.kinds.AnswerRead.{AnswerRead}
 use Rattle.dy_reads.specs.Lists.{homes_in}
 use Rattle.dy_reads.specs.Tries.{TriesRefused, TriesAt, begin_try, downs}
+use Rattle.dy_coord.specs.PutDones.{IsPutDone}
 use Rattle.dy_coord.specs.Puts.{Spreads}
 use Rattle.dy_coord.specs.declared.put_results.PutDone.{PutDone}
 use Rattle.dy_coord.specs.declared.put_results.PutFault.{PutFault}
 
--- refused with this dot, and with these answers, for such a reason
-abbrev pub PutRefuses : Result PutDone PutFault → Option Dot → List AnswerRead → (Fault → Type 0)
-    → Type 0
-PutRefuses result dot answers IsReason =
-    (e : PutFault) × (result ≡ Err e) × (e.dot ≡ dot) × (e.answers.items ≡ answers)
-    × IsReason e.fault
-
--- Ok with this dot and these answers, and the session was told one ack more, of the key and the
--- dot, with the number of homes that was named, for which these receipts were spent
-pub record Acknowledges (key : List ℕ) (dot : Dot) (w : ℕ) (spent : List ReceiptParts)
-    (answers : List AnswerRead) (before after : SessionPart) (result : Result PutDone PutFault)
-    : Type 0 where
-  pub done : PutDone
-  pub result_is : result ≡ Ok done
-  pub dot_is : done.dot ≡ dot
-  pub answers_are : done.answers.items ≡ answers
-  pub tells : IsAckTold before after key dot w spent
-
 module _ {J : Type 0} where
+  -- refused with this dot, and with these answers, for such a reason
+  abbrev pub PutRefuses : Result (PutDone J) PutFault → Option Dot → List AnswerRead
+      → (Fault → Type 0) → Type 0
+  PutRefuses result dot answers IsReason =
+      (e : PutFault) × (result ≡ Err e) × (e.dot ≡ dot) × (e.answers.items ≡ answers)
+      × IsReason e.fault
+
+  -- Ok with this dot, these receipts and these answers, and the session was told of that put
+  pub record Acknowledges (key : List ℕ) (dot : Dot) (w : ℕ) (spent : List ReceiptParts)
+      (answers : List AnswerRead) (before after : SessionPart)
+      (result : Result (PutDone J) PutFault) : Type 0 where
+    pub done : PutDone J
+    pub result_is : result ≡ Ok done
+    pub dot_is : done.dot ≡ dot
+    pub spent_are : done.spent.items ≡ spent
+    pub answers_are : done.answers.items ≡ answers
+    pub tells : IsPutDone before after key w done
+
   -- the ack was tried, as the last try behind these, with w of the receipts that came, of distinct
   -- homes and distinct holders; and the try gave this
   pub record IsRecorded (w : ℕ) (added : List ReceiptParts) (before tries : List (Try J))
@@ -58,7 +58,7 @@ module _ {J : Type 0} where
   -- nothing more is tried, and there are not enough
   abbrev pub EndsAfter : List ℕ → Dot → ℕ → List ReceiptParts → List AnswerRead
       → List (Try J) → List (Try J) → SessionPart → SessionPart
-      → Result PutDone PutFault → Type 0
+      → Result (PutDone J) PutFault → Type 0
   EndsAfter key dot w added answers begins tries before after result =
       ((spent : Vec ReceiptParts Global) × IsRecorded w added begins tries spent (Ok tt)
       × Acknowledges key dot w spent.items answers before after result)
@@ -71,7 +71,7 @@ module _ {J : Type 0} where
   -- that it holds for; its whole row was asked to be held; and how it ended
   pub record IsPut (list : Preferred) (w : ℕ) (key : List ℕ) (context : DotSet)
       (value : Option (List ℕ)) (before after : SessionPart) (told : Told J)
-      (result : Result PutDone PutFault) (c : ℕ) (begun : Begun J) : Type 0 where
+      (result : Result (PutDone J) PutFault) (c : ℕ) (begun : Begun J) : Type 0 where
     pub added : List ReceiptParts
     pub answers : List AnswerRead
     pub begins : List (Try J)
@@ -92,7 +92,7 @@ module _ {J : Type 0} where
   -- a put that named a number of homes that there are: it began, or it asked nobody, made no
   -- version and told the session nothing
   abbrev pub PutRuns : Preferred → ℕ → List ℕ → DotSet → Option (List ℕ)
-      → SessionPart → SessionPart → Told J → Result PutDone PutFault → Type 0
+      → SessionPart → SessionPart → Told J → Result (PutDone J) PutFault → Type 0
   PutRuns list w key context value before after told result =
       ((c : ℕ) × (begun : Begun J)
       × IsPut list w key context value before after told result c begun)
@@ -101,7 +101,7 @@ module _ {J : Type 0} where
 
   -- any number of homes but 1 to n is refused before anybody is tried or asked
   abbrev pub PutEnds : Preferred → ℕ → List ℕ → DotSet → Option (List ℕ)
-      → SessionPart → SessionPart → Told J → Told J → Result PutDone PutFault → Type 0
+      → SessionPart → SessionPart → Told J → Told J → Result (PutDone J) PutFault → Type 0
   PutEnds list w key context value before after old new result =
       ((1 ≤ w) × (w ≤ list.n) × PutRuns list w key context value before after new result)
       ⊎ (((w ≡ 0) ⊎ (list.n < w)) × (after ≡ before) × (new ≡ old)

@@ -1,6 +1,6 @@
 -- What a put asks and reads.
-use Rattle.std.specs.Prelude.{◌≡◌, ◌++◌, ◌∷◌, [], List, ℕ, map}
-use Rattle.std.specs.List.{All}
+use Rattle.std.specs.Prelude.{◌≡◌, ◌++◌, ◌∷◌, [], List, ℕ, map, nat_eq}
+use Rattle.std.specs.List.{All, Contains, IsDistinct}
 use Rattle.dy_dots.specs.declared.dots.Dot.{Dot}
 use Rattle.dy_siblings.specs.Siblings.{Siblings}
 use Rattle.dy_preference.specs.Preferences.{Preferred, home_for}
@@ -21,6 +21,17 @@ use Rattle.dy_reads.specs.Rules.{AllUsed, AsksByRule, IsReadOut, IsReplyTo, as_r
 abbrev pub own_answer : Preferred → ℕ → AnswerRead
 own_answer list c =
     record { place = record { holder = c; home = home_for (homes_in list) c }; kind = kind.Stored }
+
+-- one of the answers says that its node holds the row for the home
+pub record IsStoredFor (answers : List AnswerRead) (home : ℕ) : Type 0 where
+  pub answer : AnswerRead
+  pub in_list : Contains answers answer
+  pub home_is : answer.place.home ≡ home
+  pub kind_is : answer.kind ≡ kind.Stored
+
+-- these homes are distinct, and for each a node answered that it holds the row
+abbrev pub AreStoredFor : List AnswerRead → List ℕ → Type 0
+AreStoredFor answers homes = IsDistinct nat_eq homes × All (IsStoredFor answers) homes
 
 -- the coordinator's own receipt
 abbrev pub own_receipt : Preferred → List ℕ → Dot → ℕ → ReceiptParts

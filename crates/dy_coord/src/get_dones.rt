@@ -1,19 +1,24 @@
-ghost use Rattle.std.specs.Prelude.{◌≡◌, map, IfOk, IsOkUnless};
+ghost use Rattle.std.specs.Prelude.{◌≡◌, ◌↔◌, map, IfOk, IsOkUnless, IsTrue};
+ghost use Rattle.std.specs.List.{All};
 ghost use Rattle.dy_siblings.specs.Siblings.{IsSiblingSet, present_values};
+ghost use Rattle.dy_coord.specs.Sure.{IsSureOf};
 
+use crate::put_results::PutDone;
+use dy_book::Options;
 use dy_core::Place;
 use dy_dots::{Context, Dot, Fault};
-use dy_shares::{Naming, Seen};
-use dy_siblings::{Row, Value};
+use dy_shares::{Naming, Receipt, Seen};
+use dy_siblings::{Key, Row, Value};
 use dy_transport::AnswerRead;
 use std::alloc::Global;
 
-/// A get that was answered: the merged row and its context, where the rows come from, each row that
-/// was seen, and each answer that was read.
+/// A get that was answered: the merged row and its context, how many steps its session knew of
+/// before it, where the rows come from, each row that was seen, and each answer that was read.
 #[derive(Drop)]
 pub struct GetDone<J: Naming> {
     pub row: Row,
     pub context: Context,
+    pub since: usize,
     pub from: Vec<Place>,
     pub seen: Vec<Seen<J>>,
     pub answers: Vec<AnswerRead>,
@@ -31,4 +36,47 @@ impl<J: Naming> GetDone<J> {
         let _versions = self.row.versions();
         self.row.values(alloc)
     }
+
+    /// Whether homes themselves gave the rows that it used, and no stand-in. Takes no memory.
+    pub fn is_of_homes(&self) -> bool
+        ensures { IsTrue result ↔ All (λ place. place.holder ≡ place.home) self.now.from.items }
+    {
+        are_of_homes(self.from.as_slice())
+    }
+
+    /// Whether it is sure to have the version of the put, or one that causally follows it, in a
+    /// cluster of these options: where it is false the get may have it too. Takes no memory.
+    pub fn sees(&self, put: &PutDone<J>, options: &Options) -> bool
+        ensures { IsTrue result ↔ IsSureOf options.now.n self.now put.now }
+    {
+        let homes = self.from.len().saturating_add(put.homes_themselves());
+        usize::from(options.n) < homes
+            && put.at <= self.since
+            && self.is_of_homes()
+            && are_of_key(put.spent.as_slice(), self.row.key())
+    }
+}
+
+// Whether each of these places is of a home itself.
+fn are_of_homes(places: &[Place]) -> bool
+    ensures { IsTrue result ↔ All (λ place. place.holder ≡ place.home) places.now }
+{
+    for place in places {
+        if place.holder != place.home {
+            return false;
+        }
+    }
+    true
+}
+
+// Whether each of these receipts is of the key.
+fn are_of_key<J: Naming>(receipts: &[Receipt<J>], key: &Key) -> bool
+    ensures { IsTrue result ↔ All (λ receipt. receipt.key ≡ key.now) receipts.now }
+{
+    for receipt in receipts {
+        if receipt.key() != key {
+            return false;
+        }
+    }
+    true
 }

@@ -54,7 +54,8 @@ pub(crate) fn finish<J: Naming>(
     requires count { length (first_answers gathering.seens) ≡ J.r }
     requires one_key { (key : List ℕ) × All (λ a. a.key ≡ key) gathering.seens }
     requires later { All (λ a. since_of session.old < a.at) gathering.seens }
-    ensures ok { IfOk result (λ done. Finishes gathering.seens answers.items done) }
+    ensures ok { IfOk result (λ done.
+        Finishes (since_of session.old) gathering.seens answers.items done) }
     ensures key { (key : List ℕ) → All (λ a. a.key ≡ key) gathering.seens →
         IfOk result (λ done. done.row.key ≡ key) }
     ensures told { OnOk result (session.new ≡
@@ -63,12 +64,14 @@ pub(crate) fn finish<J: Naming>(
     ensures memory { IfErr result (λ e. e.fault ≡ Fault.OutOfMemory) }
     ensures listed { IfErr result (λ e. e.answers.items ≡ answers.items) }
 {
+    let since = session.since().at();
     match tell(alloc, &gathering, session) {
         Ok((row, context)) => {
             let (seen, from) = gathering.into_parts();
             Ok(GetDone {
                 row,
                 context,
+                since,
                 from,
                 seen,
                 answers,

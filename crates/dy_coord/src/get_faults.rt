@@ -11,6 +11,14 @@ pub struct GetFault {
     pub answers: Vec<AnswerRead>,
 }
 
+impl From<GetFault> for Fault {
+    ghost from_gives = { λ refused fault. fault ≡ refused.fault };
+
+    fn from(refused: GetFault) -> Fault {
+        refused.fault
+    }
+}
+
 impl GetFault {
     // A refusal before anything was read.
     pub(crate) fn early(alloc: Global, fault: Fault) -> GetFault

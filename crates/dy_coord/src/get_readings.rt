@@ -1,6 +1,6 @@
-ghost use Rattle.std.specs.Prelude.{◌≡◌, ◌<◌, ◌≤◌, ◌+◌, ◌*◌, ℕ, [], ◌∷◌, ◌++◌, map, length};
-ghost use Rattle.std.specs.Prelude.{vec_len, vec_capacity, IfNone, IfSome};
-ghost use Rattle.std.specs.List.{All};
+ghost use Rattle.std.specs.Prelude.{◌≡◌, ◌<◌, ◌≤◌, ◌+◌, ◌*◌, ℕ, List, [], ◌∷◌, ◌++◌, map};
+ghost use Rattle.std.specs.Prelude.{length, vec_len, vec_capacity, IfNone, IfSome};
+ghost use Rattle.std.specs.List.{All, Contains};
 ghost use Rattle.dy_dots.specs.declared.nodes.TheConstants.{MAX_NODES};
 ghost use Rattle.dy_preference.specs.Preferences.{IsPreferred, home_for};
 ghost use Rattle.dy_quorum.specs.Gatherings.{first_answers};
@@ -68,6 +68,10 @@ fn read_rows<J: Naming, T: Transport<J>, R: Wait>(
     ensures stops { StopsSoon gathering.old.r gathering.old.seens (T.told transport.new).replies }
     ensures out { length (first_answers gathering.new.seens) < gathering.old.r →
         IsReadOut (T.told transport.new) }
+    ensures for_homes { (homes : List ℕ) →
+        All (λ a. Contains homes a.home) (T.told transport.old).asks →
+        All (λ s. Contains homes s.home) gathering.old.seens →
+        All (λ s. Contains homes s.home) gathering.new.seens }
 {
     let request = Request::Fetch { key, since };
     'reading: for _ in rt.forever() {

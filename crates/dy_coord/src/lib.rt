@@ -6,6 +6,7 @@ mod get_endings;
 mod get_faults;
 mod get_readings;
 mod gets;
+pub mod laws;
 mod put_reads;
 mod put_results;
 mod puts;

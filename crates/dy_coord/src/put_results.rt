@@ -1,15 +1,35 @@
-ghost use Rattle.std.specs.Prelude.{◌≡◌, [], None};
+ghost use Rattle.std.specs.Prelude.{◌≡◌, [], None, length};
+ghost use Rattle.dy_shares.specs.Shares.{own_homes};
 
 use dy_dots::{Dot, Fault};
+use dy_shares::{Naming, Receipt};
 use dy_transport::AnswerRead;
 use std::alloc::Global;
 
-/// A put that was acknowledged: its dot, and every answer that was read, the coordinator's own
-/// first.
-#[derive(Debug, Drop)]
-pub struct PutDone {
+/// A put that was acknowledged: its dot, the number of the step of its ack, the receipts that were
+/// spent for it, and every answer that was read, the coordinator's own first.
+#[derive(Drop)]
+pub struct PutDone<J: Naming> {
     pub dot: Dot,
+    pub at: usize,
+    pub spent: Vec<Receipt<J>>,
     pub answers: Vec<AnswerRead>,
+}
+
+impl<J: Naming> PutDone<J> {
+    /// How many of the homes that it was acknowledged for hold the version themselves, and not by a
+    /// stand-in alone. Takes no memory.
+    pub fn homes_themselves(&self) -> usize
+        ensures { result ≡ length (own_homes self.now.spent.items) }
+    {
+        let mut count = 0;
+        for receipt in self.spent.as_slice() {
+            if receipt.holder() == receipt.home() {
+                count += 1;
+            }
+        }
+        count
+    }
 }
 
 /// A put that was refused: its dot where a version was made, and every answer that was read, the
@@ -19,6 +39,14 @@ pub struct PutFault {
     pub fault: Fault,
     pub dot: Option<Dot>,
     pub answers: Vec<AnswerRead>,
+}
+
+impl From<PutFault> for Fault {
+    ghost from_gives = { λ refused fault. fault ≡ refused.fault };
+
+    fn from(refused: PutFault) -> Fault {
+        refused.fault
+    }
 }
 
 impl PutFault {

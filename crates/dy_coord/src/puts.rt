@@ -6,13 +6,13 @@ ghost use Rattle.dy_siblings.specs.Siblings.{has_dot};
 ghost use Rattle.dy_preference.specs.Preferences.{IsPreferred, home_for, preference_of};
 ghost use Rattle.dy_shares.specs.Shares.{receipt_parts};
 ghost use Rattle.dy_book.specs.Books.{AreOf};
-ghost use Rattle.dy_transport.specs.Tellings.{IsAckHeard};
 ghost use Rattle.dy_transport.specs.Told.{Told};
 ghost use Rattle.dy_transport.specs.declared.transports.TheConstants.{SPARE_TRIES};
 ghost use Rattle.dy_coord.specs.inside.PutReads.{with_tries};
 ghost use Rattle.dy_reads.specs.Lists.{homes_in};
 ghost use Rattle.dy_coord.specs.Puts.{Spreads};
 ghost use Rattle.dy_coord.specs.PutEnds.{EndsAfter, PutEnds, PutRuns};
+ghost use Rattle.dy_coord.specs.PutDones.{IsPutDone};
 ghost use Rattle.dy_coord.specs.declared.put_reads.TheConstants.{MAX_ANSWERS};
 
 use crate::put_reads::{MAX_ANSWERS, read_put};
@@ -106,7 +106,7 @@ fn conclude<J: Naming, T: Transport<J>, R: Wait>(
     tally: Tally<J>,
     answers: Vec<AnswerRead>,
     session: &mut SessionShare<J>,
-) -> Result<PutDone, PutFault>
+) -> Result<PutDone<J>, PutFault>
     requires room { length (T.told transport.old).tries
         < (T.told transport.old).room + SPARE_TRIES }
     requires some { 1 ≤ w }
@@ -129,7 +129,16 @@ fn conclude<J: Naming, T: Transport<J>, R: Wait>(
     }
     let receipts = tally.into_receipts();
     match transport.record(rt, session, w, &receipts) {
-        Ok(()) => Ok(PutDone { dot, answers }),
+        Ok(()) => {
+            // The ack is the last step that the session was told.
+            let last = session.since().at();
+            Ok(PutDone {
+                dot,
+                at: last,
+                spent: receipts,
+                answers,
+            })
+        }
         Err(fault) => Err(PutFault {
             fault,
             dot: Some(dot),
@@ -149,7 +158,7 @@ fn put_in_range<J: Naming, T: Transport<J>, R: Wait>(
     key: &Key,
     context: &Context,
     value: &Option<Value>,
-) -> Result<PutDone, PutFault>
+) -> Result<PutDone<J>, PutFault>
     requires fresh_tries { (T.told transport.old).tries ≡ [] }
     requires fresh_asks { (T.told transport.old).asks ≡ [] }
     requires fresh_replies { (T.told transport.old).replies ≡ [] }
@@ -201,7 +210,7 @@ pub fn put<J: Naming, T: Transport<J>, R: Wait>(
     key: &Key,
     context: &Context,
     value: Option<Value>,
-) -> Result<PutDone, PutFault>
+) -> Result<PutDone<J>, PutFault>
     requires fresh_tries { (T.told transport.old).tries ≡ [] }
     requires fresh_asks { (T.told transport.old).asks ≡ [] }
     requires fresh_replies { (T.told transport.old).replies ≡ [] }
@@ -210,8 +219,7 @@ pub fn put<J: Naming, T: Transport<J>, R: Wait>(
     requires homes { list.now.n ≡ J.n }
     ensures ends { PutEnds {J = J} list.now w key.now context.now value
         session.old session.new (T.told transport.old) (T.told transport.new) result }
-    ensures ok { IfOk result
-        (λ done. IsAckHeard session.old session.new key.now done.dot w) }
+    ensures ok { IfOk result (IsPutDone session.old session.new key.now w) }
     ensures err { OnErr result (session.new ≡ session.old) }
 {
     if w < 1 {

@@ -31,14 +31,6 @@ use Rattle.dy_lines.specs.declared.outcomes.Outcome.TheVariants.{Delivered, Hand
 use Rattle.dy_lines.specs.declared.outcomes.Word.{Word}
 use Rattle.dy_lines.specs.declared.outcomes.Word.TheVariants as word
 
--- the outcome tells the answer of a put: its dot and its answers, or its refusal, with all answers
--- where there were not enough, and else with the version that it made, where it made one
-abbrev pub TellsPut : Word → Result PutDone PutFault → Outcome → Type 0
-TellsPut word (Ok done) outcome = outcome ≡ Stored word done.dot done.answers
-TellsPut word (Err e) outcome =
-    (e.fault ≡ NotEnough → outcome ≡ Lacking word e.dot e.answers)
-    × (e.fault ≢ NotEnough → outcome ≡ Refused word e.fault e.dot)
-
 -- the outcome of a delivery
 abbrev pub delivery_outcome : Result ℕ Fault → Outcome
 delivery_outcome (Ok count) = Delivered count
@@ -83,6 +75,14 @@ IsShowTold number key outcome =
     TellsRows number key outcome ⊎ ((f : Fault) × (outcome ≡ Refused word.Show f None))
 
 module _ {J : Type 0} where
+  -- the outcome tells the answer of a put: its dot and its answers, or its refusal, with all
+  -- answers where there were not enough, and else with the version that it made, where it made one
+  abbrev pub TellsPut : Word → Result (PutDone J) PutFault → Outcome → Type 0
+  TellsPut word (Ok done) outcome = outcome ≡ Stored word done.dot done.answers
+  TellsPut word (Err e) outcome =
+      (e.fault ≡ NotEnough → outcome ≡ Lacking word e.dot e.answers)
+      × (e.fault ≢ NotEnough → outcome ≡ Refused word e.fault e.dot)
+
   -- the outcome tells the answer of a get: its context, whose rows it used, and the merged row, or
   -- its refusal, with all answers where there were not enough
   abbrev pub TellsGet : Result (GetDone J) GetFault → Outcome → Type 0
@@ -96,7 +96,7 @@ pub record IsPutTold (J : Type 0) (list : Preferred) (w : ℕ) (key : List ℕ) 
     (value : Option (List ℕ)) (word : Word) (outcome : Outcome)
     (before after : SessionPart) : Type 0 where
   pub told : Told J
-  pub answer : Result PutDone PutFault
+  pub answer : Result (PutDone J) PutFault
   pub ends :
       PutEnds {J = J} list w key context value before after (nothing_told MAX_NODES) told answer
   pub tells : TellsPut word answer outcome

@@ -111,6 +111,7 @@ fn read<J: Naming>(answer: Result<GetDone<J>, GetFault>) -> Outcome
             let GetDone {
                 row,
                 context,
+                since: _,
                 from,
                 seen: _,
                 answers: _,

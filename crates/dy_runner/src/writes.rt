@@ -148,7 +148,7 @@ fn write_in<J: Naming, R: Wait>(
 }
 
 // What came of a put, as its line tells it.
-fn written(word: Word, answer: Result<PutDone, PutFault>) -> Outcome
+fn written<J: Naming>(word: Word, answer: Result<PutDone<J>, PutFault>) -> Outcome
     ensures { TellsPut word answer result }
 {
     match answer {

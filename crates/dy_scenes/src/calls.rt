@@ -18,7 +18,7 @@ pub fn put_over<J: Naming, T: Transport<J>, R: Wait>(
     stage: &Stage<'_, J>,
     session: &mut SessionShare<J>,
     w: u8,
-) -> Result<Result<PutDone, PutFault>, Fault>
+) -> Result<Result<PutDone<J>, PutFault>, Fault>
     requires { T.told transport.old ≡ nothing_told 32 }
 {
     let value = Value::new(stage.alloc, b"x")?;
@@ -43,7 +43,7 @@ fn put_over_direct<J: Naming, R: Wait>(
     stage: &Stage<'_, J>,
     session: &mut SessionShare<J>,
     w: u8,
-) -> Result<Result<PutDone, PutFault>, Fault>
+) -> Result<Result<PutDone<J>, PutFault>, Fault>
     requires { direct.old ≡ nothing_told 32 }
 {
     put_over(rt, direct, stage, session, w)
@@ -55,7 +55,7 @@ pub fn put_directly<J: Naming, R: Wait>(
     stage: &Stage<'_, J>,
     session: &mut SessionShare<J>,
     w: u8,
-) -> Result<Result<PutDone, PutFault>, Fault> {
+) -> Result<Result<PutDone<J>, PutFault>, Fault> {
     let mut direct = Direct::new(stage.alloc, stage.nodes, stage.book, 32)?;
     put_over_direct(rt, &mut direct, stage, session, w)
 }

@@ -43,7 +43,7 @@ fn put_over_lossy<J: Naming, R: Wait>(
     stage: &Stage<'_, J>,
     session: &mut SessionShare<J>,
     w: u8,
-) -> Result<Result<PutDone, PutFault>, Fault>
+) -> Result<Result<PutDone<J>, PutFault>, Fault>
     requires { lossy.old.line.told ≡ nothing_told 32 }
 {
     put_over(rt, lossy, stage, session, w)
@@ -55,7 +55,7 @@ pub fn put_lossy<J: Naming, R: Wait>(
     stage: &Stage<'_, J>,
     session: &mut SessionShare<J>,
     w: u8,
-) -> Result<Result<PutDone, PutFault>, Fault> {
+) -> Result<Result<PutDone<J>, PutFault>, Fault> {
     let mut lossy = lossy_on(stage)?;
     put_over_lossy(rt, &mut lossy, stage, session, w)
 }

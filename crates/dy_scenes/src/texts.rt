@@ -35,7 +35,10 @@ fn write_dot(out: &mut String, dot: Option<Dot>) -> Result<(), Fault> {
 }
 
 // What came of a put.
-pub fn write_put(out: &mut String, ended: &Result<PutDone, PutFault>) -> Result<(), Fault> {
+pub fn write_put<J: Naming>(
+    out: &mut String,
+    ended: &Result<PutDone<J>, PutFault>,
+) -> Result<(), Fault> {
     match ended {
         Ok(done) => {
             write!(out, "put ok {}", done.dot)?;

@@ -60,7 +60,7 @@ pub fn put_wrapped<J: Naming, R: Wait>(
     stage: &Stage<'_, J>,
     session: &mut SessionShare<J>,
     w: u8,
-) -> Result<Result<PutDone, PutFault>, Fault>
+) -> Result<Result<PutDone<J>, PutFault>, Fault>
     requires { wrapped.old.direct ≡ nothing_told 32 }
 {
     put_over(rt, wrapped, stage, session, w)

@@ -52,10 +52,10 @@ acked before after key dot w spent is = (
 
 ends : {J : Type 0} (key : List ℕ) (dot : Dot) (w : ℕ) (added : List ReceiptParts)
     (answers : List AnswerRead) (begins tries : List (Try J)) (before after : SessionPart)
-    (answer : Result PutDone PutFault)
+    (answer : Result (PutDone J) PutFault)
     → EndsAfter key dot w added answers begins tries before after answer → Grows before after 0 1
 ends key dot w added answers begins tries before after answer (inl (spent, last, ok)) =
-    acked before after key dot w spent.items ok.tells
+    acked before after key ok.done.dot w ok.done.spent.items ok.tells.tells
 ends key dot w added answers begins tries before after answer (inr (inl (same, why))) =
     unchanged before after 0 1 same
 ends key dot w added answers begins tries before after answer (inr (inr (can, none, same, why))) =
@@ -64,7 +64,7 @@ ends key dot w added answers begins tries before after answer (inr (inr (can, no
 -- a put tells its session one ack at most, and no get
 put_grows : {J : Type 0} (list : Preferred) (w : ℕ) (key : List ℕ) (context : DotSet)
     (value : Option (List ℕ)) (before after : SessionPart) (old new : Told J)
-    (answer : Result PutDone PutFault)
+    (answer : Result (PutDone J) PutFault)
     → PutEnds {J = J} list w key context value before after old new answer →
     Grows before after 0 1
 put_grows list w key context value before after old new answer (inl (some, few, inl run)) =

@@ -44,7 +44,7 @@ IsGetOf J list r key (Some context) before after =
 pub record HasPut (J : Type 0) (list : Preferred) (key : List ℕ) (context : DotSet)
     (value : List ℕ) (before after : SessionPart) : Type 0 where
   pub told : Told J
-  pub answer : Result PutDone PutFault
+  pub answer : Result (PutDone J) PutFault
   pub ends : PutEnds {J = J} list 2 key context (Some value) before after
       (nothing_told MAX_NODES) told answer
 

@@ -11,8 +11,3 @@ pub record IsAckTold (before after : SessionPart) (key : List ℕ) (dot : Dot) (
   pub at : ℕ
   pub later : since_of before < at
   pub told : after ≡ with_ack before at (Ack key dot w) spent
-
--- the same, whatever receipts were spent
-abbrev pub IsAckHeard : SessionPart → SessionPart → List ℕ → Dot → ℕ → Type 0
-IsAckHeard before after key dot w =
-    (spent : List ReceiptParts) × IsAckTold before after key dot w spent

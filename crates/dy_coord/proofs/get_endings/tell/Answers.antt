@@ -5,7 +5,7 @@ use Rattle.std.specs.List.{All, IsDistinct}
 use Rattle.dy_siblings.specs.Siblings.{IsSameRow, newest}
 use Rattle.dy_core.specs.Logs.{Answer, rows_of}
 use Rattle.dy_shares.specs.Shares.{since_of}
-use Rattle.dy_quorum.specs.Gatherings.{answer_homes, first_answers}
+use Rattle.dy_quorum.specs.Gatherings.{answer_homes}
 use Rattle.dy_coord.proofs.Getting.{all_firsts, firsts_apart}
 use Rattle.dy_coord.proofs.get_endings.tell.Goals as goal
 

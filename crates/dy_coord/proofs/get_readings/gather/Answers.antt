@@ -1,9 +1,9 @@
 -- There is room for all that may be asked and read, and what was read is the coordinator's own row
 -- and what the replies bring.
-use Rattle.std.proofs.Common.{◌≡◌, ◌<◌, ◌≤◌, ◌+◌, ◌∷◌, [], List, length, arith, sym, ◌∙◌}
-use Rattle.std.proofs.Common.{refl, ap, subst}
-use Rattle.std.proofs.lemmas.List.Elements.{All-cons}
-use Rattle.std.specs.List.{All}
+use Rattle.std.proofs.Common.{◌≡◌, ◌<◌, ◌≤◌, ◌+◌, ◌∷◌, List, length, arith, sym, ◌∙◌}
+use Rattle.std.proofs.Common.{[], refl, ap, subst}
+use Rattle.std.proofs.lemmas.List.Elements.{All-cons, All-nil}
+use Rattle.std.specs.List.{All, Contains}
 use Rattle.dy_preference.specs.Preferences.{home_for, stand_ins_of}
 use Rattle.dy_core.specs.Logs.{Answer}
 use Rattle.dy_transport.specs.Snapshots.{snapshot_of}
@@ -11,8 +11,9 @@ use Rattle.dy_transport.specs.declared.asked.Asked.{Asked}
 use Rattle.dy_transport.specs.declared.asked.What.TheVariants.{Fetch}
 use Rattle.dy_reads.specs.Lists.{homes_in}
 use Rattle.dy_reads.specs.Rules.{home_asks}
-use Rattle.dy_reads.proofs.Lists.{few_asked, all_home_whats, all_used}
+use Rattle.dy_reads.proofs.Lists.{few_asked, all_home_whats, all_used, held_is_home}
 use Rattle.dy_coord.specs.Gets.{seens_of}
+use Rattle.dy_coord.proofs.ForHomes.{home_asks_for}
 use Rattle.dy_coord.proofs.Getting.{IsLaterOf, seens_fit}
 use Rattle.dy_coord.proofs.get_readings.gather.Goals as goal
 
@@ -85,6 +86,13 @@ returns-clause-collects g c =
       asks = ap (λ p. p.0) reading.so_far;
       known = reading.known;
       seens_are = seens;
+      for_homes = c.read_rows.ensures.for_homes (homes_in list)
+          (rw is (home_asks_for what (home_for (homes_in list) co) (homes_in list)))
+          (rw (c.add.ensures, c.requires.none)
+          (All-cons (λ s. Contains (homes_in list) s.home) own []
+          (subst (Contains (homes_in list)) (sym c.requires.own.home_is)
+          (held_is_home list co c.requires.valid))
+          (All-nil (λ s. Contains (homes_in list) s.home))));
       answers_are = c.read_rows.ensures.answers
           ∙ rw (
             c.push_reserved.ensures.items,

@@ -1,6 +1,8 @@
 -- One answer more: what the loop keeps stays true, field by field, whether it has a row or not. The
 -- loop ends with the gathering ready, or with nothing left to read.
 use Rattle.std.proofs.Common.{rules, ◌<◌, ◌≤◌, ◌+◌, length, arith}
+use Rattle.std.proofs.lemmas.List.Elements.{All-push}
+use Rattle.std.specs.List.{Contains}
 use Rattle.std.proofs.Common.{◌∙◌, refl, ap, vec_len, vec_capacity}
 use Rattle.dy_quorum.specs.Gatherings.{first_answers}
 use Rattle.dy_transport.specs.Snapshots.{snapshot_of}
@@ -11,6 +13,7 @@ use Rattle.dy_reads.proofs.Readings.{reading_step, reading_count, listed_more}
 use Rattle.dy_reads.proofs.Readings.{len_more}
 use Rattle.dy_coord.proofs.Getting.{stops_after, seens_added, seens_kept, count_added, count_kept}
 use Rattle.dy_coord.proofs.Getting.{most_added}
+use Rattle.dy_coord.proofs.ForHomes.{asks_for, seen_for}
 use Rattle.dy_coord.proofs.get_readings.read_rows.Goals as goal
 use Rattle.dy_coord.proofs.get_readings.read_rows.Goals.{in-None, in-Some+then-is_ready}
 use Rattle.dy_coord.proofs.get_readings.read_rows.Goals.{in-Some+else-is_ready+in_default}
@@ -82,6 +85,12 @@ reading-preserved-in-Some-seen_of g c =
       r = ap (λ t. t.r) c.add.ensures ∙ inv.r;
       most = most_added _ _ _ _ below now;
       stops = stops_after _ _ _ told.replies new.replies r inv.seens below q.replies;
+      for_homes = λ homes asks seens. (let was = inv.for_homes homes asks seens in (
+        asks_for homes what told new _ _ _ _ _ _ was.0 q,
+        rw now (All-push (λ s. Contains homes s.home) c.reading.gathering.seens _ was.1
+            (seen_for homes told.asks _ _ _ _ _ c.args.key.now c.args.since.now
+            inv.reading.whats was.0 q.answers c.in-Some-seen_of.ensures.some)),
+      ));
       answers = listed_more _ _ _ told.replies new.replies r _
           c.in-Some-read_next.ensures.listed refl inv.answers q.replies;
       answers_len = len_more told.replies new.replies r _ _ _
@@ -115,6 +124,8 @@ reading-preserved g c =
       r = inv.r;
       most = inv.most;
       stops = stops_after _ _ _ told.replies new.replies r inv.seens below q.replies;
+      for_homes = λ homes asks seens. (let was = inv.for_homes homes asks seens in
+          (asks_for homes what told new _ _ _ _ _ _ was.0 q, was.1));
       answers = listed_more _ _ _ told.replies new.replies r _
           c.in-Some-read_next.ensures.listed refl inv.answers q.replies;
       answers_len = len_more told.replies new.replies r _ _ _

@@ -1,4 +1,5 @@
-use Rattle.std.proofs.Common.{◌≡◌, ◌≤◌, ◌+◌, ◌++◌, length, map, vec_len, vec_capacity}
+use Rattle.std.proofs.Common.{◌≡◌, ◌≤◌, ◌+◌, ◌++◌, List, ℕ, length, map, vec_len, vec_capacity}
+use Rattle.std.specs.List.{All, Contains}
 use Rattle.dy_quorum.specs.Gatherings.{first_answers}
 use Rattle.dy_transport.specs.Snapshots.{snapshot_of}
 use Rattle.dy_transport.specs.declared.asked.What.TheVariants.{Fetch}
@@ -21,6 +22,10 @@ invariant-reading g l =
       r : l.gathering.r ≡ l.initial.gathering.r;
       most : length (first_answers l.gathering.seens) ≤ l.initial.gathering.r;
       stops : StopsSoon l.initial.gathering.r l.initial.gathering.seens told.replies;
+      for_homes : (homes : List ℕ) → All (λ a. Contains homes a.home) start.asks →
+          All (λ s. Contains homes s.home) l.initial.gathering.seens →
+          All (λ a. Contains homes a.home) told.asks
+          × All (λ s. Contains homes s.home) l.gathering.seens;
       answers : l.answers.items ≡ l.initial.answers.items ++ map as_read told.replies;
       answers_len : vec_len l.answers ≡ vec_len l.initial.answers + length told.replies;
       answers_room : vec_capacity l.answers ≡ vec_capacity l.initial.answers;

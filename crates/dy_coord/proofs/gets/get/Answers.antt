@@ -1,11 +1,9 @@
 -- A get that gathered enough ends as it is finished, with what it gathered.
-use Rattle.std.proofs.Common.{◌≡◌, ◌≤◌, ◌∙◌, List, ℕ, length, arith, ap, refl, inl, inr}
+use Rattle.std.proofs.Common.{◌≡◌, ◌∙◌, List, ℕ, length, arith, ap, refl, inl, inr}
 use Rattle.dy_core.specs.Logs.{Answer as SeenParts}
 use Rattle.dy_shares.specs.Shares.{since_of}
 use Rattle.dy_quorum.specs.Gatherings.{first_answers}
 use Rattle.dy_transport.specs.declared.kinds.AnswerRead.{AnswerRead}
-use Rattle.dy_coord.specs.Gets.{Gathers}
-use Rattle.dy_coord.specs.inside.GetParts.{Collects}
 use Rattle.dy_coord.proofs.Getting.{are_used, gathered, got, lacking}
 use Rattle.dy_coord.proofs.gets.get.Goals as goal
 

@@ -2,6 +2,7 @@
 use Rattle.std.proofs.Common.{ℕ, sym, ◌∙◌, refl, subst, inl, inr}
 use Rattle.std.proofs.lemmas.Bool.{true≢false}
 use Rattle.dy_quorum.specs.Tallies.{CanChoose, IsChoice}
+use Rattle.dy_coord.proofs.Acked.{ack_is_last}
 use Rattle.dy_coord.proofs.Holders.{chosen_of}
 use Rattle.dy_coord.proofs.puts.conclude.Goals as goal
 
@@ -37,8 +38,8 @@ record-requires-clause-holders g c =
 pub returns-in-Ok-clause-told : goal.returns-in-Ok-clause-told
 returns-in-Ok-clause-told g c = rw c.record.ensures.told refl
 
-pub returns-clause-told : goal.returns-clause-told
-returns-clause-told g c = rw c.record.ensures.told refl
+pub returns-in-Err-clause-told : goal.returns-in-Err-clause-told
+returns-in-Err-clause-told g c = rw c.record.ensures.told refl
 
 pub returns-in-Ok-clause-ends : goal.returns-in-Ok-clause-ends
 returns-in-Ok-clause-ends g c =
@@ -51,16 +52,21 @@ returns-in-Ok-clause-ends g c =
       c.into_receipts-receipts.result,
       record { choice = mine; last = rw (c.record.ensures.told, c.in-Ok.is) refl },
       record {
-        done = record { dot = c.args.dot; answers = c.args.answers };
+        done = _;
         result_is = refl;
         dot_is = refl;
+        spent_are = refl;
         answers_are = refl;
-        tells = tells;
+        tells = record {
+          tells = tells;
+          at_is = c.at-last.ensures
+              ∙ (c.since.ensures ∙ ack_is_last _ _ c.args.key.now c.args.dot c.args.w _ tells);
+        };
       },
     )
 
-pub returns-clause-ends : goal.returns-clause-ends
-returns-clause-ends g c =
+pub returns-in-Err-clause-ends : goal.returns-in-Err-clause-ends
+returns-in-Err-clause-ends g c =
     let mine : IsChoice c.args.w c.args.tally.added c.into_receipts-receipts.result.items =
     rw c.requires.w at c.into_receipts-receipts.ensures.choice in
     inr (inl (
