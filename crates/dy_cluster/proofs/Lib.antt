@@ -3,5 +3,6 @@ pub mod Sent
 pub mod Seated
 pub mod Shown
 pub mod Firsts
+pub mod Guarantees
 pub mod StoreCovers
 pub mod Together

@@ -1,6 +1,7 @@
 pub mod Deliveries
 pub mod Ends
 pub mod Firsts
+pub mod Guarantees
 pub mod Lists
 pub mod Named
 pub mod Refusals

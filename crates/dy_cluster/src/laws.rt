@@ -1,13 +1,32 @@
-//! What the nodes of a closed cluster keep. Each is a function that does nothing.
-ghost use Rattle.std.specs.Prelude.{ℕ, ◌↔◌, List};
+//! What the nodes of a closed cluster keep, and what its sessions were sure to read. Each is a
+//! function that does nothing.
+ghost use Rattle.std.specs.Prelude.{◌≡◌, ◌<◌, ◌≤◌, ◌+◌, ℕ, ◌↔◌, List, IsTrue, false, length};
+ghost use Rattle.std.specs.Prelude.{take};
+ghost use Rattle.std.specs.List.{All, Contains};
 ghost use Rattle.dy_dots.specs.declared.dots.Dot.{Dot};
+ghost use Rattle.dy_siblings.specs.Siblings.{covers, newest};
+ghost use Rattle.dy_siblings.specs.Versions.{precedes};
+ghost use Rattle.dy_siblings.specs.declared.versions.Version.{Version};
 ghost use Rattle.dy_ring.specs.Rings.{Tokens};
+ghost use Rattle.dy_core.specs.Covers.{CoverThemselves};
+ghost use Rattle.dy_core.specs.Logs.{Answer, AnswerAgain, rows_of, world_after};
+ghost use Rattle.dy_core.specs.Worlds.{IsSettled};
 ghost use Rattle.dy_core.specs.declared.acks.Acked.{Acked};
-ghost use Rattle.dy_shares.specs.Shares.{SessionPart};
+ghost use Rattle.dy_shares.specs.Shares.{GetTold, IsAckSpent, IsOfHomes, SessionPart, steps_of};
 ghost use Rattle.dy_book.specs.Audits.{IsTold, TellsHeld};
-ghost use Rattle.dy_cluster.specs.Ends.{IsClosed};
+ghost use Rattle.dy_transport.specs.Told.{Told};
+ghost use Rattle.dy_coord.specs.Gets.{IsGot};
+ghost use Rattle.dy_coord.specs.Sure.{IsSureOf, ack_of, get_of};
+ghost use Rattle.dy_coord.specs.declared.get_dones.GetDone.{GetDone};
+ghost use Rattle.dy_coord.specs.declared.put_results.PutDone.{PutDone};
+ghost use Rattle.dy_cluster.specs.Ends.{AtRest, IsClosed, IsEndOf};
+ghost use Rattle.dy_cluster.specs.Guarantees.{GivesNothingDeleted, IsRead, NeverGoesBack};
+ghost use Rattle.dy_cluster.specs.Guarantees.{ReadsOwnWrites, ReadsWritesOf};
+ghost use Rattle.dy_cluster.specs.Lists.{list_of};
 ghost use Rattle.dy_cluster.specs.Stores.{AreCovering, IsKept};
 ghost use Rattle.dy_cluster.specs.declared.restings.Closed.{Closed};
+
+use dy_shares::Naming;
 
 /// Where a cluster was closed, its audit lists exactly the versions in the nodes' stores, and each
 /// put that a session was told of has its w distinct homes covered by these stores, on as many
@@ -21,4 +40,78 @@ pub fn stores_cover_acks()
     ensures covered { (ring : Tokens) (n r : ℕ) (tellings : List SessionPart) (closed : Closed) →
         IsClosed ring n r tellings closed → (x : Acked) → IsTold tellings x →
         AreCovering ring n closed.rests.items x.key x.dot x.w }
+{}
+
+/// What the sessions of a closed cluster were sure to read (session guarantees, Terry et al.,
+/// 1994), where homes themselves answered: each its own writes, and those of others that were
+/// acknowledged before; what its earlier gets had, where the same homes answered again; and nothing
+/// that a deletion follows which the get has.
+pub fn session_guarantees()
+    ensures own_writes { (ring : Tokens) (n r : ℕ) (tellings : List SessionPart)
+        (closed : Closed) → IsClosed ring n r tellings closed →
+        All (ReadsOwnWrites ring n r) tellings }
+    ensures others_writes { (ring : Tokens) (n r : ℕ) (tellings : List SessionPart)
+        (closed : Closed) → IsClosed ring n r tellings closed →
+        (writer : SessionPart) → Contains tellings writer →
+        All (ReadsWritesOf ring n r writer) tellings }
+    ensures own_reads { (ring : Tokens) (n r : ℕ) (tellings : List SessionPart)
+        (closed : Closed) → IsClosed ring n r tellings closed →
+        All (NeverGoesBack ring n) tellings }
+    ensures others_reads { (ring : Tokens) (n r : ℕ) (tellings : List SessionPart)
+        (closed : Closed) → IsClosed ring n r tellings closed →
+        (first later : SessionPart) → Contains tellings first → Contains tellings later →
+        (f g : GetTold) → Contains first.gets f → Contains later.gets g →
+        (key : List ℕ) → IsOfHomes ring n key f → IsOfHomes ring n key g →
+        AnswerAgain f.answers g.since g.answers → (d : Dot) → IsRead f d → IsRead g d }
+    ensures deleted { (ring : Tokens) (n r : ℕ) (tellings : List SessionPart)
+        (closed : Closed) → IsClosed ring n r tellings closed →
+        (other : SessionPart) → Contains tellings other →
+        All (GivesNothingDeleted other) tellings }
+{}
+
+/// What a get gave that a session of a closed cluster was told, by the log that the cluster ended
+/// with: where homes themselves answered, what enough homes had taken themselves by a step that the
+/// session knew of, and what was acknowledged where the key was settled by then; what a home
+/// answered for itself before; and nothing that precedes a version which the get has.
+pub fn gets_give_what_homes_took()
+    ensures taken { (ring : Tokens) (n r : ℕ) (c : AtRest) (tellings : List SessionPart)
+        (closed : Closed) → IsEndOf ring n r c tellings closed →
+        (s : SessionPart) (g : GetTold) → Contains tellings s → Contains s.gets g →
+        (key : List ℕ) (since : ℕ) (d : Dot) (took : List ℕ) →
+        CoverThemselves (world_after (take since (steps_of c.book.log))) key d took →
+        since ≤ g.since → IsOfHomes ring n key g → n < r + length took → IsRead g d }
+    ensures settled { (ring : Tokens) (n r : ℕ) (c : AtRest) (tellings : List SessionPart)
+        (closed : Closed) → IsEndOf ring n r c tellings closed →
+        (s : SessionPart) (g : GetTold) → Contains tellings s → Contains s.gets g →
+        (since : ℕ) (x : Acked) →
+        IsSettled (world_after (take since (steps_of c.book.log))) x.key →
+        Contains (world_after (take since (steps_of c.book.log))).acks x →
+        since ≤ g.since → IsOfHomes ring n x.key g → n < r + x.w → IsRead g x.dot }
+    ensures answers { (ring : Tokens) (n r : ℕ) (tellings : List SessionPart) (closed : Closed) →
+        IsClosed ring n r tellings closed →
+        (s t : SessionPart) (f g : GetTold) → Contains tellings s → Contains tellings t →
+        Contains s.gets f → Contains t.gets g →
+        (a b : Answer) → Contains f.answers a → Contains g.answers b → a.holder ≡ a.home →
+        b.holder ≡ b.home → a.home ≡ b.home → a.key ≡ b.key → a.at < b.at →
+        (d : Dot) → IsTrue (covers a.row d) → IsTrue (covers b.row d) }
+    ensures replaced { (ring : Tokens) (n r : ℕ) (c : AtRest) (tellings : List SessionPart)
+        (closed : Closed) → IsEndOf ring n r c tellings closed →
+        (s : SessionPart) (g : GetTold) → Contains tellings s → Contains s.gets g →
+        (v : Version) → Contains (world_after (steps_of c.book.log)).versions v →
+        All (λ a. a.key ≡ v.key) g.answers → IsRead g v.dot →
+        All (λ u. precedes u v ≡ false) (newest (rows_of g.answers)) }
+{}
+
+/// Where a get says that it sees a put of its key (`GetDone::sees`), and both were told to sessions
+/// of one cluster, which was closed, the get has the version of the put, or one that causally
+/// follows it.
+pub fn what_is_seen_is_there<J: Naming>()
+    ensures { (ring : Tokens) (n r : ℕ) (tellings : List SessionPart) (closed : Closed) →
+        IsClosed ring n r tellings closed →
+        (writer reader : SessionPart) → Contains tellings writer → Contains tellings reader →
+        (key : List ℕ) (w i acks : ℕ) (put : PutDone J) →
+        IsAckSpent writer i (ack_of key w put) put.spent.items →
+        (told : Told J) (get : GetDone J) → IsGot (list_of ring n key) key r get.since told get →
+        Contains reader.gets (get_of acks get) → IsSureOf n get put →
+        IsTrue (covers get.row.versions put.dot) }
 {}

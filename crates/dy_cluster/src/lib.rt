@@ -19,7 +19,9 @@ pub use correspondents::{Correspondent, with_workers};
 use dy_shares::SessionShare;
 pub use embedding::{Client, Work, with_clients, with_cluster};
 pub use handovers::Handover;
-pub use laws::stores_cover_acks;
+pub use laws::{
+    gets_give_what_homes_took, session_guarantees, stores_cover_acks, what_is_seen_is_there,
+};
 pub use openings::Opened;
 pub use restings::{Closed, ClusterRefused, Resting};
 

@@ -20,6 +20,8 @@ mod posted;
 #[cfg(test)]
 mod refused_calls;
 #[cfg(test)]
+mod renewals;
+#[cfg(test)]
 mod rings;
 #[cfg(test)]
 mod signals;

@@ -1,9 +1,13 @@
 //! A cart that three shoppers fill at once, while nodes go down and come back.
 #![tactic(auto)]
 
-ghost use Rattle.std.specs.Prelude.{IfOk};
+ghost use Rattle.std.specs.Prelude.{IfOk, List};
+ghost use Rattle.std.specs.List.{All};
 ghost use Rattle.dy_core.specs.declared.acks.Acked.{Acked};
+ghost use Rattle.dy_shares.specs.Shares.{SessionPart};
 ghost use Rattle.dy_book.specs.Audits.{ListsAck};
+ghost use Rattle.dy_cluster.specs.Ends.{IsClosed};
+ghost use Rattle.dy_cluster.specs.Guarantees.{ReadsOwnWrites};
 ghost use Rattle.dy_cluster.specs.Stores.{AreCovering};
 
 mod carts;
@@ -12,7 +16,7 @@ mod shoppers;
 use crate::carts::{Cart, text_of, unite};
 use crate::shoppers::Shoppers;
 use dy_book::Options;
-use dy_cluster::{Closed, with_clients};
+use dy_cluster::{Closed, session_guarantees, with_clients};
 use dy_dots::Fault;
 use dy_ring::Ring;
 use std::alloc::Global;
@@ -46,15 +50,20 @@ fn shop<R: Threads + Wait + Sync>(rt: &R, alloc: Global) -> Result<(usize, Strin
 }
 
 /// Lets the shoppers fill the cart, and closes the cluster: each cart that was acknowledged is in
-/// the nodes' stores at the end, at as many of its homes as its put named.
+/// the nodes' stores at the end, at as many of its homes as its put named; and each shopper's gets
+/// had what the shopper put before, where homes enough answered themselves.
 fn fill<R: Threads + Wait + Sync>(
     rt: &R,
     alloc: Global,
     ring: Ring,
     options: Options,
 ) -> Result<Closed, Fault>
-    ensures { IfOk result (λ closed. (x : Acked) → ListsAck closed.audit x →
+    ensures covered { IfOk result (λ closed. (x : Acked) → ListsAck closed.audit x →
         AreCovering ring options.n closed.rests.items x.key x.dot x.w) }
+    ensures own_writes { IfOk result (λ closed. (tellings : List SessionPart)
+        × IsClosed ring options.n options.r tellings closed
+        × All (ReadsOwnWrites ring options.n options.r) tellings) }
 {
+    session_guarantees();
     with_clients(rt, alloc, ring, options, 3, &Shoppers)
 }
