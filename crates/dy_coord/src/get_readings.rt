@@ -59,6 +59,7 @@ fn read_rows<J: Naming, T: Transport<J>, R: Wait>(
     ensures reading { HasRead (Fetch (snapshot_of key.now) since.now) (T.told transport.old).asks
         assign.old (T.told transport.new).asks (T.told transport.new).replies assign.new }
     ensures tries { (T.told transport.new).tries ≡ (T.told transport.old).tries }
+    ensures room { (T.told transport.new).room ≡ (T.told transport.old).room }
     ensures seens { gathering.new.seens
         ≡ gathering.old.seens ++ seens_of (T.told transport.new).replies }
     ensures r { gathering.new.r ≡ gathering.old.r }
@@ -112,6 +113,7 @@ pub(crate) fn gather<J: Naming, T: Transport<J>, R: Wait>(
     ensures collects { Collects list.now key.now gathering.old.r since.now coordinator own
         (T.told transport.new) gathering.new.seens answers.new.items }
     ensures tries { (T.told transport.new).tries ≡ (T.told transport.old).tries }
+    ensures room { (T.told transport.new).room ≡ (T.told transport.old).room }
     ensures r { gathering.new.r ≡ gathering.old.r }
 {
     let held = list.home_for(coordinator);

@@ -56,6 +56,7 @@ pub fn get<J: Naming, T: Transport<J>, R: Wait>(
     ensures told { IfOk result (λ done. session.new ≡
         with_get session.old (since_of session.old) (first_answers done.seen.items)) }
     ensures err { OnErr result (session.new ≡ session.old) }
+    ensures room { (T.told transport.new).room ≡ (T.told transport.old).room }
     ensures refused { IfErr result (λ e.
         IsGetRefused list.now key.now J.r (since_of session.old) (T.told transport.new) e) }
 {

@@ -168,8 +168,9 @@ fn put_in_range<J: Naming, T: Transport<J>, R: Wait>(
     requires homes { list.now.n ≡ J.n }
     requires some { 1 ≤ w }
     requires few { w ≤ list.now.n }
-    ensures { PutRuns {J = J} list.now w key.now context.now value.now
+    ensures runs { PutRuns {J = J} list.now w key.now context.now value.now
         session.old session.new (T.told transport.new) result }
+    ensures room { (T.told transport.new).room ≡ (T.told transport.old).room }
 {
     let (mut answers, mut tally) = match prepare(alloc, w) {
         Ok(made) => made,
@@ -221,6 +222,7 @@ pub fn put<J: Naming, T: Transport<J>, R: Wait>(
         session.old session.new (T.told transport.old) (T.told transport.new) result }
     ensures ok { IfOk result (IsPutDone session.old session.new key.now w) }
     ensures err { OnErr result (session.new ≡ session.old) }
+    ensures room { (T.told transport.new).room ≡ (T.told transport.old).room }
 {
     if w < 1 {
         return Err(PutFault::early(alloc, Fault::BadQuorum));

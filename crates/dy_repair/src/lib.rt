@@ -5,4 +5,4 @@ mod repairs;
 mod stales;
 
 pub use repairs::repair;
-pub use stales::stale;
+pub use stales::{are_current, stale};

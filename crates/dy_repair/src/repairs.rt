@@ -62,6 +62,7 @@ fn ask_each<J: Naming, T: Transport<J>, R: Wait>(
         IsTrue (may_hold (homes_of J.ring J.n row.now.key) home home)) homes.now }
     ensures asks { (T.told transport.new).asks ≡ store_asks row.now homes.now }
     ensures tries { (T.told transport.new).tries ≡ (T.told transport.old).tries }
+    ensures room { (T.told transport.new).room ≡ (T.told transport.old).room }
 {
     for i in 0..homes.len() {
         let home = homes[i];
@@ -73,6 +74,7 @@ fn ask_each<J: Naming, T: Transport<J>, R: Wait>(
 fn read_out<J: Naming, T: Transport<J>, R: Wait>(rt: &R, transport: &mut T)
     ensures asks { (T.told transport.new).asks ≡ (T.told transport.old).asks }
     ensures tries { (T.told transport.new).tries ≡ (T.told transport.old).tries }
+    ensures room { (T.told transport.new).room ≡ (T.told transport.old).room }
     ensures out { IsReadOut (T.told transport.new) }
 {
     'reading: for _ in rt.forever() {
@@ -103,6 +105,7 @@ pub fn repair<J: Naming, T: Transport<J>, R: Wait>(
     ensures err { IfErr result (λ _. T.told transport.new ≡ T.told transport.old) }
     ensures memory { IsOkUnless result Fault.OutOfMemory }
     ensures tries { (T.told transport.new).tries ≡ (T.told transport.old).tries }
+    ensures room { (T.told transport.new).room ≡ (T.told transport.old).room }
 {
     // A list has no more nodes than there is room for.
     let _nodes = list.nodes();

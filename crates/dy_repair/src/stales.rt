@@ -1,5 +1,5 @@
-ghost use Rattle.std.specs.Prelude.{◌≡◌, not, map, IfOk, IsOkUnless};
-ghost use Rattle.dy_repair.specs.Stales.{AreStale};
+ghost use Rattle.std.specs.Prelude.{◌≡◌, ◌↔◌, not, map, IfOk, IsOkUnless, IsTrue};
+ghost use Rattle.dy_repair.specs.Stales.{AreCurrent, AreStale};
 ghost use Rattle.dy_repair.specs.inside.Telling.{is_current, tells_stale};
 
 use dy_dots::Fault;
@@ -19,6 +19,18 @@ fn is_stale<J: Naming>(seen: &Seen<J>, row: &Row) -> bool
     ensures { result ≡ tells_stale row.now seen.now }
 {
     seen.holder() == seen.home() && is_other(seen, row)
+}
+
+/// Whether no home answered by itself with another row. Takes no memory.
+pub fn are_current<J: Naming>(seens: &[Seen<J>], row: &Row) -> bool
+    ensures { IsTrue result ↔ AreCurrent row.now seens.now }
+{
+    for answer in seens {
+        if is_stale(answer, row) {
+            return false;
+        }
+    }
+    true
 }
 
 /// The answers of homes that answered by themselves with another row, in the order read (Dynamo,

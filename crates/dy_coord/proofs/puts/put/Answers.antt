@@ -42,10 +42,10 @@ pub returns-clause-ok : goal.returns-clause-ok
 returns-clause-ok g c =
     acked_of c.args.list.now c.args.w c.args.key.now c.args.context.now c.args.value
     c.args.session.now c.put_in_range.new.session (g.T.Transport.told c.put_in_range.new.transport)
-    c.put_in_range.result c.put_in_range.ensures
+    c.put_in_range.result c.put_in_range.ensures.runs
 
 pub returns-clause-err : goal.returns-clause-err
 returns-clause-err g c =
     refused_of c.args.list.now c.args.w c.args.key.now c.args.context.now c.args.value
     c.args.session.now c.put_in_range.new.session (g.T.Transport.told c.put_in_range.new.transport)
-    c.put_in_range.result c.put_in_range.ensures
+    c.put_in_range.result c.put_in_range.ensures.runs

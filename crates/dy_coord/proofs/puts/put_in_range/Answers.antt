@@ -12,8 +12,8 @@ use Rattle.dy_coord.proofs.Holders.{all_of_one, dot_in}
 use Rattle.dy_coord.proofs.Trying.{tried_count}
 use Rattle.dy_coord.proofs.puts.put_in_range.Goals as goal
 
-pub returns-in-Err : goal.returns-in-Err
-returns-in-Err g c = inr (
+pub returns-in-Err-clause-runs : goal.returns-in-Err-clause-runs
+returns-in-Err-clause-runs g c = inr (
   refl,
   c.requires.fresh_asks,
   c.requires.fresh_replies,
@@ -30,8 +30,8 @@ returns-in-Err g c = inr (
   ),
 )
 
-pub returns-in-NoNode : goal.returns-in-NoNode
-returns-in-NoNode g c =
+pub returns-in-NoNode-clause-runs : goal.returns-in-NoNode-clause-runs
+returns-in-NoNode-clause-runs g c =
     let l = c.in-NoNode.ensures in
     inr (
       refl,
@@ -46,8 +46,8 @@ returns-in-NoNode g c =
       ),
     )
 
-pub returns-in-Refused : goal.returns-in-Refused
-returns-in-Refused g c =
+pub returns-in-Refused-clause-runs : goal.returns-in-Refused-clause-runs
+returns-in-Refused-clause-runs g c =
     let l = c.in-Refused.ensures in
     inr (
       refl,
@@ -102,8 +102,8 @@ conclude-requires-clause-room g c =
     rw (c.spread.ensures.tries, c.spread.ensures.room, c.begin_somewhere.ensures.room)
     (omega arith)
 
-pub returns-in-At : goal.returns-in-At
-returns-in-At g c =
+pub returns-in-At-clause-runs : goal.returns-in-At-clause-runs
+returns-in-At-clause-runs g c =
     let s = c.spread.ensures.spreads in
     let told = g.T.Transport.told c.spread.new.transport in
     let tried = (g.T.Transport.told c.conclude.new.transport).tries in

@@ -8,4 +8,5 @@ invariant-reading g l =
     record {
       asks : told.asks ≡ start.asks;
       tries : told.tries ≡ start.tries;
+      room : told.room ≡ start.room;
     }
