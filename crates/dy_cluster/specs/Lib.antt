@@ -1,3 +1,4 @@
+pub mod Connections
 pub mod Deliveries
 pub mod Ends
 pub mod Firsts

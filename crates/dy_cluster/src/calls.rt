@@ -29,7 +29,7 @@ impl<J: Naming> Cluster<J> {
     }
 
     // A put that asks nobody.
-    fn unlisted(&self, fault: Fault) -> PutFault
+    pub(crate) fn unlisted(&self, fault: Fault) -> PutFault
         ensures fault { result.fault ≡ fault }
         ensures dot { result.dot ≡ None }
         ensures answers { result.answers.items ≡ [] }
@@ -37,6 +37,17 @@ impl<J: Naming> Cluster<J> {
         PutFault {
             fault,
             dot: None,
+            answers: Vec::new(self.alloc),
+        }
+    }
+
+    // A get that asks nobody.
+    pub(crate) fn ungot(&self, fault: Fault) -> GetFault
+        ensures fault { result.fault ≡ fault }
+        ensures answers { result.answers.items ≡ [] }
+    {
+        GetFault {
+            fault,
             answers: Vec::new(self.alloc),
         }
     }
@@ -61,6 +72,7 @@ impl<J: Naming> Cluster<J> {
             session.old session.new (T.told transport.old) (T.told transport.new) result }
         ensures ok { IfOk result (IsPutDone session.old session.new key.now w) }
         ensures err { OnErr result (session.new ≡ session.old) }
+        ensures room { (T.told transport.new).room ≡ (T.told transport.old).room }
     {
         if w < 1 {
             return Err(self.unlisted(Fault::BadQuorum));
@@ -94,6 +106,7 @@ impl<J: Naming> Cluster<J> {
             session.old session.new (T.told transport.old) (T.told transport.new) result }
         ensures ok { IfOk result (IsPutDone session.old session.new key.now w) }
         ensures err { OnErr result (session.new ≡ session.old) }
+        ensures room { (T.told transport.new).room ≡ (T.told transport.old).room }
     {
         self.put(rt, transport, w, session, key, context, None)
     }
@@ -115,6 +128,7 @@ impl<J: Naming> Cluster<J> {
         ensures told { IfOk result (λ done. session.new ≡
             with_get session.old (since_of session.old) (first_answers done.seen.items)) }
         ensures err { OnErr result (session.new ≡ session.old) }
+        ensures room { (T.told transport.new).room ≡ (T.told transport.old).room }
         ensures refused { IfErr result (λ e. IsGetRefused (list_of J.ring J.n key.now) key.now J.r
             (since_of session.old) (T.told transport.new) e) }
     {
@@ -128,10 +142,7 @@ impl<J: Naming> Cluster<J> {
                 session,
                 key,
             ),
-            Err(fault) => Err(GetFault {
-                fault,
-                answers: Vec::new(self.alloc),
-            }),
+            Err(fault) => Err(self.ungot(fault)),
         }
     }
 
@@ -152,6 +163,7 @@ impl<J: Naming> Cluster<J> {
         ensures err { IfErr result (λ _. T.told transport.new ≡ T.told transport.old) }
         ensures memory { IsOkUnless result Fault.OutOfMemory }
         ensures tries { (T.told transport.new).tries ≡ (T.told transport.old).tries }
+        ensures room { (T.told transport.new).room ≡ (T.told transport.old).room }
     {
         let list = self.list(row.key())?;
         dy_repair::repair(rt, self.alloc, transport, seens, row, &list)

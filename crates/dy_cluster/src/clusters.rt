@@ -107,7 +107,7 @@ impl<J: Naming> Cluster<J> {
         Ok(sessions.len() - 1)
     }
 
-    /// A transport on the caller's own thread, for one put, get or repair.
+    /// A transport on the caller's own thread, for one call, or renewed before each further one.
     pub fn direct(&self) -> Result<Direct<'_, J>, Fault>
         ensures ok { IfOk result (λ direct. direct ≡ nothing_told MAX_NODES) }
         ensures memory { IsOkUnless result Fault.OutOfMemory }

@@ -1,6 +1,7 @@
 ghost use Rattle.std.specs.Prelude.{◌≡◌, ◌≤◌, ◌<◌, ◌↔◌, ◌⊎◌, ℕ, [], List, length};
-ghost use Rattle.std.specs.Prelude.{IfOk, IfErr, IsErrOf};
+ghost use Rattle.std.specs.Prelude.{IfOk, IfErr, IsErrOf, true, false};
 ghost use Rattle.std.specs.List.{All};
+ghost use Rattle.std.specs.Option.{ForSome};
 ghost use Rattle.std.specs.declared.marker.Brand.{Brand as BrandParts};
 ghost use Rattle.dy_book.specs.Limits.{AreLimits, IsQuorum};
 ghost use Rattle.dy_shares.specs.Shares.{SessionPart};
@@ -12,12 +13,15 @@ ghost use Rattle.dy_cluster.specs.Stores.{TellsAcks, TellsStores};
 ghost use Rattle.dy_cluster.specs.Tellings.{AreTold, IsUntold};
 
 use crate::clusters::Cluster;
+use crate::connections::Connection;
 use crate::openings::Opened;
 use crate::restings::Closed;
+use crate::seats::{Seat, rise_all, seat_all};
 use dy_book::Options;
 use dy_dots::Fault;
 use dy_ring::Ring;
 use dy_shares::{Naming, SessionShare};
+use dy_transport::Transport;
 use std::alloc::Global;
 use std::marker::Brand;
 use std::sync::Wait;
@@ -45,24 +49,24 @@ pub trait Work {
             sessions.new.items) };
 }
 
-/// What each of many clients does, in a thread of its own, with a session of its own.
+/// What each of many clients does, in a thread of its own, with a connection of its own, whatever
+/// carries its messages.
 pub trait Client {
     // What the session of the client of this number was told, once it ran on a cluster of this
     // setting; nothing, where it is left out.
     ghost told: { Setting → Self → ℕ → SessionPart → Type 0 } = { λ _ _ _ _. Unit {0} };
 
     /// Clients are numbered from 0. The session was told nothing before.
-    fn run<J: Naming, R: Wait>(
+    fn run<J: Naming, T: Transport<J>, R: Wait>(
         &self,
         rt: &R,
         alloc: Global,
-        cluster: &Cluster<J>,
         number: usize,
-        session: &mut SessionShare<J>,
+        connection: &mut Connection<'_, J, T>,
     )
         requires few { number < 255 }
-        requires untold { IsUntold session.old }
-        ensures told { told (setting J J.ring J.n J.r) self.now number session.new };
+        requires untold { IsUntold connection.old.session }
+        ensures told { told (setting J J.ring J.n J.r) self.now number connection.new.session };
 }
 
 /// Opens a cluster on the ring, lets the work be done, and closes it. A refusal of the work is
@@ -119,8 +123,9 @@ fn run_named<J: Naming, W: Work, R: Wait>(
     }
 }
 
-/// Opens a cluster on the ring, runs so many clients beside each other, each with a session of its
-/// own, and closes it. A client for which no thread can be had runs on the caller's.
+/// Opens a cluster on the ring, runs so many clients beside each other, each with a connection of
+/// its own, which asks the nodes in the client's thread, and closes it. A client for which no
+/// thread can be had runs on the caller's.
 pub fn with_clients<C: Client + Sync, R: Threads + Wait + Sync>(
     rt: &R,
     alloc: Global,
@@ -194,8 +199,16 @@ fn run_seated<J: Naming + Send + Sync, C: Client + Sync, R: Threads + Wait + Syn
     ensures only { IfErr result IsRunRefusal }
 {
     seat_clients(rt, cluster, sessions, clients)?;
-    run_beside(rt, alloc, cluster, client, sessions.as_mut_slice());
-    Ok(())
+    let mut seats = Vec::<Seat<J, Brand>>::with_capacity(alloc, sessions.len())?;
+    seat_all(sessions, Vec::new(alloc), &mut seats);
+    run_beside(rt, alloc, cluster, client, seats.as_mut_slice());
+    let have_run = rise_all(&mut seats, sessions);
+    seats.destroy_empty();
+    if have_run {
+        Ok(())
+    } else {
+        Err(Fault::OutOfMemory)
+    }
 }
 
 // A session for each client.
@@ -222,17 +235,17 @@ fn run_beside<J: Naming + Send + Sync, C: Client + Sync, R: Threads + Wait + Syn
     alloc: Global,
     cluster: &Cluster<J>,
     client: &C,
-    sessions: &mut [SessionShare<J>],
+    seats: &mut [Seat<J, Brand>],
 )
-    requires few { length sessions.old ≤ 255 }
-    requires untold { All IsUntold sessions.old }
-    ensures count { length sessions.new ≡ length sessions.old }
-    ensures told { AreTold (C.told (setting J J.ring J.n J.r) client.now) sessions.new }
+    requires fresh { All (λ seat. seat.has_run ≡ false) seats.old }
+    ensures count { length seats.new ≡ length seats.old }
+    ensures told { All (λ seat. seat.has_run ≡ true → ForSome seat.session
+        (C.told (setting J J.ring J.n J.r) client.now seat.number)) seats.new }
 {
     for_each_mut(
         rt,
-        sessions,
+        seats,
         MOST_CLIENTS,
-        &|number, session| { client.run(rt, alloc, cluster, number, session) },
+        &|_number, seat| { seat.run(rt, alloc, cluster, client) },
     );
 }

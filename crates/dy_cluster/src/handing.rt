@@ -54,7 +54,8 @@ impl<J: Naming> Cluster<J> {
         // Mailboxes have room for one ask at least.
         let room = self.hint_count(rt, node).clamp(1, MAX_ROOM);
         let nodes = self.nodes.as_slice();
-        let mut mailboxes = Mailboxes::new(self.alloc, nodes, &self.book, post, room)?;
+        let again = post.try_clone()?;
+        let mut mailboxes = Mailboxes::new(self.alloc, nodes, &self.book, again, room)?;
         pass(rt, &mut mailboxes, node)
     }
 

@@ -3,7 +3,7 @@
 
 mod calls;
 mod clusters;
-mod correspondents;
+mod connections;
 mod embedding;
 mod handing;
 mod handovers;
@@ -13,10 +13,10 @@ mod openings;
 mod posting;
 mod restings;
 mod seats;
+mod staffing;
 
 pub use clusters::Cluster;
-pub use correspondents::{Correspondent, with_workers};
-use dy_shares::SessionShare;
+pub use connections::Connection;
 pub use embedding::{Client, Work, with_clients, with_cluster};
 pub use handovers::Handover;
 pub use laws::{
@@ -24,6 +24,17 @@ pub use laws::{
 };
 pub use openings::Opened;
 pub use restings::{Closed, ClusterRefused, Resting};
+pub use staffing::with_workers;
+
+// What a client writes besides, so that an embedding program needs no other library.
+pub use dy_book::Options;
+pub use dy_coord::{GetDone, GetFault, PutDone, PutFault};
+pub use dy_dots::{Context, Fault, NodeId};
+pub use dy_ring::Ring;
+pub use dy_shares::Naming;
+use dy_shares::SessionShare;
+pub use dy_siblings::{Key, Row, Value};
+pub use dy_transport::Transport;
 
 /// A client's session: it is told every acknowledgement and every get of its own, and must be
 /// handed in when the cluster closes.

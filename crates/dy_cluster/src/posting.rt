@@ -22,8 +22,8 @@ impl<J: Naming> Cluster<J> {
         Post::new(self.alloc, self.ring.nodes())
     }
 
-    /// A transport over the nodes' workers, for one put, get or repair.
-    pub fn mailboxes<'a>(&'a self, post: &'a mut Post<J>) -> Result<Mailboxes<'a, J>, Fault>
+    /// A transport over the nodes' workers, which has the post from now on.
+    pub fn mailboxes(&self, post: Post<J>) -> Result<Mailboxes<'_, J>, Fault>
         ensures ok { IfOk result (λ mailboxes. mailboxes ≡ nothing_told MAX_NODES) }
         ensures memory { IsOkUnless result Fault.OutOfMemory }
     {

@@ -2,10 +2,9 @@
 ghost use Rattle.dy_cluster.specs.Named.{NamesBook};
 
 use crate::rings::{five_nodes, options};
-use dy_cluster::{Closed, Cluster, ClusterRefused, Opened, Resting, Session};
-use dy_dots::{Context, Fault};
-use dy_shares::Naming;
-use dy_siblings::{Key, Value};
+use dy_cluster::{
+    Closed, Cluster, ClusterRefused, Context, Fault, Key, Naming, Opened, Resting, Session, Value,
+};
 use std::alloc::Global;
 use std::marker::Brand;
 use std::sync::Wait;

@@ -1,14 +1,11 @@
 // More asks than a mailbox has room for.
-ghost use Rattle.std.specs.Prelude.{◌≡◌, ◌≤◌, []};
+ghost use Rattle.std.specs.Prelude.{◌≡◌, []};
 
 use crate::workers::with_five_workers;
-use dy_cluster::{Cluster, Correspondent, Session};
-use dy_dots::{Fault, NodeId};
-use dy_mailboxes::{Gate, MAILBOX_ROOM, Mailboxes, Post};
+use dy_cluster::{Client, Connection, Fault, Key, Naming, NodeId, Transport};
+use dy_mailboxes::{Gate, MAILBOX_ROOM};
 use dy_node::Ask;
-use dy_shares::{Naming, Since};
-use dy_siblings::Key;
-use dy_transport::{AnswerKind, Transport};
+use dy_transport::AnswerKind;
 use std::alloc::Global;
 use std::sync::Wait;
 use std::sync::atomic::{AtomicBool, AtomicU64, Ordering};
@@ -80,80 +77,74 @@ impl Gate for Flood {
     }
 }
 
-// Asks node 1 as often as there is room for.
-fn ask_all<J: Naming, R: Wait>(
+// Asks node 1 for the key as often as there is room for.
+fn ask_all<J: Naming, T: Transport<J>, R: Wait>(
     rt: &R,
-    mailboxes: &mut Mailboxes<'_, J>,
+    connection: &mut Connection<'_, J, T>,
     key: &Key,
-    since: &Since<J>,
     sent: &AtomicU64,
 )
-    requires fresh { mailboxes.old.asks ≡ [] }
-    requires room { ASKS ≤ mailboxes.old.room }
+    requires { (T.told connection.old.transport).asks ≡ [] }
 {
+    let since = connection.session.since();
     for _ in 0..ASKS {
         let ask = Ask::Fetch {
             home: NodeId::nth(1),
             key,
-            since,
+            since: &since,
         };
-        mailboxes.ask(rt, NodeId::nth(1), &ask);
+        connection.transport.ask(rt, NodeId::nth(1), &ask);
         sent.fetch_add(1, Ordering::SeqCst);
     }
 }
 
+// What kind of answer comes next.
+fn next_kind<J: Naming, T: Transport<J>, R: Wait>(
+    rt: &R,
+    connection: &mut Connection<'_, J, T>,
+) -> Option<AnswerKind> {
+    let (_place, answer) = connection.transport.next_reply(rt)?;
+    Some(AnswerKind::of(&answer))
+}
+
 // Counts the answers with a row.
-fn count_rows<J: Naming, R: Wait>(rt: &R, mailboxes: &mut Mailboxes<'_, J>, rows: &AtomicU64) {
+fn count_rows<J: Naming, T: Transport<J>, R: Wait>(
+    rt: &R,
+    connection: &mut Connection<'_, J, T>,
+    rows: &AtomicU64,
+) {
     for _ in 0..ASKS {
-        let Some((_place, answer)) = mailboxes.next_reply(rt) else {
-            return;
-        };
-        if AnswerKind::of(&answer) == AnswerKind::Rows {
+        if next_kind(rt, connection) == Some(AnswerKind::Rows) {
             rows.fetch_add(1, Ordering::SeqCst);
         }
     }
 }
 
-// Asks node 1, and then reads the answers.
-fn ask_and_read<J: Naming, R: Wait>(
-    rt: &R,
-    cluster: &Cluster<J>,
-    flood: &Flood,
-    post: &mut Post<J>,
-    key: &Key,
-    since: &Since<J>,
-) -> Result<(), Fault> {
-    let mut mailboxes = cluster.mailboxes(post)?;
-    ask_all(rt, &mut mailboxes, key, since, &flood.sent);
-    count_rows(rt, &mut mailboxes, &flood.rows);
-    Ok(())
-}
-
-// The same of the key `a`.
-fn flood_with_a<J: Naming, R: Wait>(
-    rt: &R,
-    alloc: Global,
-    cluster: &Cluster<J>,
-    flood: &Flood,
-    post: &mut Post<J>,
-    since: &Since<J>,
-) -> Result<(), Fault> {
-    let key = Key::new(alloc, b"a")?;
-    ask_and_read(rt, cluster, flood, post, &key, since)
-}
-
-impl Correspondent for Flood {
-    fn run<J: Naming, R: Wait>(
+impl Flood {
+    // Asks node 1, and then reads the answers.
+    fn ask_and_read<J: Naming, T: Transport<J>, R: Wait>(
         &self,
         rt: &R,
         alloc: Global,
-        cluster: &Cluster<J>,
+        connection: &mut Connection<'_, J, T>,
+    ) -> Result<(), Fault> {
+        let key = Key::new(alloc, b"a")?;
+        connection.transport.renew(rt)?;
+        ask_all(rt, connection, &key, &self.sent);
+        count_rows(rt, connection, &self.rows);
+        Ok(())
+    }
+}
+
+impl Client for Flood {
+    fn run<J: Naming, T: Transport<J>, R: Wait>(
+        &self,
+        rt: &R,
+        alloc: Global,
         _number: usize,
-        session: &mut Session<J>,
-        post: &mut Post<J>,
+        connection: &mut Connection<'_, J, T>,
     ) {
-        let since = session.since();
-        let _ = flood_with_a(rt, alloc, cluster, self, post, &since);
+        let _ = self.ask_and_read(rt, alloc, connection);
     }
 }
 

@@ -3,25 +3,21 @@
 
 use crate::posted::put_over;
 use crate::workers::with_five_workers;
-use dy_cluster::{Closed, Cluster, Correspondent, Session};
-use dy_dots::{Context, Fault};
-use dy_mailboxes::{Open, Post};
-use dy_shares::Naming;
+use dy_cluster::{Client, Closed, Connection, Context, Fault, Naming, Transport};
+use dy_mailboxes::Open;
 use std::alloc::Global;
 use std::sync::Wait;
 use std::test::Fail;
 use std::thread::Threads;
 
 // Puts, and tells whether memory was wanting.
-fn is_wanting<J: Naming, R: Wait>(
+fn is_wanting<J: Naming, T: Transport<J>, R: Wait>(
     rt: &R,
     alloc: Global,
-    cluster: &Cluster<J>,
-    post: &mut Post<J>,
-    session: &mut Session<J>,
+    connection: &mut Connection<'_, J, T>,
 ) -> bool {
     let context = Context::new(alloc);
-    let put = put_over(rt, alloc, cluster, post, 2, session, &context);
+    let put = put_over(rt, alloc, connection, 2, &context);
     matches!(put, Err(Fault::OutOfMemory))
 }
 
@@ -29,18 +25,16 @@ fn is_wanting<J: Naming, R: Wait>(
 #[derive(Drop)]
 struct Retry;
 
-impl Correspondent for Retry {
-    fn run<J: Naming, R: Wait>(
+impl Client for Retry {
+    fn run<J: Naming, T: Transport<J>, R: Wait>(
         &self,
         rt: &R,
         alloc: Global,
-        cluster: &Cluster<J>,
         _number: usize,
-        session: &mut Session<J>,
-        post: &mut Post<J>,
+        connection: &mut Connection<'_, J, T>,
     ) {
-        if is_wanting(rt, alloc, cluster, post, session) {
-            let _ = is_wanting(rt, alloc, cluster, post, session);
+        if is_wanting(rt, alloc, connection) {
+            let _ = is_wanting(rt, alloc, connection);
         }
     }
 }

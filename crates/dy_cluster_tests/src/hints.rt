@@ -2,11 +2,9 @@
 use crate::posted::{get_over, is_told, put_over, put_told};
 use crate::signals::Signal;
 use crate::workers::with_five_workers;
-use dy_cluster::{Cluster, Correspondent, Session};
-use dy_dots::{Fault, NodeId};
-use dy_handoff::worker;
-use dy_mailboxes::{Open, Post};
-use dy_shares::Naming;
+use dy_cluster::{Client, Cluster, Connection, Fault, Naming, NodeId, Transport};
+use dy_handoff::{Pass, pass, worker};
+use dy_mailboxes::Open;
 use dy_transport::AnswerRead;
 use std::alloc::Global;
 use std::sync::atomic::{AtomicU64, Ordering};
@@ -27,63 +25,68 @@ struct Hinted {
     are_done: Signal,
 }
 
-// Two passes of node 3, whose asks go to the mailboxes.
-fn hand_over<J: Naming, R: Wait>(rt: &R, cluster: &Cluster<J>, post: &mut Post<J>) {
-    let mut passes = cluster.handover(post.try_clone().ok(), NodeId::nth(3));
+// A pass of node 3, whose asks go to the mailboxes.
+fn pass_over<J: Naming, T: Transport<J>, R: Wait>(
+    rt: &R,
+    connection: &mut Connection<'_, J, T>,
+) -> Result<Pass, Fault> {
+    connection.transport.renew(rt)?;
+    pass(rt, &mut connection.transport, NodeId::nth(3))
+}
+
+// Two passes of node 3 on the client's own thread.
+fn hand_over<J: Naming, R: Wait>(rt: &R, cluster: &Cluster<J>) {
+    let mut passes = cluster.handover(None, NodeId::nth(3));
     worker(rt, &mut passes, 2);
 }
 
 // A get, and a put with its context: its answers.
-fn turn<J: Naming, R: Wait>(
+fn turn<J: Naming, T: Transport<J>, R: Wait>(
     rt: &R,
     alloc: Global,
-    cluster: &Cluster<J>,
-    post: &mut Post<J>,
-    session: &mut Session<J>,
+    connection: &mut Connection<'_, J, T>,
 ) -> Result<Vec<AnswerRead>, Fault> {
-    let got = get_over(rt, alloc, cluster, post, session)?;
-    put_over(rt, alloc, cluster, post, 2, session, &got.context)
+    let done = get_over(rt, alloc, connection)?;
+    put_over(rt, alloc, connection, 2, &done.context)
 }
 
 impl Hinted {
     // Puts while node 1 is down, so that node 3 has a hint for it, and lets that be handed over.
-    fn fall<J: Naming, R: Wait>(
+    fn fall<J: Naming, T: Transport<J>, R: Wait>(
         &self,
         rt: &R,
         alloc: Global,
-        cluster: &Cluster<J>,
-        post: &mut Post<J>,
-        session: &mut Session<J>,
+        connection: &mut Connection<'_, J, T>,
     ) {
-        cluster.set_up(rt, NodeId::nth(1), false);
-        let told = put_told(rt, alloc, cluster, post, 3, session);
+        connection.cluster().set_up(rt, NodeId::nth(1), false);
+        let told = put_told(rt, alloc, connection, 3);
         *self.told.lock(rt) = told.ok();
-        cluster.set_up(rt, NodeId::nth(1), true);
-        hand_over(rt, cluster, post);
+        connection.cluster().set_up(rt, NodeId::nth(1), true);
+        for _ in 0..2 {
+            let _ = pass_over(rt, connection);
+        }
     }
 }
 
-impl Correspondent for Hinted {
+impl Client for Hinted {
     // One client brings the node down and up, and the others get and put meanwhile. Once they are
     // done it hands over what is left.
-    fn run<J: Naming, R: Wait>(
+    fn run<J: Naming, T: Transport<J>, R: Wait>(
         &self,
         rt: &R,
         alloc: Global,
-        cluster: &Cluster<J>,
         number: usize,
-        session: &mut Session<J>,
-        post: &mut Post<J>,
+        connection: &mut Connection<'_, J, T>,
     ) {
         if number == 0 {
             for _ in 0..FALLS {
-                self.fall(rt, alloc, cluster, post, session);
+                self.fall(rt, alloc, connection);
             }
             let _ = self.are_done.wait();
-            hand_over(rt, cluster, post);
+            hand_over(rt, connection.cluster());
         } else {
             for _ in 0..TURNS {
-                let _ = turn(rt, alloc, cluster, post, session);
+                let _ = turn(rt, alloc, connection);
             }
             if self.done.fetch_add(1, Ordering::SeqCst) == 2 {
                 self.are_done.say();

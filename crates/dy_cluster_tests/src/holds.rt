@@ -2,11 +2,9 @@
 use crate::posted::{get_over, is_told, put_told, text_of};
 use crate::signals::Signal;
 use crate::workers::with_five_workers;
-use dy_cluster::{Cluster, Correspondent, Session};
-use dy_dots::{Fault, NodeId};
-use dy_mailboxes::{Gate, Post};
+use dy_cluster::{Client, Connection, Fault, Naming, NodeId, Transport};
+use dy_mailboxes::Gate;
 use dy_node::Ask;
-use dy_shares::Naming;
 use dy_transport::AnswerRead;
 use std::alloc::Global;
 use std::sync::{Mutex, Wait};
@@ -51,34 +49,30 @@ fn told_of(alloc: Global, versions: usize, answers: &[AnswerRead]) -> Result<Str
 }
 
 // A get, and how many versions it gave.
-fn get_versions<J: Naming, R: Wait>(
+fn get_versions<J: Naming, T: Transport<J>, R: Wait>(
     rt: &R,
     alloc: Global,
-    cluster: &Cluster<J>,
-    post: &mut Post<J>,
-    session: &mut Session<J>,
+    connection: &mut Connection<'_, J, T>,
 ) -> Result<String, Fault> {
-    let got = get_over(rt, alloc, cluster, post, session)?;
-    told_of(alloc, got.versions, got.answers.as_slice())
+    let done = get_over(rt, alloc, connection)?;
+    told_of(alloc, done.row.versions().len(), done.answers.as_slice())
 }
 
-impl Correspondent for Hold {
+impl Client for Hold {
     // One client puts. The other one gets while the put waits for node 1, and then lets it go on.
-    fn run<J: Naming, R: Wait>(
+    fn run<J: Naming, T: Transport<J>, R: Wait>(
         &self,
         rt: &R,
         alloc: Global,
-        cluster: &Cluster<J>,
         number: usize,
-        session: &mut Session<J>,
-        post: &mut Post<J>,
+        connection: &mut Connection<'_, J, T>,
     ) {
         if number == 0 {
-            let told = put_told(rt, alloc, cluster, post, 3, session);
+            let told = put_told(rt, alloc, connection, 3);
             self.is_put.say();
             *self.put.lock(rt) = told.ok();
         } else if self.is_held.wait() {
-            let told = get_versions(rt, alloc, cluster, post, session);
+            let told = get_versions(rt, alloc, connection);
             if !self.is_put.is_said() {
                 *self.got.lock(rt) = told.ok();
             }

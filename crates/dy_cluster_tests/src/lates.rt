@@ -1,11 +1,9 @@
 // An answer that comes late, over mailboxes.
 use crate::posted::{is_told, put_told};
 use crate::workers::with_five_workers;
-use dy_cluster::{Cluster, Correspondent, Session};
-use dy_dots::NodeId;
-use dy_mailboxes::{Gate, Post};
+use dy_cluster::{Client, Connection, Naming, NodeId, Transport};
+use dy_mailboxes::Gate;
 use dy_node::{Ask, Mode};
-use dy_shares::Naming;
 use std::alloc::Global;
 use std::sync::atomic::{AtomicU64, Ordering};
 use std::sync::{Mutex, Wait};
@@ -26,18 +24,16 @@ impl Gate for Late {
     }
 }
 
-impl Correspondent for Late {
-    fn run<J: Naming, R: Wait>(
+impl Client for Late {
+    fn run<J: Naming, T: Transport<J>, R: Wait>(
         &self,
         rt: &R,
         alloc: Global,
-        cluster: &Cluster<J>,
         _number: usize,
-        session: &mut Session<J>,
-        post: &mut Post<J>,
+        connection: &mut Connection<'_, J, T>,
     ) {
-        cluster.fault(rt, NodeId::nth(1), Mode::Late);
-        let told = put_told(rt, alloc, cluster, post, 3, session);
+        connection.cluster().fault(rt, NodeId::nth(1), Mode::Late);
+        let told = put_told(rt, alloc, connection, 3);
         *self.told.lock(rt) = told.ok();
     }
 }

@@ -4,6 +4,8 @@
 #[cfg(test)]
 mod absences;
 #[cfg(test)]
+mod connections;
+#[cfg(test)]
 mod floods;
 #[cfg(test)]
 mod growths;

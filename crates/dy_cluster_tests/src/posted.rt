@@ -1,92 +1,33 @@
-// Puts and gets of the key `a` over the nodes' mailboxes, and their answers as texts.
-use dy_cluster::{Cluster, Session};
-use dy_coord::{GetDone, GetFault, PutDone, PutFault};
-use dy_dots::{Context, Fault};
-use dy_mailboxes::Post;
-use dy_shares::Naming;
-use dy_siblings::{Key, Value};
+// Puts and gets of the key `a` over a connection, and their answers as texts.
+use dy_cluster::{Connection, Context, Fault, Key, Naming, Transport, Value};
+use dy_coord::GetDone;
 use dy_transport::AnswerRead;
 use std::alloc::Global;
 use std::sync::{Mutex, Wait};
 
-// What a get gave: how many versions there are, their context, and each answer that was read.
-#[derive(Drop)]
-pub struct Got {
-    pub versions: usize,
-    pub context: Context,
-    pub answers: Vec<AnswerRead>,
-}
-
-// The answers of a put.
-fn answers_of<J: Naming>(put: Result<PutDone<J>, PutFault>) -> Result<Vec<AnswerRead>, Fault> {
-    match put {
-        Ok(done) => Ok(done.answers),
-        Err(refused) => Err(refused.fault),
-    }
-}
-
-fn put_at<J: Naming, R: Wait>(
-    rt: &R,
-    cluster: &Cluster<J>,
-    post: &mut Post<J>,
-    w: u8,
-    session: &mut Session<J>,
-    key: &Key,
-    context: &Context,
-    value: Value,
-) -> Result<Vec<AnswerRead>, Fault> {
-    let mut mailboxes = cluster.mailboxes(post)?;
-    answers_of(cluster.put(rt, &mut mailboxes, w, session, key, context, Some(value)))
-}
-
 // The answers of a put that names so many homes.
-pub fn put_over<J: Naming, R: Wait>(
+pub fn put_over<J: Naming, T: Transport<J>, R: Wait>(
     rt: &R,
     alloc: Global,
-    cluster: &Cluster<J>,
-    post: &mut Post<J>,
+    connection: &mut Connection<'_, J, T>,
     w: u8,
-    session: &mut Session<J>,
     context: &Context,
 ) -> Result<Vec<AnswerRead>, Fault> {
     let key = Key::new(alloc, b"a")?;
     let value = Value::new(alloc, b"x".as_slice())?;
-    put_at(rt, cluster, post, w, session, &key, context, value)
+    let done = connection.put_to(rt, w, &key, context, value)?;
+    Ok(done.answers)
 }
 
-// What a get gave.
-fn got_of<J: Naming>(get: Result<GetDone<J>, GetFault>) -> Result<Got, Fault> {
-    match get {
-        Ok(done) => Ok(Got {
-            versions: done.row.versions().len(),
-            context: done.context,
-            answers: done.answers,
-        }),
-        Err(refused) => Err(refused.fault),
-    }
-}
-
-fn get_at<J: Naming, R: Wait>(
-    rt: &R,
-    cluster: &Cluster<J>,
-    post: &mut Post<J>,
-    session: &mut Session<J>,
-    key: &Key,
-) -> Result<Got, Fault> {
-    let mut mailboxes = cluster.mailboxes(post)?;
-    got_of(cluster.get(rt, &mut mailboxes, session, key))
-}
-
-// A get.
-pub fn get_over<J: Naming, R: Wait>(
+// A get, which mends nothing.
+pub fn get_over<J: Naming, T: Transport<J>, R: Wait>(
     rt: &R,
     alloc: Global,
-    cluster: &Cluster<J>,
-    post: &mut Post<J>,
-    session: &mut Session<J>,
-) -> Result<Got, Fault> {
+    connection: &mut Connection<'_, J, T>,
+) -> Result<GetDone<J>, Fault> {
     let key = Key::new(alloc, b"a")?;
-    get_at(rt, cluster, post, session, &key)
+    let done = connection.get_unrepaired(rt, &key)?;
+    Ok(done)
 }
 
 // The answers' texts, in their order.
@@ -116,16 +57,14 @@ pub fn text_of(alloc: Global, answers: &[AnswerRead]) -> Result<String, Fault> {
 }
 
 // The answers of a put that names so many homes, as a text.
-pub fn put_told<J: Naming, R: Wait>(
+pub fn put_told<J: Naming, T: Transport<J>, R: Wait>(
     rt: &R,
     alloc: Global,
-    cluster: &Cluster<J>,
-    post: &mut Post<J>,
+    connection: &mut Connection<'_, J, T>,
     w: u8,
-    session: &mut Session<J>,
 ) -> Result<String, Fault> {
     let context = Context::new(alloc);
-    let answers = put_over(rt, alloc, cluster, post, w, session, &context)?;
+    let answers = put_over(rt, alloc, connection, w, &context)?;
     text_of(alloc, answers.as_slice())
 }
 

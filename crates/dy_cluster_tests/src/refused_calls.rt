@@ -4,10 +4,7 @@ ghost use Rattle.dy_cluster.specs.Named.{NamesBook};
 
 use crate::absences::seat_and_put;
 use crate::rings::{five_nodes, options};
-use dy_cluster::{Closed, Cluster, ClusterRefused, Opened, Session};
-use dy_dots::{Fault, NodeId};
-use dy_shares::Naming;
-use dy_siblings::Key;
+use dy_cluster::{Closed, Cluster, ClusterRefused, Fault, Key, Naming, NodeId, Opened, Session};
 use std::alloc::Global;
 use std::marker::Brand;
 use std::sync::Wait;

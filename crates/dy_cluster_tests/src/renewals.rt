@@ -1,13 +1,9 @@
-// A client that keeps one transport for many calls, while a worker is held.
+// A client that gets often over its connection, while a worker is held.
 use crate::signals::Signal;
 use crate::workers::with_five_workers;
-use dy_cluster::{Cluster, Correspondent, Session};
-use dy_dots::{Fault, MAX_NODES, NodeId};
-use dy_mailboxes::{Gate, Mailboxes, Post};
+use dy_cluster::{Client, Connection, Fault, Key, Naming, NodeId, Transport};
+use dy_mailboxes::Gate;
 use dy_node::Ask;
-use dy_shares::Naming;
-use dy_siblings::Key;
-use dy_transport::Transport;
 use std::alloc::Global;
 use std::sync::Wait;
 use std::sync::atomic::{AtomicU64, Ordering};
@@ -31,91 +27,54 @@ impl Gate for Held {
     }
 }
 
-// Whether a get over the transport, renewed for it, was answered by two homes.
-fn is_answered<J: Naming, R: Wait>(
+// Whether a get was answered by two homes.
+fn is_answered<J: Naming, T: Transport<J>, R: Wait>(
     rt: &R,
-    cluster: &Cluster<J>,
-    mailboxes: &mut Mailboxes<'_, J>,
-    session: &mut Session<J>,
+    connection: &mut Connection<'_, J, T>,
     key: &Key,
 ) -> Result<bool, Fault> {
-    mailboxes.renew(rt)?;
-    if mailboxes.room() < MAX_NODES as usize {
-        return Ok(false);
-    }
-    let done = cluster.get(rt, mailboxes, session, key)?;
+    let done = connection.get_unrepaired(rt, key)?;
     Ok(done.from.len() == 2)
 }
 
-// So many gets over one transport, and how many of them were answered.
-fn get_often<J: Naming, R: Wait>(
+// A hundred gets of the key `a`, and how many of them were answered.
+fn get_often<J: Naming, T: Transport<J>, R: Wait>(
     rt: &R,
-    cluster: &Cluster<J>,
-    mailboxes: &mut Mailboxes<'_, J>,
-    session: &mut Session<J>,
-    key: &Key,
+    alloc: Global,
+    connection: &mut Connection<'_, J, T>,
     count: &AtomicU64,
 ) -> Result<(), Fault> {
+    let key = Key::new(alloc, b"a")?;
     for _ in 0..100 {
-        if is_answered(rt, cluster, mailboxes, session, key)? {
+        if is_answered(rt, connection, &key)? {
             count.fetch_add(1, Ordering::SeqCst);
         }
     }
     Ok(())
 }
 
-impl Held {
-    // The first client gets while node 1 is held, lets it go, and gets on.
-    fn go_on<J: Naming, R: Wait>(
+impl Client for Held {
+    // The first client gets while node 1 is held, lets it go, and gets on. The second one gets
+    // while it is held.
+    fn run<J: Naming, T: Transport<J>, R: Wait>(
         &self,
         rt: &R,
         alloc: Global,
-        cluster: &Cluster<J>,
-        session: &mut Session<J>,
-        post: &mut Post<J>,
-    ) -> Result<(), Fault> {
-        let key = Key::new(alloc, b"a")?;
-        let mut mailboxes = cluster.mailboxes(post)?;
-        get_often(rt, cluster, &mut mailboxes, session, &key, &self.first)?;
-        self.may_go.say();
-        get_often(rt, cluster, &mut mailboxes, session, &key, &self.first)
-    }
-
-    // The second client gets while node 1 is held.
-    fn get_beside<J: Naming, R: Wait>(
-        &self,
-        rt: &R,
-        alloc: Global,
-        cluster: &Cluster<J>,
-        session: &mut Session<J>,
-        post: &mut Post<J>,
-    ) -> Result<(), Fault> {
-        let key = Key::new(alloc, b"a")?;
-        let mut mailboxes = cluster.mailboxes(post)?;
-        get_often(rt, cluster, &mut mailboxes, session, &key, &self.second)
-    }
-}
-
-impl Correspondent for Held {
-    fn run<J: Naming, R: Wait>(
-        &self,
-        rt: &R,
-        alloc: Global,
-        cluster: &Cluster<J>,
         number: usize,
-        session: &mut Session<J>,
-        post: &mut Post<J>,
+        connection: &mut Connection<'_, J, T>,
     ) {
         if number == 0 {
-            let _ = self.go_on(rt, alloc, cluster, session, post);
+            let _ = get_often(rt, alloc, connection, &self.first);
+            self.may_go.say();
+            let _ = get_often(rt, alloc, connection, &self.first);
         } else if self.is_held.wait() {
-            let _ = self.get_beside(rt, alloc, cluster, session, post);
+            let _ = get_often(rt, alloc, connection, &self.second);
         }
     }
 }
 
-// Node 1 is held over a hundred gets of one client, which goes on over one transport, and so does a
-// second client. Then node 1 answers what it was asked, long after those calls: each get is
+// Node 1 is held over a hundred gets of one client, which goes on over its connection, and so does
+// a second client. Then node 1 answers what it was asked, long after those calls: each get is
 // answered by two homes, and nobody waits.
 #[test]
 fn a_worker_is_late_by_a_hundred_calls(rt: HostRuntime) -> Result<(), Fail> {

@@ -1,6 +1,6 @@
-use dy_book::{MAX_STEPS, MAX_VERSIONS, Options};
-use dy_dots::{Fault, MAX_COUNTER};
-use dy_ring::Ring;
+use dy_book::{MAX_STEPS, MAX_VERSIONS};
+use dy_cluster::{Fault, Options, Ring};
+use dy_dots::MAX_COUNTER;
 use std::alloc::Global;
 
 // A ring of five nodes. The key `a` lies at 0cc1.. (RFC 1321, A.5), so its nodes are 0 to 4, in

@@ -1,14 +1,13 @@
 // Clients over mailboxes, on the cluster that all tests use.
 use crate::rings::{five_nodes, options};
-use dy_cluster::{Closed, Correspondent, with_workers};
-use dy_dots::Fault;
+use dy_cluster::{Client, Closed, Fault, with_workers};
 use dy_mailboxes::Gate;
 use std::alloc::Global;
 use std::sync::Wait;
 use std::thread::Threads;
 
 // Runs so many clients beside five workers.
-pub fn with_five_workers<C: Correspondent + Sync, G: Gate + Sync, R: Threads + Wait + Sync>(
+pub fn with_five_workers<C: Client + Sync, G: Gate + Sync, R: Threads + Wait + Sync>(
     rt: &R,
     alloc: Global,
     clients: u8,

@@ -34,7 +34,7 @@ const CALLS: usize = 4;
 pub struct Mailboxes<'a, J: Naming> {
     alloc: Global,
     near: Direct<'a, J>,
-    post: &'a mut Post<J>,
+    post: Post<J>,
     channel: Channel<J>,
     sheet: Sheet<J>,
 }
@@ -63,7 +63,7 @@ impl<'a, J: Naming> Mailboxes<'a, J> {
         alloc: Global,
         nodes: &'a [Mutex<Node<J>>],
         book: &'a Mutex<Book<J>>,
-        post: &'a mut Post<J>,
+        post: Post<J>,
         room: usize,
     ) -> Result<Mailboxes<'a, J>, Fault>
         requires some { 0 < room }
@@ -206,7 +206,7 @@ impl<J: Naming> Transport<J> for Mailboxes<'_, J> {
         match post_ask(
             rt,
             self.alloc,
-            self.post,
+            &mut self.post,
             &mut self.channel,
             number,
             to,

@@ -1,28 +1,25 @@
 -- What turns tell their session: each one get more at most, and one ack more at most.
 use Rattle.std.proofs.Common.{◌≡◌, ◌+◌, ◌≤◌, ◌∷◌, [], List, ℕ, zero, suc, length, length-append}
-use Rattle.std.proofs.Common.{Option, Some, None, Result, Ok, Err, sym, ap, arith, inl, inr, subst}
-use Rattle.std.specs.Prelude.{unwrap_or, IfOk, OnErr}
-use Rattle.std.specs.Result.{result_ok}
+use Rattle.std.proofs.Common.{Option, Some, None, Result, ap, arith, inl, inr}
+use Rattle.std.specs.Prelude.{unwrap_or}
 use Rattle.std.specs.FinSet as set
 use Rattle.dy_dots.specs.Dots.{DotSet}
 use Rattle.dy_dots.specs.declared.dots.Dot.{Dot}
 use Rattle.dy_preference.specs.Preferences.{Preferred}
-use Rattle.dy_shares.specs.Shares.{ReceiptParts, SessionPart, since_of, with_get}
+use Rattle.dy_shares.specs.Shares.{ReceiptParts, SessionPart, since_of}
 use Rattle.dy_quorum.specs.Gatherings.{first_answers}
 use Rattle.dy_transport.specs.Tellings.{IsAckTold}
 use Rattle.dy_transport.specs.Told.{Told}
 use Rattle.dy_transport.specs.declared.tries.Try.{Try}
 use Rattle.dy_transport.specs.declared.kinds.AnswerRead.{AnswerRead}
-use Rattle.dy_coord.specs.Gets.{IsGot}
-use Rattle.dy_coord.specs.declared.get_dones.GetDone.{GetDone}
-use Rattle.dy_coord.specs.declared.get_faults.GetFault.{GetFault}
 use Rattle.dy_coord.specs.PutEnds.{EndsAfter, PutEnds}
 use Rattle.dy_coord.specs.declared.put_results.PutDone.{PutDone}
 use Rattle.dy_coord.specs.declared.put_results.PutFault.{PutFault}
+use Rattle.dy_cluster.specs.Connections.{PutEndsAnew}
 use Rattle.dy_cluster.specs.Lists.{list_of}
 use Rattle.dy_cluster.specs.Settings.{Setting}
 use Rattle.rand_pcg.specs.Lcg.{Lcg}
-use Rattle.dy_storm.specs.Turns.{AreTurns, IsGetOf, IsGotOf, IsPutOf, IsTurnOf}
+use Rattle.dy_storm.specs.Turns.{AreTurns, IsGetOf, IsPutOf, IsTurnOf}
 
 -- the session was told so many gets and so many acks more at most
 abbrev pub Grows : SessionPart → SessionPart → ℕ → ℕ → Type 0
@@ -75,6 +72,15 @@ put_grows list w key context value before after old new answer (inl (some, few, 
 put_grows list w key context value before after old new answer (inr (out, same, still, why)) =
     unchanged before after 0 1 same
 
+-- a put over a connection, which did not begin where memory was wanting
+pub put_of : {J : Type 0} (list : Preferred) (key : List ℕ) (context : DotSet) (value : List ℕ)
+    (before after : SessionPart) (old new : Told J) (answer : Result (PutDone J) PutFault)
+    → PutEndsAnew {J = J} list 2 key context (Some value) before after old new answer →
+    IsPutOf J list key context value before after
+put_of list key context value before after old new answer (inl ends) =
+    inl (record { room = old.room; told = new; answer = answer; ends = ends })
+put_of list key context value before after old new answer (inr none) = inr none.0
+
 -- so is the session told of what a turn puts
 put_turn : (J : Type 0) (list : Preferred) (key : List ℕ) (context : DotSet) (value : List ℕ)
     (before after : SessionPart) → IsPutOf J list key context value before after →
@@ -122,17 +128,3 @@ turns_tell s generator client (suc turns) session (before, are, turn) =
     let few = turns_tell s generator client turns before are in
     let more = turn_grows s _ _ before session turn in
     (omega (arith, few.0, more.0), omega (arith, few.1, more.1))
-
--- what a get gives where it is Ok
-pub got_of : (J : Type 0) (list : Preferred) (r : ℕ) (key : List ℕ) (before after : SessionPart)
-    (told : Told J) (answer : Result (GetDone J) GetFault) (got : Option (GetDone J))
-    → got ≡ result_ok answer
-    → IfOk answer (λ done. IsGot list key r (since_of before) told done)
-    → IfOk answer (λ done. after
-    ≡ with_get before (since_of before) (first_answers done.seen.items))
-    → OnErr answer (after ≡ before) → IsGotOf J list r key got before after
-got_of J list r key before after told (Ok done) got is ok heard err =
-    subst (λ (g : Option (GetDone J)). IsGotOf J list r key g before after) (sym is)
-    (record { told = told; got = ok; heard = heard })
-got_of J list r key before after told (Err e) got is ok heard err =
-    subst (λ (g : Option (GetDone J)). IsGotOf J list r key g before after) (sym is) err

@@ -3,7 +3,6 @@ use Rattle.std.specs.Prelude.{◌≡◌, ◌⊎◌, ℕ, zero, suc, ◌%◌, Lis
 use Rattle.std.specs.Prelude.{unwrap_or}
 use Rattle.std.specs.FinSet as set
 use Rattle.dy_dots.specs.Dots.{DotSet}
-use Rattle.dy_dots.specs.declared.nodes.TheConstants.{MAX_NODES}
 use Rattle.dy_preference.specs.Preferences.{Preferred}
 use Rattle.dy_shares.specs.Shares.{SessionPart, since_of, with_get}
 use Rattle.dy_quorum.specs.Gatherings.{first_answers}
@@ -27,12 +26,6 @@ pub record HasGot (J : Type 0) (list : Preferred) (r : ℕ) (key : List ℕ) (do
   pub got : IsGot list key r (since_of before) told done
   pub heard : after ≡ with_get before (since_of before) (first_answers done.seen.items)
 
--- a get of the key was answered so, or the session was told nothing
-abbrev pub IsGotOf : (J : Type 0) → Preferred → ℕ → List ℕ → Option (GetDone J)
-    → SessionPart → SessionPart → Type 0
-IsGotOf J list r key None before after = after ≡ before
-IsGotOf J list r key (Some done) before after = HasGot J list r key done before after
-
 -- a get of the key was answered with this context, or the session was told nothing
 abbrev pub IsGetOf : Type 0 → Preferred → ℕ → List ℕ → Option DotSet
     → SessionPart → SessionPart → Type 0
@@ -40,13 +33,14 @@ IsGetOf J list r key None before after = after ≡ before
 IsGetOf J list r key (Some context) before after =
     (done : GetDone J) × (context ≡ done.context) × HasGot J list r key done before after
 
--- a put that names two homes was answered
+-- a put that names two homes was answered, over a transport that told nothing yet
 pub record HasPut (J : Type 0) (list : Preferred) (key : List ℕ) (context : DotSet)
     (value : List ℕ) (before after : SessionPart) : Type 0 where
+  pub room : ℕ
   pub told : Told J
   pub answer : Result (PutDone J) PutFault
   pub ends : PutEnds {J = J} list 2 key context (Some value) before after
-      (nothing_told MAX_NODES) told answer
+      (nothing_told room) told answer
 
 -- a put was answered, or the session was told nothing
 abbrev pub IsPutOf : Type 0 → Preferred → List ℕ → DotSet → List ℕ

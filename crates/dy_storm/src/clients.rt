@@ -3,10 +3,8 @@ ghost use Rattle.std.specs.Prelude.{◌≡◌};
 use crate::outages::Outages;
 use crate::plans::Storm;
 use crate::turns::play;
-use dy_cluster::{Cluster, Correspondent, Session};
+use dy_cluster::{Client, Connection, Naming, Transport};
 use dy_draws::draw;
-use dy_mailboxes::Post;
-use dy_shares::Naming;
 use rand_pcg::Lcg64Xsh32;
 use rand_pcg::rand_core::SeedableRng;
 use std::alloc::Global;
@@ -40,7 +38,7 @@ impl Clients {
     }
 }
 
-impl Correspondent for Clients {
+impl Client for Clients {
     ghost use Rattle.std.specs.Prelude.{◌+◌, ◌%◌, ◌^◌};
     ghost use Rattle.dy_storm.specs.Seeds.{generator_of};
     ghost use Rattle.dy_storm.specs.Turns.{AreTurns};
@@ -50,21 +48,19 @@ impl Correspondent for Clients {
         clients.plan.puts telling };
 
     /// Makes its turns, each of a key that it draws. May wait for answers and locks.
-    fn run<J: Naming, R: Wait>(
+    fn run<J: Naming, T: Transport<J>, R: Wait>(
         &self,
         rt: &R,
         alloc: Global,
-        cluster: &Cluster<J>,
         number: usize,
-        session: &mut Session<J>,
-        post: &mut Post<J>,
+        connection: &mut Connection<'_, J, T>,
     ) {
         let mut generator = Lcg64Xsh32::seed_from_u64(self.plan.seed.wrapping_add(number as u64));
         for turn in 0..self.plan.puts {
             let key = draw(&mut generator, KEYS);
-            play(rt, alloc, cluster, post, session, key, number, turn);
+            play(rt, alloc, connection, key, number, turn);
             if self.plan.faults {
-                self.outages.lock(rt).go_on(rt, cluster);
+                self.outages.lock(rt).go_on(rt, connection.cluster());
             }
         }
     }

@@ -3,11 +3,9 @@ ghost use Rattle.std.specs.Prelude.{◌≡◌, ◌+◌, ◌%◌, ◌^◌};
 ghost use Rattle.dy_storm.specs.Seeds.{generator_of};
 
 use crate::plans::Storm;
-use dy_cluster::Cluster;
-use dy_dots::NodeId;
+use dy_cluster::{Cluster, Naming, NodeId};
 use dy_draws::draw;
 use dy_node::Mode;
-use dy_shares::Naming;
 use rand_pcg::Lcg64Xsh32;
 use rand_pcg::rand_core::SeedableRng;
 use std::sync::Wait;

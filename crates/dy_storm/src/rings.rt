@@ -3,9 +3,9 @@ ghost use Rattle.std.specs.Prelude.{◌≡◌, ◌∷◌, [], IfOk, IsOkUnless};
 ghost use Rattle.dy_ring.specs.Lists.{IsRingOf};
 ghost use Rattle.dy_storm.specs.Clusters.{five_tokens, storm_options};
 
-use dy_book::{MAX_STEPS, MAX_VERSIONS, Options};
-use dy_dots::{Fault, MAX_COUNTER};
-use dy_ring::Ring;
+use dy_book::{MAX_STEPS, MAX_VERSIONS};
+use dy_cluster::{Fault, Options, Ring};
+use dy_dots::MAX_COUNTER;
 use std::alloc::Global;
 
 /// The ring of five nodes.

@@ -12,7 +12,7 @@ ghost use Rattle.dy_storm.specs.declared.storms.StormDone.{StormDone};
 
 use crate::plans::Storm;
 use crate::storms::storm;
-use dy_dots::Fault;
+use dy_cluster::Fault;
 use dy_lines::Stopped;
 use std::alloc::Global;
 use std::io::Write;

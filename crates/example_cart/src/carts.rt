@@ -1,7 +1,9 @@
-use dy_dots::Fault;
-use dy_siblings::Row;
+use dy_cluster::{Fault, Row};
 use std::alloc::Global;
 use std::collections::BTreeSet;
+
+/// The key of the cart.
+pub(crate) const CART: &[u8] = b"cart";
 
 /// The names of what is in a cart.
 pub(crate) type Cart = BTreeSet<String>;

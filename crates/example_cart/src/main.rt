@@ -13,12 +13,9 @@ ghost use Rattle.dy_cluster.specs.Stores.{AreCovering};
 mod carts;
 mod shoppers;
 
-use crate::carts::{Cart, text_of, unite};
+use crate::carts::{CART, Cart, text_of, unite};
 use crate::shoppers::Shoppers;
-use dy_book::Options;
-use dy_cluster::{Closed, session_guarantees, with_clients};
-use dy_dots::Fault;
-use dy_ring::Ring;
+use dy_cluster::{Closed, Fault, Options, Ring, session_guarantees, with_clients};
 use std::alloc::Global;
 use std::sync::Wait;
 use std::thread::Threads;
@@ -44,7 +41,9 @@ fn shop<R: Threads + Wait + Sync>(rt: &R, alloc: Global) -> Result<(usize, Strin
     let closed = fill(rt, alloc, ring, options)?;
     let mut cart = Cart::new(alloc);
     for holding in &closed.audit.held {
-        unite(alloc, &mut cart, &holding.row)?;
+        if holding.row.key().as_bytes() == CART {
+            unite(alloc, &mut cart, &holding.row)?;
+        }
     }
     Ok((closed.audit.acked.len(), text_of(alloc, &cart)?))
 }

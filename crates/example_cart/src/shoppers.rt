@@ -1,8 +1,5 @@
-use crate::carts::{Cart, text_of, unite};
-use dy_cluster::{Client, Cluster, Session};
-use dy_dots::{Context, Fault, NodeId};
-use dy_shares::Naming;
-use dy_siblings::{Key, Value};
+use crate::carts::{CART, Cart, text_of, unite};
+use dy_cluster::{Client, Connection, Context, Fault, Key, Naming, NodeId, Transport, Value};
 use std::alloc::Global;
 use std::sync::Wait;
 
@@ -11,45 +8,39 @@ use std::sync::Wait;
 pub(crate) struct Shoppers;
 
 impl Client for Shoppers {
-    fn run<J: Naming, R: Wait>(
+    fn run<J: Naming, T: Transport<J>, R: Wait>(
         &self,
         rt: &R,
         alloc: Global,
-        cluster: &Cluster<J>,
         number: usize,
-        session: &mut Session<J>,
+        connection: &mut Connection<'_, J, T>,
     ) {
         // What can't be put is missing in the cart, and in the count of what was acknowledged.
-        let _ = fill(rt, alloc, cluster, session, NodeId::nth(number % 3));
+        let _ = shop(rt, alloc, connection, NodeId::nth(number % 3));
     }
 }
 
-/// While the node is down, puts an item without a look, and then another behind all that is there.
-fn fill<J: Naming, R: Wait>(
+/// While the node is down, logs in, puts an item without a look, adds another to all that is there,
+/// and logs out. Then the nodes hand over what they kept for the one that was down.
+fn shop<J: Naming, T: Transport<J>, R: Wait>(
     rt: &R,
     alloc: Global,
-    cluster: &Cluster<J>,
-    session: &mut Session<J>,
+    connection: &mut Connection<'_, J, T>,
     node: NodeId,
 ) -> Result<(), Fault> {
-    let key = Key::new(alloc, b"cart")?;
-    let (first, second) = match node.number() {
-        0 => ("bread", "butter"),
-        1 => ("milk", "honey"),
-        _ => ("eggs", "salt"),
+    let (name, first, second) = match node.number() {
+        0 => ("ann", "bread", "butter"),
+        1 => ("ben", "milk", "honey"),
+        _ => ("cleo", "eggs", "salt"),
     };
-    cluster.set_up(rt, node, false);
-    let mut cart = Cart::new(alloc);
-    cart.insert(String::from_str(alloc, first)?)?;
+    let (login, cart) = (Key::new(alloc, name.as_bytes())?, Key::new(alloc, CART)?);
     let none = Context::new(alloc);
-    put(rt, alloc, cluster, session, &key, &none, &cart)?;
-    let mut direct = cluster.direct()?;
-    let done = cluster
-        .get(rt, &mut direct, session, &key)
-        .map_err(|refused| refused.fault)?;
-    unite(alloc, &mut cart, &done.row)?;
-    cart.insert(String::from_str(alloc, second)?)?;
-    put(rt, alloc, cluster, session, &key, &done.context, &cart)?;
+    let cluster = connection.cluster();
+    cluster.set_up(rt, node, false);
+    connection.put(rt, &login, &none, Value::new(alloc, b"here")?)?;
+    connection.put(rt, &cart, &none, Value::new(alloc, first.as_bytes())?)?;
+    add(rt, alloc, connection, &cart, second)?;
+    log_out(rt, connection, &login)?;
     cluster.set_up(rt, node, true);
     for number in 0..5 {
         let _ = cluster.handoff(rt, NodeId::nth(number));
@@ -57,20 +48,30 @@ fn fill<J: Naming, R: Wait>(
     Ok(())
 }
 
-/// Puts the cart behind what the context names.
-fn put<J: Naming, R: Wait>(
+/// Adds an item to the union of all carts that lie there side by side.
+fn add<J: Naming, T: Transport<J>, R: Wait>(
     rt: &R,
     alloc: Global,
-    cluster: &Cluster<J>,
-    session: &mut Session<J>,
+    connection: &mut Connection<'_, J, T>,
     key: &Key,
-    context: &Context,
-    cart: &Cart,
+    item: &str,
 ) -> Result<(), Fault> {
-    let value = Value::new(alloc, text_of(alloc, cart)?.as_bytes())?;
-    let mut direct = cluster.direct()?;
-    match cluster.put(rt, &mut direct, 2, session, key, context, Some(value)) {
-        Ok(_) => Ok(()),
-        Err(refused) => Err(refused.fault),
-    }
+    let done = connection.get(rt, key)?;
+    let mut cart = Cart::new(alloc);
+    unite(alloc, &mut cart, &done.row)?;
+    cart.insert(String::from_str(alloc, item)?)?;
+    let value = Value::new(alloc, text_of(alloc, &cart)?.as_bytes())?;
+    connection.put(rt, key, &done.context, value)?;
+    Ok(())
+}
+
+/// Deletes all logins that lie there side by side.
+fn log_out<J: Naming, T: Transport<J>, R: Wait>(
+    rt: &R,
+    connection: &mut Connection<'_, J, T>,
+    key: &Key,
+) -> Result<(), Fault> {
+    let done = connection.get(rt, key)?;
+    connection.delete(rt, key, &done.context)?;
+    Ok(())
 }

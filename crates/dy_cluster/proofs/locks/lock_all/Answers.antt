@@ -1,4 +1,4 @@
-use Rattle.std.proofs.Common.{◌≡◌, ◌∷◌, [], reverse, length, length-append, refl, ap, ◌∙◌, sym}
+use Rattle.std.proofs.Common.{◌∷◌, [], reverse, length, length-append, refl, ap, ◌∙◌, sym}
 use Rattle.std.proofs.Common.{arith, subst, ℕ, List, vec_len}
 use Rattle.std.proofs.lemmas.List.{reverse-reverse}
 use Rattle.dy_shares.specs.Shares.{NodePart}

@@ -1,4 +1,4 @@
-use Rattle.std.proofs.Common.{◌≡◌, ◌+◌, length, vec_capacity}
+use Rattle.std.proofs.Common.{◌≡◌, ◌+◌, false, length, vec_capacity}
 use Rattle.std.specs.List.{All}
 use Rattle.dy_cluster.specs.Tellings.{IsUntold}
 use Rattle.dy_cluster.proofs.seats.seat_all.Given as goal
@@ -10,6 +10,7 @@ invariant-loop-session g l =
     × (vec_capacity l.seats ≡ vec_capacity l.initial.seats)
     × (vec_capacity l.sessions ≡ vec_capacity l.initial.sessions)
     × All IsUntold l.sessions.items
+    × All (λ seat. seat.has_run ≡ false) l.seats.items
 
 abbrev pub decreases-loop-session : goal.decreases-loop-session
 decreases-loop-session g l = length l.sessions.items

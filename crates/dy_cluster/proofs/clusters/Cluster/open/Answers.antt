@@ -1,4 +1,4 @@
-use Rattle.std.proofs.Common.{◌≡◌, ◌∙◌, ℕ, length}
+use Rattle.std.proofs.Common.{◌∙◌, ℕ, length}
 use Rattle.std.proofs.Common.{arith, ap, sym, subst}
 use Rattle.dy_ring.specs.Rings.{Tokens}
 use Rattle.dy_cluster.specs.Firsts.{AreFirstFrom}

@@ -13,7 +13,7 @@ ghost use Rattle.dy_cluster.specs.Stores.{TellsAcks, TellsStores};
 ghost use Rattle.dy_cluster.specs.Tellings.{AreTold, IsUntold, as_fact};
 
 use crate::clusters::Cluster;
-use crate::embedding::{MOST_CLIENTS, seat_clients};
+use crate::embedding::{Client, MOST_CLIENTS, seat_clients};
 use crate::openings::Opened;
 use crate::restings::Closed;
 use crate::seats::{Seat, Telling, let_go, rise_all, seat_all};
@@ -28,33 +28,11 @@ use std::sync::Wait;
 use std::thread;
 use std::thread::{Threads, for_each_mut};
 
-/// What each of many clients does, in a thread of its own, with a session and a post of its own.
-pub trait Correspondent {
-    // What the session of the client of this number was told, once it ran on a cluster of this
-    // setting; nothing, where it is left out.
-    ghost told: { Setting → Self → ℕ → SessionPart → Type 0 } = { λ _ _ _ _. Unit {0} };
-
-    /// Clients are numbered from 0. The session was told nothing before. While it runs, each node
-    /// has a worker.
-    fn run<J: Naming, R: Wait>(
-        &self,
-        rt: &R,
-        alloc: Global,
-        cluster: &Cluster<J>,
-        number: usize,
-        session: &mut SessionShare<J>,
-        post: &mut Post<J>,
-    )
-        requires few { number < 255 }
-        requires untold { IsUntold session.old }
-        ensures told { told (setting J J.ring J.n J.r) self.now number session.new };
-}
-
 /// Opens a cluster on the ring, starts a worker for each node, runs so many clients beside each
-/// other, each with a session and a post of its own, and closes it. Where no thread can be had for
-/// a worker, no client runs, and that is told as want of memory; a client for which none can be had
-/// runs on the caller's.
-pub fn with_workers<C: Correspondent + Sync, G: Gate + Sync, R: Threads + Wait + Sync>(
+/// other, each with a connection of its own over them, and closes it. Where no thread can be had
+/// for a worker, no client runs, and that is told as want of memory; a client for which none can be
+/// had runs on the caller's.
+pub fn with_workers<C: Client + Sync, G: Gate + Sync, R: Threads + Wait + Sync>(
     rt: &R,
     alloc: Global,
     ring: Ring,
@@ -82,12 +60,14 @@ pub fn with_workers<C: Correspondent + Sync, G: Gate + Sync, R: Threads + Wait +
 }
 
 // The same under the name that was picked.
-fn run_staffed<
-    J: Naming + Send + Sync,
-    C: Correspondent + Sync,
-    G: Gate + Sync,
-    R: Threads + Wait + Sync,
->(rt: &R, alloc: Global, opened: Opened, gate: &G, clients: u8, client: &C) -> Result<Closed, Fault>
+fn run_staffed<J: Naming + Send + Sync, C: Client + Sync, G: Gate + Sync, R: Threads + Wait + Sync>(
+    rt: &R,
+    alloc: Global,
+    opened: Opened,
+    gate: &G,
+    clients: u8,
+    client: &C,
+) -> Result<Closed, Fault>
     requires named { NamesBook J.book J.table J.ring J.n J.r opened }
     ensures stores { IfOk result (TellsStores opened.ring opened.options.n) }
     ensures acks { IfOk result (λ closed. (tellings : List SessionPart)
@@ -125,7 +105,7 @@ fn run_staffed<
 fn run_seated<
     J: Naming + Send + Sync,
     T: Telling + Send + Sync,
-    C: Correspondent + Sync,
+    C: Client + Sync,
     G: Gate + Sync,
     R: Threads + Wait + Sync,
 >(
@@ -190,7 +170,7 @@ fn posts_for<J: Naming>(
 fn run_all<
     J: Naming + Send + Sync,
     T: Telling + Send + Sync,
-    C: Correspondent + Sync,
+    C: Client + Sync,
     G: Gate + Sync,
     R: Threads + Wait + Sync,
 >(

@@ -1,7 +1,7 @@
 use denote.Param.{param}
 use denote.Param.Send.{sendable}
 use Rattle.dy_cluster.proofs.Sent.{seat_goes}
-use Rattle.dy_cluster.proofs.correspondents.fn.run_all.scope.Goals as goal
+use Rattle.dy_cluster.proofs.staffing.fn.run_all.scope.Goals as goal
 
 -- a client's session, and its post, may go to its thread
 pub for_each_mut-requires-send-T : goal.for_each_mut-requires-send-T

@@ -1,9 +1,9 @@
 use Rattle.dy_cluster.specs.Settings.{setting}
-use Rattle.dy_cluster.proofs.correspondents.run_staffed.Given as goal
+use Rattle.dy_cluster.proofs.staffing.run_staffed.Given as goal
 
 -- the sessions are to tell what the client says
 abbrev pub ghosts-run_seated : goal.ghosts-run_seated
 ghosts-run_seated g a = record {
-  told = λ number telling. g.C.Correspondent.told
+  told = λ number telling. g.C.Client.told
       (setting g.row.J.Denot g.J.Naming.ring g.J.Naming.n g.J.Naming.r) a.client.now number telling;
 }

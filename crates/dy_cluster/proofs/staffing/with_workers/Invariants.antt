@@ -1,4 +1,4 @@
-use Rattle.dy_cluster.proofs.correspondents.with_workers.Given as goal
+use Rattle.dy_cluster.proofs.staffing.with_workers.Given as goal
 
 -- the book has the name of what was just opened
 abbrev pub ghosts-run_staffed : goal.ghosts-run_staffed

@@ -1,0 +1,251 @@
+ghost use Rattle.std.specs.Prelude.{◌≡◌, ◌≤◌, ◌⊎◌, IfOk, IfErr, OnErr, IsOkUnless, IsTrue, Some, None};
+ghost use Rattle.dy_dots.specs.declared.nodes.TheConstants.{MAX_NODES};
+ghost use Rattle.dy_shares.specs.Shares.{since_of, with_get};
+ghost use Rattle.dy_transport.specs.Told.{Told};
+ghost use Rattle.dy_reads.specs.Lists.{homes_in};
+ghost use Rattle.dy_quorum.specs.Gatherings.{first_answers};
+ghost use Rattle.dy_coord.specs.Gets.{IsGot};
+ghost use Rattle.dy_coord.specs.PutDones.{IsPutDone};
+ghost use Rattle.dy_cluster.specs.Connections.{IsMended, IsRefusedAnew, PutEndsAnew};
+ghost use Rattle.dy_cluster.specs.Lists.{list_of};
+ghost use Rattle.dy_cluster.specs.Tellings.{IsUntold};
+
+use crate::clusters::Cluster;
+use dy_coord::{GetDone, GetFault, PutDone, PutFault};
+use dy_dots::{Context, Fault};
+use dy_mailboxes::{Mailboxes, Post};
+use dy_repair::are_current;
+use dy_shares::{Naming, SessionShare};
+use dy_siblings::{Key, Value};
+use dy_transport::{Direct, Transport};
+use std::sync::Wait;
+
+/// What a client calls a cluster by: its session, what carries its messages from call to call, how
+/// many homes its puts name, and whether its last get mended all that it found stale. Its session
+/// must be handed in when the cluster closes.
+pub struct Connection<'a, J: Naming, T: Transport<J>> {
+    pub session: SessionShare<J>,
+    pub transport: T,
+    pub w: u8,
+    pub is_mended: bool,
+    cluster: &'a Cluster<J>,
+    ghost room: { MAX_NODES ≤ (T.told transport).room },
+}
+
+impl<J: Naming> Cluster<J> {
+    /// A connection on the caller's own thread, with a new session. May wait for a lock.
+    pub fn connect<R: Wait>(&self, rt: &R) -> Result<Connection<'_, J, Direct<'_, J>>, Fault>
+        ensures untold { IfOk result (λ connection. IsUntold connection.session) }
+        ensures w { IfOk result (λ connection. connection.w ≡ self.now.options.w) }
+        ensures only { IfErr result (λ fault. (fault ≡ Fault.OutOfMemory)
+            ⊎ (fault ≡ Fault.TooMany)) }
+    {
+        let direct = self.direct()?;
+        let session = self.session(rt)?;
+        Ok(Connection::new(self, session, direct))
+    }
+
+    /// A connection over the nodes' workers, with a new session. May wait for a lock.
+    pub fn connect_by_post<R: Wait>(
+        &self,
+        rt: &R,
+        post: Post<J>,
+    ) -> Result<Connection<'_, J, Mailboxes<'_, J>>, Fault>
+        ensures untold { IfOk result (λ connection. IsUntold connection.session) }
+        ensures w { IfOk result (λ connection. connection.w ≡ self.now.options.w) }
+        ensures only { IfErr result (λ fault. (fault ≡ Fault.OutOfMemory)
+            ⊎ (fault ≡ Fault.TooMany)) }
+    {
+        let mailboxes = self.mailboxes(post)?;
+        let session = self.session(rt)?;
+        Ok(Connection::new(self, session, mailboxes))
+    }
+}
+
+impl<'a, J: Naming, T: Transport<J>> Connection<'a, J, T> {
+    /// A connection of this session over this transport of the cluster, whose puts name as many
+    /// homes as the cluster's options do. Takes no memory.
+    pub fn new(
+        cluster: &'a Cluster<J>,
+        session: SessionShare<J>,
+        transport: T,
+    ) -> Connection<'a, J, T>
+        requires room { MAX_NODES ≤ (T.told transport).room }
+        ensures session { result.session ≡ session }
+        ensures transport { result.transport ≡ transport }
+        ensures w { result.w ≡ cluster.now.options.w }
+    {
+        Connection {
+            session,
+            transport,
+            w: cluster.options.w,
+            is_mended: false,
+            cluster,
+        }
+    }
+
+    /// The cluster that it calls.
+    pub fn cluster(&self) -> &'a Cluster<J> {
+        self.cluster
+    }
+
+    /// The session, to be handed in, and the transport. Takes no memory.
+    pub fn into_parts(self) -> (SessionShare<J>, T)
+        ensures session { result.0 ≡ self.entry.session }
+        ensures transport { result.1 ≡ self.entry.transport }
+    {
+        let Connection {
+            session,
+            transport,
+            w: _,
+            is_mended: _,
+            cluster: _,
+        } = self;
+        (session, transport)
+    }
+
+    /// Puts the value behind what the context names, at as many homes as the connection says. May
+    /// wait for answers and locks.
+    pub fn put<R: Wait>(
+        &mut self,
+        rt: &R,
+        key: &Key,
+        context: &Context,
+        value: Value,
+    ) -> Result<PutDone<J>, PutFault>
+        ensures ends { PutEndsAnew {J = J} (list_of J.ring J.n key.now) self.old.w key.now
+            context.now (Some value) self.old.session self.new.session
+            (T.told self.old.transport) (T.told self.new.transport) result }
+        ensures ok { IfOk result
+            (IsPutDone self.old.session self.new.session key.now self.old.w) }
+        ensures err { OnErr result (self.new.session ≡ self.old.session) }
+        ensures w { self.new.w ≡ self.old.w }
+    {
+        self.put_to(rt, self.w, key, context, value)
+    }
+
+    /// The same at w homes. May wait for answers and locks.
+    pub fn put_to<R: Wait>(
+        &mut self,
+        rt: &R,
+        w: u8,
+        key: &Key,
+        context: &Context,
+        value: Value,
+    ) -> Result<PutDone<J>, PutFault>
+        ensures ends { PutEndsAnew {J = J} (list_of J.ring J.n key.now) w key.now
+            context.now (Some value) self.old.session self.new.session
+            (T.told self.old.transport) (T.told self.new.transport) result }
+        ensures ok { IfOk result (IsPutDone self.old.session self.new.session key.now w) }
+        ensures err { OnErr result (self.new.session ≡ self.old.session) }
+        ensures w { self.new.w ≡ self.old.w }
+    {
+        self.write(rt, w, key, context, Some(value))
+    }
+
+    /// Puts that the key is deleted behind what the context names, at as many homes as the
+    /// connection says. May wait for answers and locks.
+    pub fn delete<R: Wait>(
+        &mut self,
+        rt: &R,
+        key: &Key,
+        context: &Context,
+    ) -> Result<PutDone<J>, PutFault>
+        ensures ends { PutEndsAnew {J = J} (list_of J.ring J.n key.now) self.old.w key.now
+            context.now None self.old.session self.new.session
+            (T.told self.old.transport) (T.told self.new.transport) result }
+        ensures ok { IfOk result
+            (IsPutDone self.old.session self.new.session key.now self.old.w) }
+        ensures err { OnErr result (self.new.session ≡ self.old.session) }
+        ensures w { self.new.w ≡ self.old.w }
+    {
+        self.write(rt, self.w, key, context, None)
+    }
+
+    // Puts a value, or none, at w homes.
+    fn write<R: Wait>(
+        &mut self,
+        rt: &R,
+        w: u8,
+        key: &Key,
+        context: &Context,
+        value: Option<Value>,
+    ) -> Result<PutDone<J>, PutFault>
+        ensures ends { PutEndsAnew {J = J} (list_of J.ring J.n key.now) w key.now
+            context.now value self.old.session self.new.session
+            (T.told self.old.transport) (T.told self.new.transport) result }
+        ensures ok { IfOk result (IsPutDone self.old.session self.new.session key.now w) }
+        ensures err { OnErr result (self.new.session ≡ self.old.session) }
+        ensures w { self.new.w ≡ self.old.w }
+    {
+        if let Err(fault) = self.transport.renew(rt) {
+            return Err(self.cluster.unlisted(fault));
+        }
+        self.cluster.put(
+            rt,
+            &mut self.transport,
+            w,
+            &mut self.session,
+            key,
+            context,
+            value,
+        )
+    }
+
+    /// Gets the key, and has each home that was found stale store what it gives. What can't be
+    /// mended for want of memory a later get mends. May wait for answers and locks.
+    pub fn get<R: Wait>(&mut self, rt: &R, key: &Key) -> Result<GetDone<J>, GetFault>
+        ensures ok { IfOk result (λ done. (told : Told J)
+            × IsGot (list_of J.ring J.n key.now) key.now J.r (since_of self.old.session) told done
+            × (IsTrue self.new.is_mended → IsMended (homes_in (list_of J.ring J.n done.row.key))
+            done.row done.seen.items told (T.told self.new.transport))) }
+        ensures told { IfOk result (λ done. self.new.session ≡ with_get self.old.session
+            (since_of self.old.session) (first_answers done.seen.items)) }
+        ensures err { OnErr result (self.new.session ≡ self.old.session) }
+        ensures refused { IfErr result (IsRefusedAnew (list_of J.ring J.n key.now) key.now J.r
+            (since_of self.old.session) (T.told self.old.transport)
+            (T.told self.new.transport)) }
+        ensures w { self.new.w ≡ self.old.w }
+    {
+        let done = self.get_unrepaired(rt, key)?;
+        self.is_mended = self.mend(rt, &done).is_ok();
+        Ok(done)
+    }
+
+    /// Gets the key, and mends nothing. May wait for answers and locks.
+    pub fn get_unrepaired<R: Wait>(&mut self, rt: &R, key: &Key) -> Result<GetDone<J>, GetFault>
+        ensures ok { IfOk result (IsGot (list_of J.ring J.n key.now) key.now J.r
+            (since_of self.old.session) (T.told self.new.transport)) }
+        ensures told { IfOk result (λ done. self.new.session ≡ with_get self.old.session
+            (since_of self.old.session) (first_answers done.seen.items)) }
+        ensures err { OnErr result (self.new.session ≡ self.old.session) }
+        ensures refused { IfErr result (IsRefusedAnew (list_of J.ring J.n key.now) key.now J.r
+            (since_of self.old.session) (T.told self.old.transport)
+            (T.told self.new.transport)) }
+        ensures w { self.new.w ≡ self.old.w }
+    {
+        if let Err(fault) = self.transport.renew(rt) {
+            return Err(self.cluster.ungot(fault));
+        }
+        self.cluster
+            .get(rt, &mut self.transport, &mut self.session, key)
+    }
+
+    /// Has each home that the get found stale store what it gave (Dynamo, section 5). Takes no
+    /// memory where none was. May wait for answers and locks.
+    pub fn mend<R: Wait>(&mut self, rt: &R, done: &GetDone<J>) -> Result<(), Fault>
+        ensures ok { IfOk result (λ _. IsMended
+            (homes_in (list_of J.ring J.n done.now.row.key)) done.now.row done.now.seen.items
+            (T.told self.old.transport) (T.told self.new.transport)) }
+        ensures memory { IsOkUnless result Fault.OutOfMemory }
+        ensures session { self.new.session ≡ self.old.session }
+        ensures w { self.new.w ≡ self.old.w }
+    {
+        if are_current(done.seen.as_slice(), &done.row) {
+            return Ok(());
+        }
+        self.transport.renew(rt)?;
+        self.cluster
+            .repair(rt, &mut self.transport, done.seen.as_slice(), &done.row)
+    }
+}

@@ -1,0 +1,222 @@
+// Connections: what their calls give, and what a get mends.
+ghost use Rattle.std.specs.Prelude.{◌<◌, vec_capacity, vec_len};
+
+use crate::rings::{five_nodes, options};
+use dy_cluster::{
+    Closed, Cluster, Connection, Context, Fault, GetDone, Key, Naming, NodeId, Session, Transport,
+    Value, Work, with_cluster,
+};
+use dy_dots::Dot;
+use dy_mailboxes::Post;
+use std::alloc::Global;
+use std::sync::Wait;
+use std::test::Fail;
+
+// Does the work on the cluster that all tests use.
+fn with_five_nodes<W: Work, R: Wait>(rt: &R, alloc: Global, work: &mut W) -> Result<Closed, Fault> {
+    let ring = five_nodes(alloc)?;
+    with_cluster(rt, alloc, ring, options(), work)
+}
+
+// What is called over a connection.
+trait Calling {
+    fn call<J: Naming, T: Transport<J>, R: Wait>(
+        &mut self,
+        rt: &R,
+        alloc: Global,
+        connection: &mut Connection<'_, J, T>,
+    ) -> Result<(), Fault>;
+}
+
+// Calls, hands in the session, and lets the transport go.
+fn call_over<C: Calling, J: Naming, T: Transport<J> + Drop, R: Wait>(
+    rt: &R,
+    alloc: Global,
+    calling: &mut C,
+    mut connection: Connection<'_, J, T>,
+    sessions: &mut Vec<Session<J>>,
+) -> Result<(), Fault>
+    requires { vec_len sessions.old < vec_capacity sessions.old }
+{
+    let called = calling.call(rt, alloc, &mut connection);
+    let (session, _transport) = connection.into_parts();
+    sessions.push_reserved(session);
+    called
+}
+
+// Puts `x`, behind nothing, at as many homes as the connection says.
+fn put<J: Naming, T: Transport<J>, R: Wait>(
+    rt: &R,
+    alloc: Global,
+    connection: &mut Connection<'_, J, T>,
+    key: &Key,
+) -> Result<(), Fault> {
+    let value = Value::new(alloc, b"x".as_slice())?;
+    connection.put(rt, key, &Context::new(alloc), value)?;
+    Ok(())
+}
+
+// The text, and behind it each value.
+fn with_values(mut text: String, values: &[(Dot, &Value)]) -> Result<String, Fault> {
+    for (_dot, value) in values {
+        text.push_str(" ")?;
+        text.push_str(std::str::from_utf8(value.as_bytes()).unwrap_or("?"))?;
+    }
+    Ok(text)
+}
+
+// How many versions a get gave, whether all that was stale is mended, and each value.
+fn text_of<J: Naming>(alloc: Global, done: &GetDone<J>, is_mended: bool) -> Result<String, Fault> {
+    let text = format!(in alloc; "{} {is_mended}", done.row.versions().len())?;
+    let values = done.values(alloc)?;
+    with_values(text, values.as_slice())
+}
+
+// A get, what is told of it, and its context.
+fn get<J: Naming, T: Transport<J>, R: Wait>(
+    rt: &R,
+    alloc: Global,
+    connection: &mut Connection<'_, J, T>,
+    key: &Key,
+    told: &mut Option<String>,
+) -> Result<Context, Fault> {
+    let done = connection.get(rt, key)?;
+    *told = text_of(alloc, &done, connection.is_mended).ok();
+    Ok(done.context)
+}
+
+// What is told of two gets: one behind a put, and one behind a delete.
+#[derive(Drop)]
+struct Calls {
+    put: Option<String>,
+    deleted: Option<String>,
+}
+
+impl Calling for Calls {
+    fn call<J: Naming, T: Transport<J>, R: Wait>(
+        &mut self,
+        rt: &R,
+        alloc: Global,
+        connection: &mut Connection<'_, J, T>,
+    ) -> Result<(), Fault> {
+        let key = Key::new(alloc, b"a")?;
+        put(rt, alloc, connection, &key)?;
+        let context = get(rt, alloc, connection, &key, &mut self.put)?;
+        connection.delete(rt, &key, &context)?;
+        get(rt, alloc, connection, &key, &mut self.deleted)?;
+        Ok(())
+    }
+}
+
+impl Work for Calls {
+    fn run<J: Naming, R: Wait>(
+        &mut self,
+        rt: &R,
+        alloc: Global,
+        cluster: &Cluster<J>,
+        sessions: &mut Vec<Session<J>>,
+    ) -> Result<(), Fault> {
+        sessions.reserve(1)?;
+        let connection = cluster.connect(rt)?;
+        call_over(rt, alloc, self, connection, sessions)
+    }
+}
+
+// A put, a get, a delete and a get over one connection, whose session is handed in: the first get
+// gives the value, and the second one a version that is none.
+#[test]
+fn a_connection_puts_gets_and_deletes(rt: HostRuntime) -> Result<(), Fail> {
+    let mut calls = Calls {
+        put: None,
+        deleted: None,
+    };
+    let closed = with_five_nodes(&rt, rt.alloc(), &mut calls)?;
+    assert!(rt; calls.put.as_deref() == Some("1 true x"));
+    assert!(rt; calls.deleted.as_deref() == Some("1 true"));
+    assert!(rt; closed.audit.acked.len() == 2);
+    assert!(rt; closed.audit.gets == 2);
+    Ok(())
+}
+
+// Whether node 1 has a row of its own, behind a get that mends nothing, and behind one that mends.
+#[derive(Drop)]
+struct Outage {
+    unrepaired: Option<bool>,
+    mended: Option<bool>,
+}
+
+// Whether node 1 has a row of the key for itself.
+fn has_row<J: Naming, R: Wait>(rt: &R, cluster: &Cluster<J>, key: &Key) -> Result<bool, Fault> {
+    let node = NodeId::nth(1);
+    let rows = cluster.show(rt, node, key)?;
+    Ok(rows.iter().any(|it| it.0 == node))
+}
+
+// The same behind a get that mends nothing.
+fn has_row_unrepaired<J: Naming, T: Transport<J>, R: Wait>(
+    rt: &R,
+    connection: &mut Connection<'_, J, T>,
+    key: &Key,
+) -> Result<bool, Fault> {
+    connection.get_unrepaired(rt, key)?;
+    has_row(rt, connection.cluster(), key)
+}
+
+// The same behind a get.
+fn has_row_mended<J: Naming, T: Transport<J>, R: Wait>(
+    rt: &R,
+    connection: &mut Connection<'_, J, T>,
+    key: &Key,
+) -> Result<bool, Fault> {
+    connection.get(rt, key)?;
+    has_row(rt, connection.cluster(), key)
+}
+
+impl Calling for Outage {
+    // Puts while node 1 is down, and gets twice once it is up.
+    fn call<J: Naming, T: Transport<J>, R: Wait>(
+        &mut self,
+        rt: &R,
+        alloc: Global,
+        connection: &mut Connection<'_, J, T>,
+    ) -> Result<(), Fault> {
+        let key = Key::new(alloc, b"a")?;
+        let cluster = connection.cluster();
+        cluster.set_up(rt, NodeId::nth(1), false);
+        put(rt, alloc, connection, &key)?;
+        cluster.set_up(rt, NodeId::nth(1), true);
+        self.unrepaired = has_row_unrepaired(rt, connection, &key).ok();
+        self.mended = has_row_mended(rt, connection, &key).ok();
+        Ok(())
+    }
+}
+
+impl Work for Outage {
+    fn run<J: Naming, R: Wait>(
+        &mut self,
+        rt: &R,
+        alloc: Global,
+        cluster: &Cluster<J>,
+        sessions: &mut Vec<Session<J>>,
+    ) -> Result<(), Fault> {
+        sessions.reserve(1)?;
+        let connection = cluster.connect(rt)?;
+        call_over(rt, alloc, self, connection, sessions)
+    }
+}
+
+// A home is down while a put is stored elsewhere. Once it is up, a get that finds it stale lets it
+// store the row, and one that mends nothing does not.
+#[test]
+fn a_get_mends_a_home_that_was_down(rt: HostRuntime) -> Result<(), Fail> {
+    let mut outage = Outage {
+        unrepaired: None,
+        mended: None,
+    };
+    let closed = with_five_nodes(&rt, rt.alloc(), &mut outage)?;
+    assert!(rt; outage.unrepaired == Some(false));
+    assert!(rt; outage.mended == Some(true));
+    assert!(rt; closed.audit.acked.len() == 1);
+    assert!(rt; closed.audit.gets == 2);
+    Ok(())
+}
