@@ -1,6 +1,6 @@
 -- How the outcome of a command comes from what a cluster's call answered.
 use Rattle.std.specs.Prelude.{◌≡◌, ◌≢◌, ◌≤◌, ◌⊎◌, ℕ, List, map, Option, None, Result, Ok, Err}
-use Rattle.std.specs.Prelude.{IfOk, IfErr, OnErr, IsOkUnless}
+use Rattle.std.specs.Prelude.{IfOk, IfErr, OnErr, IsOk, IsOkUnless}
 use Rattle.std.specs.declared.alloc.Global.{Global}
 use Rattle.std.specs.declared.vec.Vec.{Vec}
 use Rattle.dy_dots.specs.Dots.{DotSet}
@@ -19,9 +19,10 @@ use Rattle.dy_coord.specs.declared.get_dones.GetDone.{GetDone}
 use Rattle.dy_coord.specs.declared.get_faults.GetFault.{GetFault}
 use Rattle.dy_coord.specs.declared.put_results.PutDone.{PutDone}
 use Rattle.dy_coord.specs.declared.put_results.PutFault.{PutFault}
-use Rattle.dy_repair.specs.Repairs.{IsRepaired}
+use Rattle.dy_repair.specs.Stales.{AreCurrent}
 use Rattle.dy_handoff.specs.Passes.{IsPass}
 use Rattle.dy_handoff.specs.declared.counts.Pass.{Pass}
+use Rattle.dy_cluster.specs.Connections.{IsMended}
 use Rattle.dy_cluster.specs.Deliveries.{IsDelivery, IsDeliveryRefusal}
 use Rattle.dy_cluster.specs.Shows.{IsShow}
 use Rattle.dy_lines.specs.declared.keeping.Kept.{Kept}
@@ -101,13 +102,15 @@ pub record IsPutTold (J : Type 0) (list : Preferred) (w : ℕ) (key : List ℕ) 
       PutEnds {J = J} list w key context value before after (nothing_told MAX_NODES) told answer
   pub tells : TellsPut word answer outcome
 
--- each home that answered by itself with another row than the get's was asked to store this one, or
--- memory was wanting for that
-pub record IsMended (J : Type 0) (list : Preferred) (done : GetDone J) : Type 0 where
+-- what a get over a transport that told this found stale was mended; or memory was wanting for
+-- that, which it never is where nothing was stale
+pub record IsMendTried (J : Type 0) (list : Preferred) (told : Told J)
+    (done : GetDone J) : Type 0 where
+  pub after : Told J
   pub answer : Result (Unit {0}) Fault
-  pub ok : IfOk answer (λ _. (told : Told J)
-      × IsRepaired (homes_in list) done.row done.seen.items told)
+  pub ok : IfOk answer (λ _. IsMended (homes_in list) done.row done.seen.items told after)
   pub memory : IsOkUnless answer OutOfMemory
+  pub spared : AreCurrent done.row done.seen.items → IsOk answer
 
 -- the outcome tells what a get of the key answered, and so ended the session's part in it
 pub record IsGetTold (J : Type 0) (list : Preferred) (r : ℕ) (key : List ℕ) (outcome : Outcome)
@@ -117,15 +120,10 @@ pub record IsGetTold (J : Type 0) (list : Preferred) (r : ℕ) (key : List ℕ) 
   pub got : IfOk answer (λ done. IsGot list key r (since_of before) told done)
   pub heard : IfOk answer (λ done.
       after ≡ with_get before (since_of before) (first_answers done.seen.items))
-  pub mended : IfOk answer (λ done. IsMended J list done)
+  pub mended : IfOk answer (IsMendTried J list told)
   pub unheard : OnErr answer (after ≡ before)
   pub refused : IfErr answer (λ e. IsGetRefused list key r (since_of before) told e)
   pub tells : TellsGet answer outcome
-
--- there was no memory for what carries the messages, so nobody was tried
-abbrev pub IsNotCarried : Word → Outcome → SessionPart → SessionPart → Type 0
-IsNotCarried word outcome before after =
-    (after ≡ before) × (outcome ≡ Refused word OutOfMemory None)
 
 -- there was no room for the session, so nobody was tried
 abbrev pub IsUnseated : Word → Outcome → List SessionPart → List SessionPart → Type 0

@@ -6,18 +6,16 @@ use Rattle.dy_shares.specs.Shares.{SessionPart}
 use Rattle.dy_cluster.specs.Lists.{list_of}
 use Rattle.dy_lines.specs.declared.outcomes.Outcome.{Outcome}
 use Rattle.dy_lines.specs.declared.outcomes.Word.{Word}
-use Rattle.dy_lines.specs.declared.outcomes.Word.TheVariants.{Get}
 use Rattle.dy_lines.specs.declared.outcomes.Outcome.TheVariants.{Refused}
-use Rattle.dy_runner.specs.Answers.{IsGetTold, IsNotCarried, IsPutTold, IsUnseated}
+use Rattle.dy_runner.specs.Answers.{IsGetTold, IsPutTold, IsUnseated}
 use Rattle.dy_runner.specs.Seats.{IsToldAt}
 use Rattle.dy_runner.specs.declared.givens.Given.{Given}
 
--- the outcome tells a put of what is given, for the key's own list, or that nothing was sent
+-- the outcome tells a put of what is given, for the key's own list
 abbrev pub IsWritten :
     Type 0 → Tokens → ℕ → ℕ → Given → Word → Outcome → SessionPart → SessionPart → Type 0
 IsWritten J ring n w g word outcome before after =
     IsPutTold J (list_of ring n g.key) w g.key g.context g.value word outcome before after
-    ⊎ IsNotCarried word outcome before after
 
 -- the session at this place wrote what is given, or there was no room for it
 abbrev pub WritesAt :
@@ -36,9 +34,8 @@ RunsJudged J ring n place w word outcome before after (Ok g) =
 RunsJudged J ring n place w word outcome before after (Err f) =
     (after ≡ before) × (outcome ≡ Refused word f None)
 
--- the outcome tells a get of the key, for its own list, or that nothing was sent
+-- the outcome tells a get of the key, for its own list
 abbrev pub IsRead :
     Type 0 → Tokens → ℕ → ℕ → List ℕ → Outcome → SessionPart → SessionPart → Type 0
 IsRead J ring n r key outcome before after =
     IsGetTold J (list_of ring n key) r key outcome before after
-    ⊎ IsNotCarried Get outcome before after

@@ -1,23 +1,22 @@
-ghost use Rattle.std.specs.Prelude.{◌≡◌, ◌⊎◌, length, IfOk, IfErr, OnErr, IsOkUnless};
+ghost use Rattle.std.specs.Prelude.{◌≡◌, ◌⊎◌, length, IfOk, IsOk, IsOkUnless};
 ghost use Rattle.dy_dots.specs.declared.nodes.TheConstants.{MAX_NODES};
-ghost use Rattle.dy_shares.specs.Shares.{since_of, with_get};
-ghost use Rattle.dy_quorum.specs.Gatherings.{first_answers};
 ghost use Rattle.dy_reads.specs.Lists.{homes_in};
-ghost use Rattle.dy_transport.specs.Told.{Told, nothing_told};
-ghost use Rattle.dy_coord.specs.Gets.{IsGetRefused, IsGot};
-ghost use Rattle.dy_repair.specs.Repairs.{IsRepaired};
+ghost use Rattle.dy_repair.specs.Stales.{AreCurrent};
+ghost use Rattle.dy_cluster.specs.Connections.{IsMended};
 ghost use Rattle.dy_cluster.specs.Lists.{list_of};
 ghost use Rattle.dy_lines.specs.declared.outcomes.Word.TheVariants as word;
-ghost use Rattle.dy_runner.specs.Answers.{IsMended, IsUnseated, TellsGet};
+ghost use Rattle.dy_runner.specs.Answers.{IsUnseated, TellsGet};
 ghost use Rattle.dy_runner.specs.Seats.{IsOpened, IsToldAt, seat_of};
 ghost use Rattle.dy_runner.specs.Writes.{IsRead};
 
+use crate::renewals::renew;
 use crate::seats::Seats;
 use crate::writes::refused;
 use dy_cluster::{Cluster, Session};
 use dy_coord::{GetDone, GetFault};
 use dy_dots::Fault;
 use dy_lines::{Outcome, Word};
+use dy_repair::are_current;
 use dy_shares::Naming;
 use dy_siblings::Key;
 use dy_transport::Direct;
@@ -29,12 +28,15 @@ pub(crate) fn run_get<J: Naming, R: Wait>(
     rt: &R,
     alloc: Global,
     cluster: &Cluster<J>,
+    direct: &mut Direct<'_, J>,
     seats: &mut Seats,
     sessions: &mut Vec<Session<J>>,
     number: u8,
     key: &str,
 ) -> Outcome
+    requires room { direct.old.room ≡ MAX_NODES }
     requires together { length seats.old.numbers.items ≡ length sessions.old.items }
+    ensures room { direct.new.room ≡ MAX_NODES }
     ensures together { length seats.new.numbers.items ≡ length sessions.new.items }
     ensures opened { IsOpened number seats.old.numbers.items seats.new.numbers.items }
     ensures told { IsToldAt (seat_of number seats.new.numbers.items)
@@ -49,57 +51,51 @@ pub(crate) fn run_get<J: Naming, R: Wait>(
         Ok(place) => place,
         Err(fault) => return refused(Word::Get, fault),
     };
-    get_in(rt, cluster, &mut sessions[place], &key)
+    get_in(rt, cluster, direct, &mut sessions[place], &key)
 }
 
-// Gets in this session.
-fn get_in<J: Naming, R: Wait>(
-    rt: &R,
-    cluster: &Cluster<J>,
-    session: &mut Session<J>,
-    key: &Key,
-) -> Outcome
-    ensures { IsRead J J.ring J.n J.r key.now result session.old session.new }
-{
-    match cluster.direct() {
-        Ok(mut direct) => read(get_mended(rt, cluster, &mut direct, session, key)),
-        Err(fault) => refused(Word::Get, fault),
-    }
-}
-
-// Gets in this session, and repairs what was found stale. What comes of it changes nothing in the
+// Gets in this session, and mends what was found stale. What comes of that changes nothing in the
 // get.
-fn get_mended<J: Naming, R: Wait>(
+fn get_in<J: Naming, R: Wait>(
     rt: &R,
     cluster: &Cluster<J>,
     direct: &mut Direct<'_, J>,
     session: &mut Session<J>,
     key: &Key,
-) -> Result<GetDone<J>, GetFault>
-    requires fresh { direct.old ≡ nothing_told MAX_NODES }
-    ensures ok { IfOk result (λ done. IsGot (list_of J.ring J.n key.now) key.now J.r
-        (since_of session.old) direct.new done) }
-    ensures told { IfOk result (λ done. session.new ≡
-        with_get session.old (since_of session.old) (first_answers done.seen.items)) }
-    ensures mended { IfOk result (λ done. IsMended J (list_of J.ring J.n key.now) done) }
-    ensures err { OnErr result (session.new ≡ session.old) }
-    ensures refused { IfErr result (λ e. IsGetRefused (list_of J.ring J.n key.now) key.now J.r
-        (since_of session.old) direct.new e) }
+) -> Outcome
+    requires room { direct.old.room ≡ MAX_NODES }
+    ensures room { direct.new.room ≡ MAX_NODES }
+    ensures told { IsRead J J.ring J.n J.r key.now result session.old session.new }
 {
-    let done = cluster.get(rt, direct, session, key)?;
-    let _ = mend(rt, cluster, &done);
-    Ok(done)
+    renew(rt, direct);
+    let done = match cluster.get(rt, direct, session, key) {
+        Ok(done) => done,
+        Err(refusal) => return read::<J>(Err(refusal)),
+    };
+    let _ = mend(rt, cluster, direct, &done);
+    read(Ok(done))
 }
 
-// Repairs what the get found stale.
-fn mend<J: Naming, R: Wait>(rt: &R, cluster: &Cluster<J>, done: &GetDone<J>) -> Result<(), Fault>
-    ensures ok { IfOk result (λ _. (told : Told J)
-        × IsRepaired (homes_in (list_of J.ring J.n done.now.row.key)) done.now.row
-        done.now.seen.items told) }
+// Has each home that the get found stale store what it gave. Takes no memory where none was.
+fn mend<J: Naming, R: Wait>(
+    rt: &R,
+    cluster: &Cluster<J>,
+    direct: &mut Direct<'_, J>,
+    done: &GetDone<J>,
+) -> Result<(), Fault>
+    requires room { direct.old.room ≡ MAX_NODES }
+    ensures room { direct.new.room ≡ MAX_NODES }
+    ensures ok { IfOk result (λ _. IsMended
+        (homes_in (list_of J.ring J.n done.now.row.key)) done.now.row done.now.seen.items
+        direct.old direct.new) }
     ensures memory { IsOkUnless result Fault.OutOfMemory }
+    ensures spared { AreCurrent done.now.row done.now.seen.items → IsOk result }
 {
-    let mut direct = cluster.direct()?;
-    cluster.repair(rt, &mut direct, done.seen.as_slice(), &done.row)
+    if are_current(done.seen.as_slice(), &done.row) {
+        return Ok(());
+    }
+    renew(rt, direct);
+    cluster.repair(rt, direct, done.seen.as_slice(), &done.row)
 }
 
 // What came of a get, as its line tells it.

@@ -5,6 +5,7 @@ mod gets;
 mod givens;
 mod options;
 mod outages;
+mod renewals;
 mod running;
 mod seats;
 mod writes;

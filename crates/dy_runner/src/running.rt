@@ -1,4 +1,5 @@
 ghost use Rattle.std.specs.Prelude.{◌≡◌, [], length, OnOk};
+ghost use Rattle.dy_dots.specs.declared.nodes.TheConstants.{MAX_NODES};
 ghost use Rattle.dy_script.specs.Orders.{command_parts};
 ghost use Rattle.dy_script.specs.Reading.{script_parts};
 ghost use Rattle.dy_cluster.specs.Settings.{setting};
@@ -13,6 +14,7 @@ use dy_dots::Fault;
 use dy_lines::{CommandLine, Outcome, Word};
 use dy_script::{Command, Script};
 use dy_shares::Naming;
+use dy_transport::Direct;
 use std::alloc::Global;
 use std::io;
 use std::io::Write;
@@ -46,29 +48,41 @@ impl<O: Write> Work for Run<'_, O> {
         cluster: &Cluster<J>,
         sessions: &mut Vec<Session<J>>,
     ) -> Result<(), Fault> {
-        if let Err(error) = run_all(rt, alloc, cluster, sessions, self.script, self.out) {
+        let direct = cluster.direct()?;
+        if let Err(error) = run_all(rt, alloc, cluster, direct, sessions, self.script, self.out) {
             self.lost = Some(error);
         }
         Ok(())
     }
 }
 
-// Runs each command, and writes its line.
+// Runs each command over this transport, and writes its line.
 fn run_all<J: Naming, O: Write, R: Wait>(
     rt: &R,
     alloc: Global,
     cluster: &Cluster<J>,
+    mut direct: Direct<'_, J>,
     sessions: &mut Vec<Session<J>>,
     script: &Script,
     out: &mut O,
 ) -> io::Result<()>
+    requires room { direct.room ≡ MAX_NODES }
     requires none { sessions.old.items ≡ [] }
     ensures { OnOk result (HasRun (setting J J.ring J.n J.r) (script_parts script.now)
         sessions.new.items (O.contents out.old) (O.contents out.new)) }
 {
     let mut seats = Seats::new(alloc);
     for (index, command) in script.run.iter().enumerate() {
-        let outcome = run_command(rt, alloc, cluster, &mut seats, sessions, script.w, command);
+        let outcome = run_command(
+            rt,
+            alloc,
+            cluster,
+            &mut direct,
+            &mut seats,
+            sessions,
+            script.w,
+            command,
+        );
         let line = CommandLine {
             number: index + 1,
             outcome: &outcome,
@@ -83,30 +97,30 @@ fn run_command<J: Naming, R: Wait>(
     rt: &R,
     alloc: Global,
     cluster: &Cluster<J>,
+    direct: &mut Direct<'_, J>,
     seats: &mut Seats,
     sessions: &mut Vec<Session<J>>,
     w: u8,
     command: &Command,
 ) -> Outcome
+    requires room { direct.old.room ≡ MAX_NODES }
     requires together { length seats.old.numbers.items ≡ length sessions.old.items }
+    ensures room { direct.new.room ≡ MAX_NODES }
     ensures together { length seats.new.numbers.items ≡ length sessions.new.items }
     ensures done { Does (setting J J.ring J.n J.r) w (command_parts command.now) result
         (seated seats.old sessions.old.items) (seated seats.new sessions.new.items) }
 {
     match command {
         Command::Put { write, value } => {
-            run_put(rt, alloc, cluster, seats, sessions, w, write, value)
+            run_put(rt, alloc, cluster, direct, seats, sessions, w, write, value)
         }
-        Command::Delete { write } => run_delete(rt, alloc, cluster, seats, sessions, w, write),
-        Command::Get { key, session } => run_get(
-            rt,
-            alloc,
-            cluster,
-            seats,
-            sessions,
-            *session,
-            key.as_str(),
+        Command::Delete { write } => run_delete(
+            rt, alloc, cluster, direct, seats, sessions, w, write,
         ),
+        Command::Get { key, session } => {
+            let key = key.as_str();
+            run_get(rt, alloc, cluster, direct, seats, sessions, *session, key)
+        }
         Command::Down { node } => run_set_up(rt, cluster, Word::Down, *node, false),
         Command::Up { node } => run_set_up(rt, cluster, Word::Up, *node, true),
         Command::SetMode { node, mode } => run_set_mode(rt, cluster, *node, *mode),

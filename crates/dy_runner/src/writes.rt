@@ -1,5 +1,6 @@
 ghost use Rattle.std.specs.Prelude.{◌≡◌, None, Result, length, option_map, string_bytes};
 ghost use Rattle.dy_dots.specs.declared.faults.Fault.{Fault as FaultParts};
+ghost use Rattle.dy_dots.specs.declared.nodes.TheConstants.{MAX_NODES};
 ghost use Rattle.dy_lines.specs.declared.outcomes.Word.TheVariants as word;
 ghost use Rattle.dy_runner.specs.Answers.{TellsPut};
 ghost use Rattle.dy_runner.specs.Openings.{given_or};
@@ -9,6 +10,7 @@ ghost use Rattle.dy_runner.specs.Writes.{IsWritten, RunsJudged, WritesAt};
 ghost use Rattle.dy_runner.specs.declared.givens.Given.{Given as GivenParts};
 
 use crate::givens::{Given, read_delete, read_put};
+use crate::renewals::renew;
 use crate::seats::Seats;
 use dy_cluster::{Cluster, Session};
 use dy_coord::{PutDone, PutFault};
@@ -16,6 +18,7 @@ use dy_dots::Fault;
 use dy_lines::{Outcome, Word};
 use dy_script::Write;
 use dy_shares::Naming;
+use dy_transport::Direct;
 use std::alloc::Global;
 use std::sync::Wait;
 
@@ -24,13 +27,16 @@ pub(crate) fn run_put<J: Naming, R: Wait>(
     rt: &R,
     alloc: Global,
     cluster: &Cluster<J>,
+    direct: &mut Direct<'_, J>,
     seats: &mut Seats,
     sessions: &mut Vec<Session<J>>,
     w: u8,
     write: &Write,
     value: &[u8],
 ) -> Outcome
+    requires room { direct.old.room ≡ MAX_NODES }
     requires together { length seats.old.numbers.items ≡ length sessions.old.items }
+    ensures room { direct.new.room ≡ MAX_NODES }
     ensures together { length seats.new.numbers.items ≡ length sessions.new.items }
     ensures opened { IsOpened write.now.session seats.old.numbers.items seats.new.numbers.items }
     ensures told { (judged : Result GivenParts FaultParts)
@@ -43,17 +49,10 @@ pub(crate) fn run_put<J: Naming, R: Wait>(
 {
     match read_put(alloc, write, value) {
         Ok(given) => {
+            let number = write.session;
             let w = write.w.unwrap_or(w);
-            run_write(
-                rt,
-                cluster,
-                seats,
-                sessions,
-                write.session,
-                w,
-                Word::Put,
-                given,
-            )
+            let word = Word::Put;
+            run_write(rt, cluster, direct, seats, sessions, number, w, word, given)
         }
         Err(fault) => refused(Word::Put, fault),
     }
@@ -64,12 +63,15 @@ pub(crate) fn run_delete<J: Naming, R: Wait>(
     rt: &R,
     alloc: Global,
     cluster: &Cluster<J>,
+    direct: &mut Direct<'_, J>,
     seats: &mut Seats,
     sessions: &mut Vec<Session<J>>,
     w: u8,
     write: &Write,
 ) -> Outcome
+    requires room { direct.old.room ≡ MAX_NODES }
     requires together { length seats.old.numbers.items ≡ length sessions.old.items }
+    ensures room { direct.new.room ≡ MAX_NODES }
     ensures together { length seats.new.numbers.items ≡ length sessions.new.items }
     ensures opened { IsOpened write.now.session seats.old.numbers.items seats.new.numbers.items }
     ensures told { (judged : Result GivenParts FaultParts)
@@ -82,17 +84,10 @@ pub(crate) fn run_delete<J: Naming, R: Wait>(
 {
     match read_delete(alloc, write) {
         Ok(given) => {
+            let number = write.session;
             let w = write.w.unwrap_or(w);
-            run_write(
-                rt,
-                cluster,
-                seats,
-                sessions,
-                write.session,
-                w,
-                Word::Delete,
-                given,
-            )
+            let word = Word::Delete;
+            run_write(rt, cluster, direct, seats, sessions, number, w, word, given)
         }
         Err(fault) => refused(Word::Delete, fault),
     }
@@ -102,6 +97,7 @@ pub(crate) fn run_delete<J: Naming, R: Wait>(
 fn run_write<J: Naming, R: Wait>(
     rt: &R,
     cluster: &Cluster<J>,
+    direct: &mut Direct<'_, J>,
     seats: &mut Seats,
     sessions: &mut Vec<Session<J>>,
     number: u8,
@@ -109,7 +105,9 @@ fn run_write<J: Naming, R: Wait>(
     word: Word,
     given: Given,
 ) -> Outcome
+    requires room { direct.old.room ≡ MAX_NODES }
     requires together { length seats.old.numbers.items ≡ length sessions.old.items }
+    ensures room { direct.new.room ≡ MAX_NODES }
     ensures together { length seats.new.numbers.items ≡ length sessions.new.items }
     ensures opened { IsOpened number seats.old.numbers.items seats.new.numbers.items }
     ensures told { WritesAt J J.ring J.n (seat_of number seats.new.numbers.items)
@@ -119,32 +117,31 @@ fn run_write<J: Naming, R: Wait>(
         Ok(place) => place,
         Err(fault) => return refused(word, fault),
     };
-    write_in(rt, cluster, &mut sessions[place], w, word, given)
+    write_in(rt, cluster, direct, &mut sessions[place], w, word, given)
 }
 
 // Puts in this session.
 fn write_in<J: Naming, R: Wait>(
     rt: &R,
     cluster: &Cluster<J>,
+    direct: &mut Direct<'_, J>,
     session: &mut Session<J>,
     w: u8,
     word: Word,
     given: Given,
 ) -> Outcome
-    ensures { IsWritten J J.ring J.n w given word result session.old session.new }
+    requires room { direct.old.room ≡ MAX_NODES }
+    ensures room { direct.new.room ≡ MAX_NODES }
+    ensures told { IsWritten J J.ring J.n w given word result session.old session.new }
 {
     let Given {
         key,
         context,
         value,
     } = given;
-    match cluster.direct() {
-        Ok(mut direct) => {
-            let answer = cluster.put(rt, &mut direct, w, session, &key, &context, value);
-            written(word, answer)
-        }
-        Err(fault) => refused(word, fault),
-    }
+    renew(rt, direct);
+    let answer = cluster.put(rt, direct, w, session, &key, &context, value);
+    written(word, answer)
 }
 
 // What came of a put, as its line tells it.

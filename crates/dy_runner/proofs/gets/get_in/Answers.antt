@@ -1,17 +1,44 @@
-use Rattle.std.proofs.Common.{inl}
+use Rattle.std.specs.Prelude.{Ok, Err, IfOk}
+use Rattle.std.proofs.Common.{List, ℕ, subst}
+use Rattle.dy_reads.specs.Lists.{homes_in}
+use Rattle.dy_cluster.specs.Connections.{IsMended}
+use Rattle.dy_cluster.specs.Lists.{list_of}
 use Rattle.dy_runner.proofs.gets.get_in.Goals as goal
 
--- what the get and its repair answered
-pub returns-in-Ok : goal.returns-in-Ok
-returns-in-Ok g c =
-    let answer = c.get_mended.ensures in
-    inl (record {
-      told = c.get_mended.new.direct;
-      answer = c.get_mended.result;
-      got = answer.ok;
-      heard = answer.told;
-      mended = answer.mended;
-      unheard = answer.err;
-      refused = answer.refused;
-      tells = c.read.ensures;
-    })
+-- what the get answered, and what its mending did for its key's own list
+pub returns-clause-told : goal.returns-clause-told
+returns-clause-told g c =
+    let got = c.in-Ok.ensures.ok in
+    let done = c.in-Ok.done in
+    let naming = g.J.Naming in
+    record {
+      told = c.get.new.transport;
+      answer = Ok done;
+      got = got;
+      heard = c.in-Ok.ensures.told;
+      mended = record {
+        after = c.mend.new.direct;
+        answer = c.mend.result;
+        ok = subst (λ (key : List ℕ). IfOk c.mend.result (λ _. IsMended
+            (homes_in (list_of naming.ring naming.n key)) done.row done.seen.items
+            c.get.new.transport c.mend.new.direct)) got.row_key c.mend.ensures.ok;
+        memory = c.mend.ensures.memory;
+        spared = c.mend.ensures.spared;
+      };
+      unheard = tt;
+      refused = tt;
+      tells = c.read-2.ensures;
+    }
+
+-- why the get was refused
+pub returns-in-Err-clause-told : goal.returns-in-Err-clause-told
+returns-in-Err-clause-told g c = record {
+  told = c.get.new.transport;
+  answer = Err c.in-Err.refusal;
+  got = tt;
+  heard = tt;
+  mended = tt;
+  unheard = c.in-Err.ensures.err;
+  refused = c.in-Err.ensures.refused;
+  tells = c.read.ensures;
+}

@@ -8,7 +8,7 @@ use Rattle.dy_runner.proofs.running.run_all.Goals as goal
 
 pub loop-index-preserved : goal.loop-index-preserved
 loop-index-preserved g c =
-    let so_far = c.loop-index.invariant.1 in
+    let so_far = c.loop-index.invariant.so_far in
     let outcome = c.run_command-outcome.result in
     let after = c.run_command-outcome.new in
     let contents = g.O.Write.contents in
@@ -23,13 +23,15 @@ loop-index-preserved g c =
     script.w script.run.items index so_far.0 command outcome none_seated
     (seated c.loop-index.seats c.loop-index.sessions.items)
     (seated after.seats after.sessions.items) within here so_far.1
-    c.run_command-outcome.ensures.done in (
-      c.run_command-outcome.ensures.together,
-      (
+    c.run_command-outcome.ensures.done in
+    record {
+      room = c.run_command-outcome.ensures.room;
+      together = c.run_command-outcome.ensures.together;
+      so_far = (
         so_far.0 ++ outcome ∷ [],
         next.done,
         lines_next (contents c.args.out.now) (contents c.loop-index.out)
             (contents c.writeln.new.self) index so_far.0 outcome next.count so_far.2
             c.in_ok-writeln.ensures.bytes,
-      ),
-    )
+      );
+    }

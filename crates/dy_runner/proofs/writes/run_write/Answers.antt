@@ -12,4 +12,4 @@ returns-clause-told g c =
     c.index_mut.result.now c.write_in.new.session
     (IsWritten g.row.J.Denot naming.ring naming.n c.args.w c.args.given c.args.word
     c.write_in.result)
-    place.place place.there c.index_mut.ensures.value place.seated c.write_in.ensures)
+    place.place place.there c.index_mut.ensures.value place.seated c.write_in.ensures.told)
