@@ -125,7 +125,8 @@ fn run_named<J: Naming, W: Work, R: Wait>(
 
 /// Opens a cluster on the ring, runs so many clients beside each other, each with a connection of
 /// its own, which asks the nodes in the client's thread, and closes it. A client for which no
-/// thread can be had runs on the caller's.
+/// thread can be had runs on the caller's; where there is no memory for what carries the messages
+/// of one, it does not run, and that is told as want of memory once the others are done.
 pub fn with_clients<C: Client + Sync, R: Threads + Wait + Sync>(
     rt: &R,
     alloc: Global,

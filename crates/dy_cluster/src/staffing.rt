@@ -31,7 +31,8 @@ use std::thread::{Threads, for_each_mut};
 /// Opens a cluster on the ring, starts a worker for each node, runs so many clients beside each
 /// other, each with a connection of its own over them, and closes it. Where no thread can be had
 /// for a worker, no client runs, and that is told as want of memory; a client for which none can be
-/// had runs on the caller's.
+/// had runs on the caller's. Where there is no memory for what carries the messages of one, it does
+/// not run, and that is told so too, once the others are done.
 pub fn with_workers<C: Client + Sync, G: Gate + Sync, R: Threads + Wait + Sync>(
     rt: &R,
     alloc: Global,

@@ -2,11 +2,20 @@ use Rattle.std.proofs.lemmas.Result.{IfOk-weaker}
 use Rattle.example_cart.proofs.fill.Goals as goal
 
 -- what the audit lists as acknowledged is covered by the stores
+pub returns-then-by_workers-clause-covered : goal.returns-then-by_workers-clause-covered
+returns-then-by_workers-clause-covered g c = IfOk-weaker c.with_workers.result _ _
+    (λ closed stores. stores.covered) c.with_workers.ensures.stores
+
 pub returns-clause-covered : goal.returns-clause-covered
 returns-clause-covered g c = IfOk-weaker c.with_clients.result _ _ (λ closed stores. stores.covered)
     c.with_clients.ensures.stores
 
 -- the sessions of a closed cluster read their own writes
+pub returns-then-by_workers-clause-own_writes : goal.returns-then-by_workers-clause-own_writes
+returns-then-by_workers-clause-own_writes g c = IfOk-weaker c.with_workers.result _ _
+    (λ closed ends. (ends.0, ends.1, c.session_guarantees.ensures.own_writes _ _ _ ends.0 closed ends.1))
+    c.with_workers.ensures.closed
+
 pub returns-clause-own_writes : goal.returns-clause-own_writes
 returns-clause-own_writes g c = IfOk-weaker c.with_clients.result _ _
     (λ closed ends. (ends.0, ends.1, c.session_guarantees.ensures.own_writes _ _ _ ends.0 closed ends.1))
