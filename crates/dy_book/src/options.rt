@@ -1,4 +1,6 @@
 ghost use Rattle.std.specs.Prelude.{◌↔◌, true, ◌≡◌};
+ghost use Rattle.dy_dots.specs.declared.dots.TheConstants.{MAX_COUNTER};
+ghost use Rattle.dy_book.specs.declared.options.TheConstants.{MAX_VERSIONS, MAX_STEPS};
 
 use dy_dots::MAX_COUNTER;
 
@@ -22,6 +24,23 @@ pub struct Options {
 
 impl Options {
     ghost use Rattle.dy_book.specs.Limits.{AreLimits, IsQuorum};
+
+    /// So many homes a key, answers a get and homes a put, with the greatest limits.
+    pub const fn of(n: u8, r: u8, w: u8) -> Options
+        ensures numbers { (result.n ≡ n) × (result.r ≡ r) × (result.w ≡ w) }
+        ensures counters { result.counter_limit ≡ MAX_COUNTER }
+        ensures versions { result.versions_limit ≡ MAX_VERSIONS }
+        ensures steps { result.steps_limit ≡ MAX_STEPS }
+    {
+        Options {
+            n,
+            r,
+            w,
+            counter_limit: MAX_COUNTER,
+            versions_limit: MAX_VERSIONS,
+            steps_limit: MAX_STEPS,
+        }
+    }
 
     /// Whether each limit is in its range. Takes no memory.
     pub fn has_limits(&self) -> bool

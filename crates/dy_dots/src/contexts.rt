@@ -1,6 +1,7 @@
 ghost use Rattle.std.specs.Prelude.{◌≡◌, ◌↔◌, true, Some, OnOk, OnErr, IfOk, IfErr, IsOkUnless};
 ghost use Rattle.std.specs.Prelude.{string_bytes, IsTrue, IsOk};
 ghost use Rattle.std.specs.FinSet as set;
+ghost use Rattle.std.specs.Slice.Iter.{iter_rest};
 ghost use Rattle.dy_dots.specs.Dots.{DotSet, dot_set_code, AreDots};
 ghost use Rattle.dy_dots.specs.Runs.{AreKept, AreRunsOf, set_of};
 ghost use Rattle.dy_dots.specs.Spelling.{HasText, IsFound, IsRefused, OneSet, OneSpelling};
@@ -11,8 +12,8 @@ use crate::faults::Fault;
 use crate::runs::{self, Run};
 use crate::texts;
 use std::alloc::Global;
-use std::fmt;
 use std::marker::Model;
+use std::{fmt, slice};
 
 /// A set of dots of one key, kept as its maximal runs, sorted by node, then by counter.
 #[derive(Debug, Drop)]
@@ -146,6 +147,19 @@ impl Context {
         let text = texts::text_of(alloc, self.runs.as_slice())?;
         out.push_str(text.as_str())?;
         Ok(())
+    }
+}
+
+/// Goes over the maximal runs, rising.
+impl<'a> IntoIterator for &'a Context {
+    type Item = &'a Run;
+
+    type IntoIter = slice::Iter<'a, Run>;
+
+    ghost into_iter_gives = { λ context it. AreRunsOf (iter_rest it) context.now };
+
+    fn into_iter(self) -> Self::IntoIter {
+        self.runs().iter()
     }
 }
 

@@ -33,7 +33,7 @@ fn in_order(alloc: Global, ring: &Ring, key: &Key) -> Result<Vec<NodeId>, Fault>
     let count = ring.nodes() as usize;
     let first = ring.first_after(Ring::position(key));
     let (before, after) = ring.tokens().split_at(first);
-    let mut nodes = Vec::new(alloc);
+    let mut nodes = Vec::with_capacity(alloc, count)?;
     meet(&mut nodes, after, count)?;
     meet(&mut nodes, before, count)?;
     Ok(nodes)

@@ -1,5 +1,6 @@
 ghost use Rattle.std.specs.Prelude.{◌≡◌, ◌≤◌, ◌<◌, ◌^◌, length, map, take, drop, IfOk, IsOkUnless};
 ghost use Rattle.std.specs.List.{All};
+ghost use Rattle.std.specs.Slice.Iter.{iter_rest};
 ghost use Rattle.dy_ring.specs.Lists.{IsRingOf, RefusesTooMany, RefusesWithout, RefusesClash};
 ghost use Rattle.dy_ring.specs.Lists.{TellsClash, MakesUnlessMemory, derived_lists};
 ghost use Rattle.dy_ring.specs.Rings.{IsRing, position_of};
@@ -13,6 +14,7 @@ use dy_siblings::Key;
 use md5::{Digest, Md5};
 use std::alloc::Global;
 use std::marker::Model;
+use std::slice;
 
 /// How many tokens a node has at most.
 pub const MAX_TOKENS_PER_NODE: usize = 64;
@@ -132,5 +134,18 @@ impl Ring {
         ensures small { position_of key.now < 2 ^ 128 }
     {
         u128::from_be_bytes(Md5::digest(key.as_bytes()))
+    }
+}
+
+/// Goes over the tokens, in rising position.
+impl<'a> IntoIterator for &'a Ring {
+    type Item = &'a Token;
+
+    type IntoIter = slice::Iter<'a, Token>;
+
+    ghost into_iter_gives = { λ ring it. iter_rest it ≡ ring.now.tokens };
+
+    fn into_iter(self) -> Self::IntoIter {
+        self.tokens().iter()
     }
 }

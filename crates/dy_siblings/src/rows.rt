@@ -1,5 +1,6 @@
 ghost use Rattle.std.specs.Prelude.{◌≡◌, ◌++◌, ◌↔◌, map, [], ◌∷◌, IfOk, OnOk, OnErr, IsOkUnless};
 ghost use Rattle.std.specs.Prelude.{IsTrue, IsOk};
+ghost use Rattle.std.specs.Slice.Iter.{iter_rest};
 
 use crate::keys::Key;
 use crate::merging;
@@ -8,6 +9,7 @@ use crate::versions::Version;
 use dy_dots::{Context, Dot, Fault};
 use std::alloc::Global;
 use std::marker::Model;
+use std::slice;
 
 /// The versions of one key of which none follows another, in the order of their dots: what nodes
 /// hold, messages carry and gets answer.
@@ -183,5 +185,18 @@ impl Row {
             key: self.key.try_clone(alloc)?,
             versions: merging::copied(alloc, self.versions.as_slice())?,
         })
+    }
+}
+
+/// Goes over the versions, in the order of their dots.
+impl<'a> IntoIterator for &'a Row {
+    type Item = &'a Version;
+
+    type IntoIter = slice::Iter<'a, Version>;
+
+    ghost into_iter_gives = { λ row it. iter_rest it ≡ row.now.versions };
+
+    fn into_iter(self) -> Self::IntoIter {
+        self.versions().iter()
     }
 }
