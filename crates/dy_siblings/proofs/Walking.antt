@@ -1,5 +1,5 @@
 -- One pass over two lists of versions in the order of their dots.
-use Rattle.std.proofs.Common.{◌≡◌, ℕ, true, false, not, List, [], ◌∷◌, ◌++◌, ◌||◌, ◌⊎◌, sym, ap, ◌∙◌, subst, inl, inr, ⊎_elim, append_assoc, append-nil}
+use Rattle.std.proofs.Common.{◌≡◌, ℕ, Bool, true, false, not, List, [], ◌∷◌, ◌++◌, ◌||◌, ◌⊎◌, sym, ap, ◌∙◌, subst, inl, inr, ⊎_elim, append_assoc, append-nil}
 use Rattle.std.specs.List.{filter, Contains, All}
 use Rattle.std.specs.FinSet as set
 use Rattle.std.proofs.lemmas.Bool.{true≢false, not-true, not_from_false}
@@ -8,7 +8,7 @@ use Rattle.std.proofs.lemmas.List.Folds.{list_any-append}
 use Rattle.dy_dots.specs.Dots.{DotNumbers, DotSet, dot_cmp}
 use Rattle.dy_siblings.specs.Versions.{VersionParts, IsVersion}
 use Rattle.dy_siblings.specs.Siblings.{AreOneByDot, IsSameRow, IsSiblingSet, Rise, is_past}
-use Rattle.dy_siblings.specs.inside.Merging.{IsFirst, IsAlone, IsShared, IsMerge, IsNextVersion, IsUnionOutside, with_pasts}
+use Rattle.dy_siblings.specs.inside.Merging.{IsFirst, IsAlone, IsShared, IsMerge, IsNextVersion, IsUnionOutside, both_pasts, with_pasts}
 use Rattle.dy_siblings.proofs.Members.{not_in_nil, in_head, in_tail, in_cases, none_from, any_from, filter_in, filter_from}
 use Rattle.dy_siblings.proofs.Histories.{in_with_pasts}
 use Rattle.dy_siblings.proofs.Rising.{rise_skip, rise_put}
@@ -183,15 +183,30 @@ walks_end past a b out left right no_left no_right w = (
   ),
 )
 
--- the pasts of both lists
-pub past_is : (a b : List VersionParts) (d : DotNumbers) → set.contains (with_pasts (with_pasts set.empty a) b) d ≡ is_past (a ++ b) d
-past_is a b d =
+-- what the one list's pasts have, or the other's
+pub past_of_either : (a b : List VersionParts) (d : DotNumbers) → set.contains (both_pasts a b) d ≡ (is_past a d || is_past b d)
+past_of_either a b d =
     in_with_pasts (with_pasts set.empty a) b d
     ∙ ap (λ x. x || is_past b d) (in_with_pasts set.empty a d ∙ ap (λ x. x || is_past a d) (set.contains-empty dot_cmp d))
-    ∙ sym (list_any-append (λ v. set.contains v.past d) a b)
+
+-- the answer for the one list where it is true, and else that for the other
+module _ (all : DotSet) (a b : List VersionParts) (d : DotNumbers) (one : Bool) (same : both_pasts a b ≡ all) (is : one ≡ is_past a d) where
+  pub past_of_one : one ≡ true → one ≡ set.contains all d
+  past_of_one is_true =
+      is_true ∙ sym (ap (λ x. x || is_past b d) (sym is ∙ is_true))
+      ∙ sym (past_of_either a b d) ∙ ap (λ x. set.contains x d) same
+
+  pub past_of_other : (other : Bool) → one ≡ false → other ≡ is_past b d → other ≡ set.contains all d
+  past_of_other other is_false its =
+      its ∙ sym (ap (λ x. x || is_past b d) (sym is ∙ is_false))
+      ∙ sym (past_of_either a b d) ∙ ap (λ x. set.contains x d) same
+
+-- the pasts of both lists
+pub past_is : (a b : List VersionParts) (d : DotNumbers) → set.contains (both_pasts a b) d ≡ is_past (a ++ b) d
+past_is a b d = past_of_either a b d ∙ sym (list_any-append (λ v. set.contains v.past d) a b)
 
 -- what is kept outside the pasts of both lists is their merge
-pub kept_is_merge : (past : DotSet) (a b kept : List VersionParts) → past ≡ with_pasts (with_pasts set.empty a) b → IsUnionOutside past a b kept → IsMerge a b kept
+pub kept_is_merge : (past : DotSet) (a b kept : List VersionParts) → past ≡ both_pasts a b → IsUnionOutside past a b kept → IsMerge a b kept
 kept_is_merge past a b kept same union =
     (union.0, subst (IsSameRow kept) (ap (λ t. filter t (a ++ b)) (λ i v. not (is v.dot i))) union.1)
   where

@@ -1,26 +1,15 @@
-ghost use Rattle.std.specs.Prelude.{◌≡◌, ◌++◌, map, IfOk, IfSome, IfNone, OnOk, IsOkUnless, []};
+ghost use Rattle.std.specs.Prelude.{◌≡◌, ◌++◌, map, IfOk, IfSome, IfNone, IsOkUnless, []};
 ghost use Rattle.std.specs.Prelude.{◌↔◌, IsTrue};
 ghost use Rattle.std.specs.FinSet as set;
 ghost use Rattle.dy_siblings.specs.inside.Merging.{do_lists_conflict, IsMerge, IsNextVersion};
-ghost use Rattle.dy_siblings.specs.inside.Merging.{IsUnionOutside, with_pasts, with_histories};
-ghost use Rattle.dy_siblings.specs.inside.Merging.{with_dots};
+ghost use Rattle.dy_siblings.specs.inside.Merging.{IsUnionOutside, with_dots, with_histories};
 ghost use Rattle.dy_siblings.specs.Siblings.{AreOneByDot, Rise, present_values};
 
+use crate::pasts::Pasts;
 use crate::values::Value;
 use crate::versions::Version;
 use dy_dots::{Context, Dot, Fault};
 use std::alloc::Global;
-
-/// Adds the versions' pasts.
-fn add_pasts(alloc: Global, past: &mut Context, versions: &[Version]) -> Result<(), Fault>
-    ensures ok { OnOk result (past.new ≡ with_pasts past.old versions.now) }
-    ensures memory { IsOkUnless result Fault.OutOfMemory }
-{
-    for version in versions {
-        past.union(alloc, version.past())?;
-    }
-    Ok(())
-}
 
 /// The version whose dot comes first of the first ones of two lists, and what is left of both.
 fn split_next<'a>(
@@ -49,7 +38,7 @@ fn split_next<'a>(
 /// Copies of the versions of both lists whose dot the set lacks, in the order of their dots.
 fn union_outside(
     alloc: Global,
-    past: &Context,
+    past: &Pasts<'_>,
     a: &[Version],
     b: &[Version],
 ) -> Result<Vec<Version>, Fault>
@@ -59,7 +48,7 @@ fn union_outside(
     ensures ok { IfOk result (λ kept. IsUnionOutside past.now a.now b.now kept.items) }
     ensures memory { IsOkUnless result Fault.OutOfMemory }
 {
-    let mut kept = Vec::new(alloc);
+    let mut kept = Vec::with_capacity(alloc, a.len().max(b.len()).saturating_add(1))?;
     let mut left = a;
     let mut right = b;
     while let Some((next, left_rest, right_rest)) = split_next(left, right) {
@@ -107,9 +96,7 @@ pub(crate) fn merged(alloc: Global, a: &[Version], b: &[Version]) -> Result<Vec<
     ensures ok { IfOk result (λ kept. IsMerge a.now b.now kept.items) }
     ensures memory { IsOkUnless result Fault.OutOfMemory }
 {
-    let mut past = Context::new(alloc);
-    add_pasts(alloc, &mut past, a)?;
-    add_pasts(alloc, &mut past, b)?;
+    let past = Pasts::of(alloc, a, b)?;
     union_outside(alloc, &past, a, b)
 }
 

@@ -12,6 +12,10 @@ abbrev pub with_pasts : DotSet → List VersionParts → DotSet
 with_pasts s [] = s
 with_pasts s (v ∷ vs) = with_pasts (set.union s v.past) vs
 
+-- the dots that the versions of both lists follow
+abbrev pub both_pasts : List VersionParts → List VersionParts → DotSet
+both_pasts a b = with_pasts (with_pasts set.empty a) b
+
 -- the set with the versions' histories
 abbrev pub with_histories : DotSet → List VersionParts → DotSet
 with_histories s [] = s

@@ -4,7 +4,7 @@ use Rattle.dy_siblings.proofs.merging.union_outside.Goals as goal
 
 pub loop-next-init : goal.loop-next-init
 loop-next-init c =
-    walks_first c.args.past.now c.args.a.now c.args.b.now c.new-kept.result.items c.new-kept.ensures.items c.requires.a_rises c.requires.b_rises
+    walks_first c.args.past.now c.args.a.now c.args.b.now c.in_ok-kept.kept.items c.in_ok-kept.ensures.items c.requires.a_rises c.requires.b_rises
 
 -- the next version is kept
 pub loop-next-preserved-in_ok-push : goal.loop-next-preserved-in_ok-push
