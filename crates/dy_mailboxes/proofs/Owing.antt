@@ -3,7 +3,7 @@
 -- an ask that said more than that nothing came is none.
 use Rattle.std.proofs.Common.{◌≡◌, ◌++◌, ◌<◌, ◌+◌, ◌*◌, List, [], ◌∷◌, ℕ, zero, suc, Option, Some}
 use Rattle.std.proofs.Common.{None, length, map, get_or, refl, sym, ◌∙◌, ap, subst, arith}
-use Rattle.std.proofs.Common.{length-append, inl, inr, IfSome}
+use Rattle.std.proofs.Common.{length-append, inl, inr}
 use Rattle.std.proofs.Math.ListN.{set}
 use Rattle.std.proofs.Math.Seq.{get_or-append_seam}
 use Rattle.std.proofs.lemmas.List.{map-append, get_or-set_other, get_or-set_same}
@@ -14,22 +14,20 @@ use Rattle.std.proofs.lemmas.List.Elements.{All-push, Contains-append_left, Cont
 use Rattle.std.specs.List.{All, Contains, slice_get}
 use Rattle.dy_siblings.specs.Siblings.{Siblings}
 use Rattle.dy_book.specs.Books.{receipts_of}
-use Rattle.dy_core.specs.declared.places.Place.{Place}
 use Rattle.dy_node.specs.declared.asks.Answer.{Answer}
 use Rattle.dy_node.specs.declared.asks.Answer.TheVariants as answer
 use Rattle.dy_transport.specs.Asking.{FitsWhat}
-use Rattle.dy_transport.specs.Told.{Answers, IsAwaited, Told, with_reply}
+use Rattle.dy_transport.specs.Told.{Answers, IsAwaited, Told}
 use Rattle.dy_transport.specs.declared.asked.Asked.{Asked}
 use Rattle.dy_transport.specs.declared.asked.What.{What}
 use Rattle.dy_transport.specs.declared.asked.What.TheVariants as what
 use Rattle.dy_transport.specs.declared.replies.Reply.{Reply}
-use Rattle.dy_transport.specs.declared.tries.Try.{Try}
 use Rattle.dy_mailboxes.specs.Parcels.{IsCopy, IsKept}
 use Rattle.dy_mailboxes.specs.declared.parcels.Parcel.{Parcel}
 use Rattle.dy_mailboxes.specs.declared.parcels.Parcel.TheVariants.{Store, Fetch}
 use Rattle.dy_mailboxes.specs.declared.sent.Sent.{Sent}
 use Rattle.dy_mailboxes.specs.inside.Sheets.{AllSent, FitsKept, FitsNothing, FitsParcel, FitsSent}
-use Rattle.dy_mailboxes.specs.inside.Sheets.{IsSent, IsSheet, SheetParts, with_told}
+use Rattle.dy_mailboxes.specs.inside.Sheets.{IsSent, IsSheet, SheetParts}
 
 -- an ask that has fewer left, or had, has an answer among those read
 gives_each : (numbers left : List ℕ) (k n after count : ℕ) →
@@ -282,19 +280,3 @@ module _ {J : Type 0} where
       length l.told.asks < l.told.room
   room_left is lt =
       let P : SheetParts J → Type 0 = λ s. length s.told.asks < s.told.room in subst P is lt
-
-  -- what is told of asks and answers is told beside any tries
-  pub tells_beside : (tries : List (Try J)) (old new : SheetParts J)
-      (r : Option (Place × Answer J)) →
-      IfSome r (λ x. (number : ℕ)
-      × (new ≡ with_told old (with_reply old.told number x.0.holder x.0.home x.1))
-      × Answers old.told.asks number x.0.holder x.0.home x.1
-      × IsAwaited old.told.replies number) →
-      IfSome r (λ x. (number : ℕ)
-      × (record new.told { tries = tries }
-      ≡ with_reply (record old.told { tries = tries }) number x.0.holder x.0.home x.1)
-      × Answers old.told.asks number x.0.holder x.0.home x.1
-      × IsAwaited old.told.replies number)
-  tells_beside tries old new None h = tt
-  tells_beside tries old new (Some x) h =
-      (h.0, ap (λ (s : SheetParts J). record s.told { tries = tries }) h.1, h.2, h.3)

@@ -1,9 +1,10 @@
-ghost use Rattle.std.specs.Prelude.{◌≡◌, ◌<◌, ◌*◌, ◌^◌, ℕ, length, get_or, IfOk, IfNone, IfSome};
-ghost use Rattle.std.specs.Prelude.{IsOkUnless};
+ghost use Rattle.std.specs.Prelude.{◌≡◌, ◌<◌, ◌+◌, ◌*◌, ◌^◌, ℕ, length, get_or};
+ghost use Rattle.std.specs.Prelude.{IfOk, IfNone, IfSome, IsOkUnless};
 ghost use Rattle.dy_node.specs.declared.asks.Answer.TheVariants.{NoAnswer};
 ghost use Rattle.dy_transport.specs.Asking.{what_of};
-ghost use Rattle.dy_transport.specs.Told.{with_ask, with_none, with_reply};
+ghost use Rattle.dy_transport.specs.Told.{with_ask, with_none, with_reply, with_try};
 ghost use Rattle.dy_transport.specs.Told.{AllAnswered, Answers, IsAwaited};
+ghost use Rattle.dy_transport.specs.declared.transports.TheConstants.{SPARE_TRIES};
 ghost use Rattle.dy_mailboxes.specs.Parcels.{IsKept};
 ghost use Rattle.dy_mailboxes.specs.inside.Sheets.{nothing_on_sheet, with_told};
 
@@ -13,13 +14,13 @@ use dy_core::Place;
 use dy_dots::{Fault, NodeId};
 use dy_node::{Answer, Ask};
 use dy_shares::Naming;
-use dy_transport::Trail;
+use dy_transport::{Trail, Try};
 use std::alloc::Global;
 use std::marker::Model;
 
-/// What is told of one call's asks, with what each answer is held against, and how many answers to
-/// each ask may still be handed on: two at first, one where the first said that nothing came; and
-/// the number of the call.
+/// What is told of one call, with what each answer is held against, and how many answers to each
+/// ask may still be handed on: two at first, one where the first said that nothing came; and the
+/// number of the call.
 #[derive(Drop)]
 pub struct Sheet<J: Naming> {
     trail: Trail<J>,
@@ -125,6 +126,14 @@ impl<J: Naming> Sheet<J> {
         ensures { result ≡ length self.now.told.asks }
     {
         self.trail.ask_count()
+    }
+
+    /// Tells of a try. Takes no memory.
+    pub fn note_try(&mut self, tried: Try<J>)
+        requires { length self.old.told.tries < self.old.told.room + SPARE_TRIES }
+        ensures { self.new ≡ with_told self.old (with_try self.old.told tried) }
+    {
+        self.trail.note_try(tried);
     }
 
     /// Tells of an ask, with the copy that its answers are held against, and whether it is on its

@@ -13,11 +13,10 @@ use crate::posts::Post;
 use crate::sheets::Sheet;
 use dy_book::Book;
 use dy_core::Place;
-use dy_dots::{Context, Fault, NodeId};
-use dy_node::{Answer, Ask, Begun, Node, RowFor};
-use dy_shares::{Naming, Receipt, Seen, SessionShare, Since};
-use dy_siblings::{Key, Value};
-use dy_transport::{Direct, Transport};
+use dy_dots::{Fault, NodeId};
+use dy_node::{Answer, Ask, Node};
+use dy_shares::Naming;
+use dy_transport::{Reach, Transport, Try};
 use std::alloc::Global;
 use std::marker::Model;
 use std::sync::{Mutex, Wait};
@@ -28,19 +27,17 @@ use std::sync::{Mutex, Wait};
 const CALLS: usize = 4;
 
 /// A transport whose asks go to the nodes' workers, and whose tries and acks are made on the
-/// caller's own thread, as those of a `Direct`. The nodes lie in the order of their numbers, and so
-/// do the mailboxes.
+/// caller's own thread. The nodes lie in the order of their numbers, and so do the mailboxes.
 #[derive(Drop)]
 pub struct Mailboxes<'a, J: Naming> {
     alloc: Global,
-    near: Direct<'a, J>,
+    reach: Reach<'a, J>,
     post: Post<J>,
     channel: Channel<J>,
     sheet: Sheet<J>,
 }
 
 impl<'a, J: Naming> Model for Mailboxes<'a, J> {
-    ghost use Rattle.std.specs.Prelude.{◌≡◌};
     ghost use Rattle.std.specs.Coded.{codes};
     ghost use Rattle.dy_dots.specs.Dots.{dot_set_code};
     ghost use Rattle.dy_siblings.specs.Siblings.{siblings_code};
@@ -52,9 +49,9 @@ impl<'a, J: Naming> Model for Mailboxes<'a, J> {
 
     ghost coded = { Prim.hlevel (codes, dot_set_code, siblings_code, receipt_code, answer_code) };
 
-    ghost view = { λ m. record m.sheet.told { tries = m.near.tries } };
+    ghost view = { λ m. m.sheet.told };
 
-    ghost invariant = { λ m. (m.near.room ≡ m.sheet.told.room) × HaveRoom m.sheet m.channel };
+    ghost invariant = { λ m. HaveRoom m.sheet m.channel };
 }
 
 impl<'a, J: Naming> Mailboxes<'a, J> {
@@ -71,13 +68,13 @@ impl<'a, J: Naming> Mailboxes<'a, J> {
         ensures ok { IfOk result (λ mailboxes. mailboxes ≡ nothing_told room) }
         ensures memory { IsOkUnless result Fault.OutOfMemory }
     {
-        let near = Direct::new(alloc, nodes, book, room)?;
         let sheet = Sheet::new(alloc, room)?;
         // Each ask has two answers at most, so no worker waits for room.
         let channel = Channel::new(alloc, 2 * room)?;
+        let reach = Reach::new(alloc, nodes, book);
         Ok(Mailboxes {
             alloc,
-            near,
+            reach,
             post,
             channel,
             sheet,
@@ -165,40 +162,14 @@ impl<J: Naming> Transport<J> for Mailboxes<'_, J> {
         self.sheet.room()
     }
 
-    fn begin<R: Wait>(
-        &mut self,
-        rt: &R,
-        node: NodeId,
-        home: NodeId,
-        key: &Key,
-        context: &Context,
-        value: &Option<Value>,
-    ) -> Result<Begun<J>, Fault> {
-        self.near.begin(rt, node, home, key, context, value)
+    fn reach(&self) -> &Reach<'_, J> {
+        &self.reach
     }
 
-    fn look<R: Wait>(
-        &mut self,
-        rt: &R,
-        node: NodeId,
-        home: NodeId,
-        key: &Key,
-        since: &Since<J>,
-    ) -> Result<Seen<J>, Fault> {
-        self.near.look(rt, node, home, key, since)
-    }
-
-    fn offer<R: Wait>(&mut self, rt: &R, node: NodeId) -> Result<Vec<RowFor>, Fault> {
-        self.near.offer(rt, node)
-    }
-
-    fn settle<R: Wait>(
-        &mut self,
-        rt: &R,
-        node: NodeId,
-        receipts: &Vec<Receipt<J>>,
-    ) -> Result<usize, Fault> {
-        self.near.settle(rt, node, receipts)
+    fn note_try(&mut self, tried: &mut Option<Try<J>>) {
+        if let Some(tried) = tried.take() {
+            self.sheet.note_try(tried);
+        }
     }
 
     fn ask<R: Wait>(&mut self, rt: &R, to: NodeId, ask: &Ask<'_, J>) {
@@ -221,28 +192,15 @@ impl<J: Naming> Transport<J> for Mailboxes<'_, J> {
         next_of(rt, &mut self.channel, &mut self.sheet)
     }
 
-    fn record<R: Wait>(
-        &mut self,
-        rt: &R,
-        session: &mut SessionShare<J>,
-        w: u8,
-        receipts: &Vec<Receipt<J>>,
-    ) -> Result<(), Fault> {
-        self.near.record(rt, session, w, receipts)
-    }
-
     /// Takes memory only where late answers leave too little room in the channel.
     fn renew<R: Wait>(&mut self, rt: &R) -> Result<(), Fault> {
         let answers = 2 * self.sheet.room();
         self.channel.drain(rt);
         if self.channel.can_go_on(answers) {
-            self.near.renew(rt)?;
             self.channel.go_on();
         } else {
             // What is still sent over the channel that is let go is read by nobody.
-            let channel = Channel::new(self.alloc, CALLS * answers)?;
-            self.near.renew(rt)?;
-            self.channel = channel;
+            self.channel = Channel::new(self.alloc, CALLS * answers)?;
         }
         self.sheet.renew(self.channel.call());
         Ok(())

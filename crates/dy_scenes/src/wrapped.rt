@@ -12,9 +12,9 @@ use dy_core::Place;
 use dy_dots::{Context, Fault, NodeId};
 use dy_handoff::{Pass, pass};
 use dy_node::{Answer, Ask, Begun, RowFor};
-use dy_shares::{Naming, Receipt, Seen, SessionShare, Since};
+use dy_shares::{Naming, Receipt, SessionShare};
 use dy_siblings::{Key, Value};
-use dy_transport::{AnswerKind, Direct, Transport};
+use dy_transport::{AnswerKind, Direct, Reach, Transport, Try};
 use std::sync::Wait;
 
 // What is done while the call is under way.
@@ -141,6 +141,14 @@ impl<J: Naming> Transport<J> for Wrapped<'_, J> {
         self.direct.room()
     }
 
+    fn reach(&self) -> &Reach<'_, J> {
+        self.direct.reach()
+    }
+
+    fn note_try(&mut self, tried: &mut Option<Try<J>>) {
+        self.direct.note_try(tried);
+    }
+
     fn begin<R: Wait>(
         &mut self,
         rt: &R,
@@ -155,30 +163,10 @@ impl<J: Naming> Transport<J> for Wrapped<'_, J> {
         gave
     }
 
-    fn look<R: Wait>(
-        &mut self,
-        rt: &R,
-        node: NodeId,
-        home: NodeId,
-        key: &Key,
-        since: &Since<J>,
-    ) -> Result<Seen<J>, Fault> {
-        self.direct.look(rt, node, home, key, since)
-    }
-
     fn offer<R: Wait>(&mut self, rt: &R, node: NodeId) -> Result<Vec<RowFor>, Fault> {
         let gave = self.direct.offer(rt, node);
         after_offer(rt, self.stage, self.meanwhile);
         gave
-    }
-
-    fn settle<R: Wait>(
-        &mut self,
-        rt: &R,
-        node: NodeId,
-        receipts: &Vec<Receipt<J>>,
-    ) -> Result<usize, Fault> {
-        self.direct.settle(rt, node, receipts)
     }
 
     fn ask<R: Wait>(&mut self, rt: &R, to: NodeId, ask: &Ask<'_, J>) {

@@ -1,6 +1,6 @@
 -- What is told of one call: its tries, asks and answers.
-use Rattle.std.specs.Prelude.{◌≡◌, ◌++◌, ◌<◌, ◌∷◌, [], List, ℕ, Bool, true, false, Some, length}
-use Rattle.std.specs.Prelude.{map, slice_get}
+use Rattle.std.specs.Prelude.{◌≡◌, ◌++◌, ◌<◌, ◌∷◌, [], List, ℕ, Bool, true, false, length}
+use Rattle.std.specs.Prelude.{Option, None, Some, map, slice_get}
 use Rattle.std.specs.List.{All, Contains}
 use Rattle.dy_node.specs.declared.asks.Ask.{Ask}
 use Rattle.dy_node.specs.declared.asks.Answer.{Answer}
@@ -29,6 +29,11 @@ module _ {J : Type 0} where
   -- with a try more
   abbrev pub with_try : Told J → Try J → Told J
   with_try t x = record t { tries = t.tries ++ x ∷ [] }
+
+  -- with the try that was handed over, where there was one
+  abbrev pub with_noted : Told J → Option (Try J) → Told J
+  with_noted t None = t
+  with_noted t (Some x) = with_try t x
 
   -- with an ask more, after the answers that were read so far
   abbrev pub with_ask : Told J → ℕ → Ask J → Told J

@@ -1,24 +1,15 @@
-ghost use Rattle.std.specs.Prelude.{◌≡◌, ◌<◌, ◌^◌, true, IsTrue, IfOk, IfErr, IfSome, IsOkUnless};
-ghost use Rattle.std.specs.Prelude.{IsOk, OnErr, OnOk};
-ghost use Rattle.std.specs.List.{All};
-ghost use Rattle.dy_preference.specs.Preferences.{homes_of, may_hold};
-ghost use Rattle.dy_node.specs.Answers.{AnsweredBy, MayAsk};
-ghost use Rattle.dy_node.specs.Nodes.{AreForHomes, AreForOthers, hints_of};
-ghost use Rattle.dy_node.specs.declared.asks.Answer.TheVariants.{NoAnswer};
-ghost use Rattle.dy_transport.specs.Asking.{IsAnswerTo, IsBegun, IsSeenAt};
-ghost use Rattle.dy_transport.specs.Refusals.{IsOfBegin, IsOfNode, IsOfOffer};
+ghost use Rattle.std.specs.Prelude.{◌≡◌, ◌<◌, ◌^◌, IfOk, IsOk, IsOkUnless, OnErr, OnOk};
 ghost use Rattle.dy_transport.specs.Told.{nothing_told};
 
 use crate::lines::Line;
-use crate::snapshots::show;
+use crate::reaches::Reach;
 use crate::transports::Transport;
 use crate::tries::Try;
 use dy_book::Book;
 use dy_core::Place;
-use dy_dots::{Context, Fault, NodeId};
-use dy_node::{Answer, Ask, Begun, Node, RowFor, answer};
-use dy_shares::{Naming, Receipt, Seen, SessionShare, Since};
-use dy_siblings::{Key, Value};
+use dy_dots::{Fault, NodeId};
+use dy_node::{Answer, Ask, Node};
+use dy_shares::Naming;
 use std::alloc::Global;
 use std::marker::Model;
 use std::sync::{Mutex, Wait};
@@ -27,9 +18,7 @@ use std::sync::{Mutex, Wait};
 /// in the order of their numbers. Each call locks the node, then the book, and never two nodes.
 #[derive(Drop)]
 pub struct Direct<'a, J: Naming> {
-    alloc: Global,
-    nodes: &'a [Mutex<Node<J>>],
-    book: &'a Mutex<Book<J>>,
+    reach: Reach<'a, J>,
     line: Line<J>,
 }
 
@@ -60,191 +49,8 @@ impl<'a, J: Naming> Direct<'a, J> {
         ensures memory { IsOkUnless result Fault.OutOfMemory }
     {
         let line = Line::new(alloc, room)?;
-        Ok(Direct {
-            alloc,
-            nodes,
-            book,
-            line,
-        })
-    }
-}
-
-// What a lock holds is known by its type alone, so each call below compares the number of the node
-// that it finds with that of the one asked. They are the same wherever the nodes lie in their
-// order; where they are not, a try finds the node down, and an ask brings no answer.
-
-// A copy of what a put stores.
-fn copied(alloc: Global, value: &Option<Value>) -> Result<Option<Value>, Fault>
-    ensures value { IfOk result (λ copy. copy ≡ value.now) }
-    ensures memory { IsOkUnless result Fault.OutOfMemory }
-{
-    match value {
-        Some(value) => Ok(Some(value.try_clone(alloc)?)),
-        None => Ok(None),
-    }
-}
-
-// Begins a put at this node, which has this number.
-fn begin_by<J: Naming>(
-    held: &mut Node<J>,
-    book: &mut Book<J>,
-    node: NodeId,
-    home: NodeId,
-    key: &Key,
-    context: &Context,
-    value: Option<Value>,
-) -> Result<Begun<J>, Fault>
-    requires number { held.old.part.node ≡ node }
-    requires may_hold { IsTrue (may_hold (homes_of J.ring J.n key.now) node home) }
-    ensures begun { IfOk result (λ b. IsBegun node home key.now context.now value b) }
-    ensures refused { IfErr result IsOfBegin }
-{
-    held.begin(book, home, key, context, value)
-}
-
-// The hints of this node, which has this number.
-fn offer_by<J: Naming>(
-    held: &mut Node<J>,
-    book: &mut Book<J>,
-    node: NodeId,
-) -> Result<Vec<RowFor>, Fault>
-    requires { held.old.part.node ≡ node }
-    ensures hints { IfOk result (λ hints. hints.items ≡ hints_of held.old) }
-    ensures for_homes { IfOk result (λ hints. AreForHomes J.ring J.n hints.items) }
-    ensures for_others { IfOk result (λ hints. AreForOthers node hints.items) }
-    ensures refused { IfErr result IsOfOffer }
-{
-    held.offer(book)
-}
-
-// What this node, which has this number, answers at first and later.
-fn answer_by<J: Naming>(
-    held: &mut Node<J>,
-    book: &mut Book<J>,
-    to: NodeId,
-    ask: &Ask<'_, J>,
-) -> (Answer<J>, Option<Answer<J>>)
-    requires number { held.old.part.node ≡ to }
-    requires may_ask { MayAsk J.ring J.n to ask.now }
-    ensures first { IsAnswerTo to ask.now result.0 }
-    ensures second { IfSome result.1 (λ second. IsAnswerTo to ask.now second) }
-    ensures awaited { IfSome result.1 (λ _. result.0 ≡ NoAnswer) }
-    ensures up { held.old.is_up ≡ true → AnsweredBy held.old.mode ask.now
-        held.old book.old held.new book.new result.0 result.1 }
-{
-    answer(held, book, ask)
-}
-
-impl<J: Naming> Direct<'_, J> {
-    // Begins a put, under the node's lock and the book's.
-    fn begin_at<R: Wait>(
-        &self,
-        rt: &R,
-        node: NodeId,
-        home: NodeId,
-        key: &Key,
-        context: &Context,
-        value: &Option<Value>,
-    ) -> Result<Begun<J>, Fault>
-        requires { IsTrue (may_hold (homes_of J.ring J.n key.now) node home) }
-        ensures begun { IfOk result
-            (λ b. IsBegun node home key.now context.now value.now b) }
-        ensures refused { IfErr result IsOfBegin }
-    {
-        let Some(place) = self.nodes.get(usize::from(node.number())) else {
-            return Err(Fault::Down);
-        };
-        let copy = copied(self.alloc, value)?;
-        let mut held = place.lock(rt);
-        if held.number() != node {
-            return Err(Fault::Down);
-        }
-        let mut open = self.book.lock(rt);
-        begin_by(&mut held, &mut open, node, home, key, context, copy)
-    }
-
-    // Fetches, under the node's lock and the book's.
-    fn look_at<R: Wait>(
-        &self,
-        rt: &R,
-        node: NodeId,
-        home: NodeId,
-        key: &Key,
-        since: &Since<J>,
-    ) -> Result<Seen<J>, Fault>
-        ensures seen { IfOk result (λ s. IsSeenAt node home key.now since.now s) }
-        ensures refused { IfErr result IsOfNode }
-    {
-        let Some(place) = self.nodes.get(usize::from(node.number())) else {
-            return Err(Fault::Down);
-        };
-        let mut held = place.lock(rt);
-        if held.number() != node {
-            return Err(Fault::Down);
-        }
-        let mut open = self.book.lock(rt);
-        held.fetch(&mut open, home, key, since)
-    }
-
-    // Lists hints, under the node's lock and the book's.
-    fn offer_at<R: Wait>(&self, rt: &R, node: NodeId) -> Result<Vec<RowFor>, Fault>
-        ensures for_homes { IfOk result (λ hints. AreForHomes J.ring J.n hints.items) }
-        ensures for_others { IfOk result (λ hints. AreForOthers node hints.items) }
-        ensures refused { IfErr result IsOfOffer }
-    {
-        let Some(place) = self.nodes.get(usize::from(node.number())) else {
-            return Err(Fault::Down);
-        };
-        let mut held = place.lock(rt);
-        if held.number() != node {
-            return Err(Fault::Down);
-        }
-        let mut open = self.book.lock(rt);
-        offer_by(&mut held, &mut open, node)
-    }
-
-    // Gives up what the receipts name, under the node's lock and the book's.
-    fn settle_at<R: Wait>(
-        &self,
-        rt: &R,
-        node: NodeId,
-        receipts: &[Receipt<J>],
-    ) -> Result<usize, Fault>
-        requires { All (λ r. r.holder ≡ r.home) receipts.now }
-        ensures { IfErr result IsOfNode }
-    {
-        let Some(place) = self.nodes.get(usize::from(node.number())) else {
-            return Err(Fault::Down);
-        };
-        let mut held = place.lock(rt);
-        if held.number() != node {
-            return Err(Fault::Down);
-        }
-        let mut open = self.book.lock(rt);
-        held.settle(&mut open, receipts)
-    }
-
-    // The node's answers, under its lock and the book's.
-    fn answer_at<R: Wait>(
-        &self,
-        rt: &R,
-        to: NodeId,
-        ask: &Ask<'_, J>,
-    ) -> (Answer<J>, Option<Answer<J>>)
-        requires { MayAsk J.ring J.n to ask.now }
-        ensures first { IsAnswerTo to ask.now result.0 }
-        ensures second { IfSome result.1 (λ second. IsAnswerTo to ask.now second) }
-        ensures awaited { IfSome result.1 (λ _. result.0 ≡ NoAnswer) }
-    {
-        let Some(place) = self.nodes.get(usize::from(to.number())) else {
-            return (Answer::NoAnswer, None);
-        };
-        let mut held = place.lock(rt);
-        if held.number() != to {
-            return (Answer::NoAnswer, None);
-        }
-        let mut open = self.book.lock(rt);
-        answer_by(&mut held, &mut open, to, ask)
+        let reach = Reach::new(alloc, nodes, book);
+        Ok(Direct { reach, line })
     }
 }
 
@@ -255,94 +61,24 @@ impl<J: Naming> Transport<J> for Direct<'_, J> {
         self.line.room()
     }
 
-    fn begin<R: Wait>(
-        &mut self,
-        rt: &R,
-        node: NodeId,
-        home: NodeId,
-        key: &Key,
-        context: &Context,
-        value: &Option<Value>,
-    ) -> Result<Begun<J>, Fault> {
-        let gave = self.begin_at(rt, node, home, key, context, value);
-        self.line.note_try(Try::Begin {
-            node,
-            home,
-            key: show(key),
-            context: show(context),
-            value: show(value),
-            gave: show(&gave),
-        });
-        gave
+    fn reach(&self) -> &Reach<'_, J> {
+        &self.reach
     }
 
-    fn look<R: Wait>(
-        &mut self,
-        rt: &R,
-        node: NodeId,
-        home: NodeId,
-        key: &Key,
-        since: &Since<J>,
-    ) -> Result<Seen<J>, Fault> {
-        let gave = self.look_at(rt, node, home, key, since);
-        self.line.note_try(Try::Look {
-            node,
-            home,
-            key: show(key),
-            since: since.at(),
-            gave: show(&gave),
-        });
-        gave
-    }
-
-    fn offer<R: Wait>(&mut self, rt: &R, node: NodeId) -> Result<Vec<RowFor>, Fault> {
-        let gave = self.offer_at(rt, node);
-        self.line.note_try(Try::Offer {
-            node,
-            gave: show(&gave),
-        });
-        gave
-    }
-
-    fn settle<R: Wait>(
-        &mut self,
-        rt: &R,
-        node: NodeId,
-        receipts: &Vec<Receipt<J>>,
-    ) -> Result<usize, Fault> {
-        let gave = self.settle_at(rt, node, receipts.as_slice());
-        self.line.note_try(Try::Settle {
-            node,
-            receipts: show(receipts),
-            gave: show(&gave),
-        });
-        gave
+    fn note_try(&mut self, tried: &mut Option<Try<J>>) {
+        if let Some(tried) = tried.take() {
+            self.line.note_try(tried);
+        }
     }
 
     fn ask<R: Wait>(&mut self, rt: &R, to: NodeId, ask: &Ask<'_, J>) {
-        let (first, second) = self.answer_at(rt, to, ask);
+        let (first, second) = self.reach.answer_at(rt, to, ask);
         self.line.put(to, ask, first, second);
     }
 
     fn next_reply<R: Wait>(&mut self, rt: &R) -> Option<(Place, Answer<J>)> {
         let _ = rt;
         self.line.next()
-    }
-
-    fn record<R: Wait>(
-        &mut self,
-        rt: &R,
-        session: &mut SessionShare<J>,
-        w: u8,
-        receipts: &Vec<Receipt<J>>,
-    ) -> Result<(), Fault> {
-        let gave = self.book.lock(rt).ack(session, w, receipts);
-        self.line.note_try(Try::Record {
-            w,
-            receipts: show(receipts),
-            gave: show(&gave),
-        });
-        gave
     }
 
     /// Takes no memory.

@@ -9,14 +9,17 @@ ghost use Rattle.dy_node.specs.Nodes.{AreForHomes, AreForOthers};
 ghost use Rattle.dy_transport.specs.Snapshots.{snapshot_of};
 ghost use Rattle.dy_transport.specs.Asking.{IsBegun, IsSeenAt};
 ghost use Rattle.dy_transport.specs.Refusals.{IsOfBegin, IsOfNode, IsOfOffer, IsOfStep};
-ghost use Rattle.dy_transport.specs.Told.{Told, with_try, with_ask, with_none, with_reply};
-ghost use Rattle.dy_transport.specs.Told.{nothing_told};
+ghost use Rattle.dy_transport.specs.Told.{Told, with_try, with_noted, with_ask, with_none};
+ghost use Rattle.dy_transport.specs.Told.{nothing_told, with_reply};
 ghost use Rattle.dy_transport.specs.Told.{Answers, AllAnswered, IsAwaited};
 ghost use Rattle.dy_transport.specs.Tellings.{IsAckTold};
 ghost use Rattle.dy_transport.specs.declared.tries.Try.TheVariants.{Begin, Look, Offer, Record};
 ghost use Rattle.dy_transport.specs.declared.tries.Try.TheVariants.{Settle};
 ghost use Rattle.dy_transport.specs.declared.transports.TheConstants.{SPARE_TRIES};
 
+use crate::reaches::Reach;
+use crate::snapshots::show;
+use crate::tries::Try;
 use dy_core::Place;
 use dy_dots::{Context, Fault, NodeId};
 use dy_node::{Answer, Ask, Begun, RowFor};
@@ -28,13 +31,22 @@ use std::sync::Wait;
 pub const SPARE_TRIES: usize = 32;
 
 /// What carries the messages of one put, get, repair or pass (Dynamo, section 4.5): it reaches the
-/// nodes and the book, and tells what was tried, asked and answered.
+/// nodes and the book, and tells what was tried, asked and answered. Tries and acks stand here once;
+/// a transport has what carries its asks and their answers.
 pub trait Transport<J: Naming> {
     ghost told: { Self → Told J };
 
     /// For how many asks, with two answers each, it was made. Takes no memory.
     fn room(&self) -> usize
         ensures { result ≡ (told self.now).room };
+
+    /// The nodes and the book at which its tries and acks are made. Takes no memory.
+    fn reach(&self) -> &Reach<'_, J>;
+
+    /// Takes out the try, and tells of it. Takes no memory.
+    fn note_try(&mut self, tried: &mut Option<Try<J>>)
+        requires { length (told self.old).tries < (told self.old).room + SPARE_TRIES }
+        ensures { told self.new ≡ with_noted (told self.old) tried.old };
 
     /// Begins a put at a node for a home. May wait for locks.
     fn begin<R: Wait>(
@@ -52,7 +64,19 @@ pub trait Transport<J: Naming> {
         ensures refused { IfErr result IsOfBegin }
         ensures told { told self.new ≡ with_try (told self.old)
             (Begin node home (snapshot_of key.now) (snapshot_of context.now)
-            (snapshot_of value.now) (snapshot_of result)) };
+            (snapshot_of value.now) (snapshot_of result)) }
+    {
+        let gave = self.reach().begin_at(rt, node, home, key, context, value);
+        self.note_try(&mut Some(Try::Begin {
+            node,
+            home,
+            key: show(key),
+            context: show(context),
+            value: show(value),
+            gave: show(&gave),
+        }));
+        gave
+    }
 
     /// Fetches at a node what it keeps of the key for a home. May wait for locks.
     fn look<R: Wait>(
@@ -67,7 +91,18 @@ pub trait Transport<J: Naming> {
         ensures seen { IfOk result (λ s. IsSeenAt node home key.now since.now s) }
         ensures refused { IfErr result IsOfNode }
         ensures told { told self.new ≡ with_try (told self.old)
-            (Look node home (snapshot_of key.now) since.now (snapshot_of result)) };
+            (Look node home (snapshot_of key.now) since.now (snapshot_of result)) }
+    {
+        let gave = self.reach().look_at(rt, node, home, key, since);
+        self.note_try(&mut Some(Try::Look {
+            node,
+            home,
+            key: show(key),
+            since: since.at(),
+            gave: show(&gave),
+        }));
+        gave
+    }
 
     /// Lists the hints of a node, each with the home that it is for. May wait for locks.
     fn offer<R: Wait>(&mut self, rt: &R, node: NodeId) -> Result<Vec<RowFor>, Fault>
@@ -75,7 +110,15 @@ pub trait Transport<J: Naming> {
         ensures for_homes { IfOk result (λ hints. AreForHomes J.ring J.n hints.items) }
         ensures for_others { IfOk result (λ hints. AreForOthers node hints.items) }
         ensures refused { IfErr result IsOfOffer }
-        ensures told { told self.new ≡ with_try (told self.old) (Offer node (snapshot_of result)) };
+        ensures told { told self.new ≡ with_try (told self.old) (Offer node (snapshot_of result)) }
+    {
+        let gave = self.reach().offer_at(rt, node);
+        self.note_try(&mut Some(Try::Offer {
+            node,
+            gave: show(&gave),
+        }));
+        gave
+    }
 
     /// Lets a node give up what these receipts of homes name, and tells how many dots it gave up.
     /// May wait for locks.
@@ -89,7 +132,16 @@ pub trait Transport<J: Naming> {
         requires homes { All (λ r. r.holder ≡ r.home) receipts.now.items }
         ensures refused { IfErr result IsOfNode }
         ensures told { told self.new ≡ with_try (told self.old)
-            (Settle node (snapshot_of receipts.now) (snapshot_of result)) };
+            (Settle node (snapshot_of receipts.now) (snapshot_of result)) }
+    {
+        let gave = self.reach().settle_at(rt, node, receipts.as_slice());
+        self.note_try(&mut Some(Try::Settle {
+            node,
+            receipts: show(receipts),
+            gave: show(&gave),
+        }));
+        gave
+    }
 
     /// Asks a node. An ask that cannot be sent is answered all the same. May wait for locks.
     fn ask<R: Wait>(&mut self, rt: &R, to: NodeId, ask: &Ask<'_, J>)
@@ -130,7 +182,16 @@ pub trait Transport<J: Naming> {
         ensures ok { (key : List ℕ) (d : DotParts) → AreOf key d receipts.now.items →
             OnOk result (IsAckTold session.old session.new key d w receipts.now.items) }
         ensures err { OnErr result (session.new ≡ session.old) }
-        ensures refused { IfErr result IsOfStep };
+        ensures refused { IfErr result IsOfStep }
+    {
+        let gave = self.reach().book.lock(rt).ack(session, w, receipts);
+        self.note_try(&mut Some(Try::Record {
+            w,
+            receipts: show(receipts),
+            gave: show(&gave),
+        }));
+        gave
+    }
 
     /// Tells nothing of the call before, so that one transport serves many calls of a client, one
     /// after another. What came of that call and nobody has read is read by no later one.

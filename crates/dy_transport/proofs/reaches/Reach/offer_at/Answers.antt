@@ -1,7 +1,7 @@
 use Rattle.std.proofs.Common.{◌==◌}
 use Rattle.std.proofs.lemmas.Bool.{eqb-true}
 use Rattle.dy_transport.proofs.Reached.{not_false}
-use Rattle.dy_transport.proofs.directs.Direct.offer_at.Goals as goal
+use Rattle.dy_transport.proofs.reaches.Reach.offer_at.Goals as goal
 
 -- the node that was found has the number that was asked
 pub offer_by-requires : goal.offer_by-requires

@@ -1,6 +1,6 @@
 use Rattle.std.proofs.Common.{arith}
 use Rattle.std.proofs.lemmas.Result.{on_ok_weaker}
-use Rattle.dy_transport.proofs.directs.DirectTransport.record.Goals as goal
+use Rattle.dy_transport.proofs.transports.Transport.record.Goals as goal
 
 -- the number of the step is the one after the log, which has all that the session was told
 pub returns-clause-ok : goal.returns-clause-ok

@@ -1,6 +1,6 @@
 use Rattle.std.proofs.Common.{subst, IfOk}
 use Rattle.dy_node.specs.Nodes.{AreForOthers}
-use Rattle.dy_transport.proofs.directs.offer_by.Goals as goal
+use Rattle.dy_transport.proofs.reaches.offer_by.Goals as goal
 
 -- the node that offers has the number that was asked
 pub returns-clause-for_others : goal.returns-clause-for_others

@@ -1,7 +1,7 @@
 use Rattle.std.proofs.Common.{refl, subst, IfOk}
 use Rattle.dy_transport.specs.Asking.{IsBegun}
 use Rattle.dy_transport.proofs.Reached.{begun_fits}
-use Rattle.dy_transport.proofs.directs.begin_by.Goals as goal
+use Rattle.dy_transport.proofs.reaches.begin_by.Goals as goal
 
 -- the version is the one that the node made
 pub returns-clause-begun : goal.returns-clause-begun

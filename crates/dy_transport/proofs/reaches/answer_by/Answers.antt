@@ -1,5 +1,5 @@
 use Rattle.dy_transport.proofs.Reached.{answers_fit}
-use Rattle.dy_transport.proofs.directs.answer_by.Goals as goal
+use Rattle.dy_transport.proofs.reaches.answer_by.Goals as goal
 
 -- by the node's flag and mode
 pub returns-clause-first : goal.returns-clause-first

@@ -2,7 +2,7 @@ use Rattle.std.proofs.Common.{◌==◌, subst, IfOk}
 use Rattle.std.proofs.lemmas.Bool.{eqb-true}
 use Rattle.dy_transport.specs.Asking.{IsBegun}
 use Rattle.dy_transport.proofs.Reached.{not_false}
-use Rattle.dy_transport.proofs.directs.Direct.begin_at.Goals as goal
+use Rattle.dy_transport.proofs.reaches.Reach.begin_at.Goals as goal
 
 -- the node that was found has the number that was asked
 pub begin_by-requires-clause-number : goal.begin_by-requires-clause-number
