@@ -1,18 +1,12 @@
-//! The tests of `dy_ring`, `dy_preference`, `dy_node_store`, `dy_hint_store` and `dy_draws`, apart
-//! from them, so that their own functions are not proved once more.
+//! The tests of the crates up to `dy_core`, apart from them, so that their own functions are not
+//! proved once more.
 #![tactic(auto)]
 
 #[cfg(test)]
+mod contexts;
+#[cfg(test)]
 mod draws;
 #[cfg(test)]
-mod growths;
+mod faults;
 #[cfg(test)]
-mod hint_stores;
-#[cfg(test)]
-mod node_stores;
-#[cfg(test)]
-mod preferences;
-#[cfg(test)]
-mod rings;
-#[cfg(test)]
-mod rows;
+mod worlds;
