@@ -28,7 +28,7 @@ fn put<J: Naming, R: Wait>(
 }
 
 // Seats a session, and puts by it.
-pub fn seat_and_put<J: Naming, R: Wait>(
+fn seat_and_put<J: Naming, R: Wait>(
     rt: &R,
     alloc: Global,
     cluster: &Cluster<J>,

@@ -20,8 +20,6 @@ mod leaves;
 #[cfg(test)]
 mod posted;
 #[cfg(test)]
-mod refused_calls;
-#[cfg(test)]
 mod renewals;
 #[cfg(test)]
 mod rings;

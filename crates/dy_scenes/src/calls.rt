@@ -1,9 +1,9 @@
-// Puts, gets and passes on a stage, on the caller's own thread or over another transport.
+// Puts and passes on a stage, on the caller's own thread or over another transport.
 ghost use Rattle.std.specs.Prelude.{◌≡◌, ◌<◌, ◌^◌};
 ghost use Rattle.dy_transport.specs.Told.{nothing_told};
 
 use crate::stages::Stage;
-use dy_coord::{GetDone, GetFault, PutDone, PutFault, get, put};
+use dy_coord::{PutDone, PutFault, put};
 use dy_dots::{Context, Fault, NodeId};
 use dy_handoff::{Pass, pass};
 use dy_shares::{Naming, SessionShare};
@@ -58,29 +58,6 @@ pub fn put_directly<J: Naming, R: Wait>(
 ) -> Result<Result<PutDone<J>, PutFault>, Fault> {
     let mut direct = Direct::new(stage.alloc, stage.nodes, stage.book, 32)?;
     put_over_direct(rt, &mut direct, stage, session, w)
-}
-
-// A get of two answers over this transport.
-fn get_over_direct<J: Naming, R: Wait>(
-    rt: &R,
-    direct: &mut Direct<'_, J>,
-    stage: &Stage<'_, J>,
-    session: &mut SessionShare<J>,
-) -> Result<GetDone<J>, GetFault>
-    requires { direct.old ≡ nothing_told 32 }
-{
-    let r = stage.book.lock(rt).options().r;
-    get(rt, stage.alloc, direct, stage.list, r, session, stage.key)
-}
-
-// A get on the caller's own thread.
-pub fn get_directly<J: Naming, R: Wait>(
-    rt: &R,
-    stage: &Stage<'_, J>,
-    session: &mut SessionShare<J>,
-) -> Result<Result<GetDone<J>, GetFault>, Fault> {
-    let mut direct = Direct::new(stage.alloc, stage.nodes, stage.book, 32)?;
-    Ok(get_over_direct(rt, &mut direct, stage, session))
 }
 
 // The node hands over its hints over this transport.

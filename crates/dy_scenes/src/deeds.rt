@@ -3,10 +3,10 @@ ghost use Rattle.std.specs.Prelude.{◌≡◌};
 ghost use Rattle.dy_transport.specs.Told.{nothing_told};
 
 use crate::at_nodes::{set_delay, set_up, write_rows};
-use crate::calls::{get_directly, hand_over_one, put_directly};
+use crate::calls::{hand_over_one, put_directly};
 use crate::lossy::put_lossy;
 use crate::stages::Stage;
-use crate::texts::{write_get, write_list, write_pass, write_put, write_told};
+use crate::texts::{write_list, write_pass, write_put};
 use crate::wrapped::{Meanwhile, Wrapped, pass_wrapped, put_wrapped, wrapped_on};
 use dy_dots::{Fault, NodeId};
 use dy_shares::{Naming, SessionShare};
@@ -18,11 +18,9 @@ pub enum Deed {
     Put(u8),
     // The same over a line on which node 1's answers are lost.
     PutLossy(u8),
-    // The same over a transport that lists what came of it, and then what the session was told.
-    PutListed(u8),
-    // The same, and before it is told node 0 comes up, and node 3 hands over to it.
+    // The same over a transport that lists what came of it, and before it is told node 0 comes up, and
+    // node 3 hands over to it.
     PutWhileHandedOver(u8),
-    Get,
     // What concerns one node.
     At(usize, NodeDeed),
     // Node 3 hands over its first hint.
@@ -94,29 +92,6 @@ fn put_while_and_write<J: Naming, R: Wait>(
     write_list(out, wrapped.list.as_str())
 }
 
-// A put, what its transport listed, and how much the session was told so far.
-fn put_listed_and_write<J: Naming, R: Wait>(
-    rt: &R,
-    stage: &Stage<'_, J>,
-    session: &mut SessionShare<J>,
-    w: u8,
-    out: &mut String,
-) -> Result<(), Fault> {
-    put_while_and_write(rt, stage, session, w, Meanwhile::Nothing, out)?;
-    write_told(out, session.acks(), session.gets())
-}
-
-// A get, which is told.
-fn get_and_write<J: Naming, R: Wait>(
-    rt: &R,
-    stage: &Stage<'_, J>,
-    session: &mut SessionShare<J>,
-    out: &mut String,
-) -> Result<(), Fault> {
-    let ended = get_directly(rt, stage, session)?;
-    write_get(stage.alloc, out, &ended)
-}
-
 // A pass of node 3 over one hint, while a message comes, which is told.
 fn pass_while_and_write<J: Naming, R: Wait>(
     rt: &R,
@@ -155,11 +130,9 @@ fn done<J: Naming, R: Wait>(
     match deed {
         Deed::Put(w) => put_and_write(rt, stage, session, w, out),
         Deed::PutLossy(w) => put_lossy_and_write(rt, stage, session, w, out),
-        Deed::PutListed(w) => put_listed_and_write(rt, stage, session, w, out),
         Deed::PutWhileHandedOver(w) => {
             put_while_and_write(rt, stage, session, w, Meanwhile::HandOver, out)
         }
-        Deed::Get => get_and_write(rt, stage, session, out),
         Deed::At(node, deed) => done_at(rt, stage, deed, node, out),
         Deed::HandOverOne => write_pass(out, &hand_over_one(rt, stage, NodeId::nth(3))),
         Deed::HandOverWhileDelivered => pass_while_and_write(rt, stage, out),

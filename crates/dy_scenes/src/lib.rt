@@ -8,12 +8,6 @@ mod calls;
 #[cfg(test)]
 mod deeds;
 #[cfg(test)]
-mod full_logs;
-#[cfg(test)]
-mod growth_texts;
-#[cfg(test)]
-mod growths;
-#[cfg(test)]
 mod handovers;
 #[cfg(test)]
 mod lossy;

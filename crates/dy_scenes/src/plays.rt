@@ -63,17 +63,6 @@ fn three_homes() -> Options
     }
 }
 
-// Two homes, and a log with room for three steps.
-fn three_steps() -> Options
-    ensures { result.n ≡ 2 }
-{
-    Options {
-        n: 2,
-        steps_limit: 3,
-        ..three_homes()
-    }
-}
-
 // What the scene and the audit tell, where all went well.
 fn ended<J: Naming>(
     alloc: Global,
@@ -262,34 +251,14 @@ fn played<R: Wait>(
     play::<Brand, R>(rt, alloc, blank, ring, options, first, deeds)
 }
 
-// What the deeds tell on the ring, and then the audit.
-fn played_on<R: Wait>(
-    rt: &R,
-    alloc: Global,
-    ring: &Ring,
-    options: Options,
-    deeds: &[Deed],
-) -> Result<String, Fault>
-    requires some { 1 ≤ options.n }
-    requires few { options.n ≤ 5 }
-{
+// What the deeds on the key `a` tell, and then the audit.
+fn told<R: Wait>(rt: &R, alloc: Global, deeds: &[Deed]) -> Result<String, Fault> {
+    let ring = five_nodes(alloc)?;
     if ring.nodes() != 5 {
         return Err(Fault::TooMany);
     }
-    let first = with_list(alloc, ring, options.n, b"a")?;
-    played(rt, alloc, ring, options, &first, deeds)
-}
-
-// What the deeds on the key `a` tell, and then the audit.
-pub fn told<R: Wait>(rt: &R, alloc: Global, deeds: &[Deed]) -> Result<String, Fault> {
-    let ring = five_nodes(alloc)?;
-    played_on(rt, alloc, &ring, three_homes(), deeds)
-}
-
-// The same with two homes, in a log with room for three steps.
-fn told_in_three_steps<R: Wait>(rt: &R, alloc: Global, deeds: &[Deed]) -> Result<String, Fault> {
-    let ring = five_nodes(alloc)?;
-    played_on(rt, alloc, &ring, three_steps(), deeds)
+    let first = with_list(alloc, &ring, 3, b"a")?;
+    played(rt, alloc, &ring, three_homes(), &first, deeds)
 }
 
 // Plays the deeds, and compares what is told with what is wanted.
@@ -300,18 +269,6 @@ pub fn compare<R: Abort + Wait>(
     wanted: &str,
 ) -> Result<(), Fault> {
     let text = told(rt, alloc, deeds)?;
-    assert_eq!(rt; text.as_str(), wanted);
-    Ok(())
-}
-
-// The same with two homes, in a log with room for three steps.
-pub fn compare_in_three_steps<R: Abort + Wait>(
-    rt: &R,
-    alloc: Global,
-    deeds: &[Deed],
-    wanted: &str,
-) -> Result<(), Fault> {
-    let text = told_in_three_steps(rt, alloc, deeds)?;
     assert_eq!(rt; text.as_str(), wanted);
     Ok(())
 }

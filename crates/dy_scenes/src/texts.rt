@@ -1,12 +1,12 @@
 // What calls and audits tell, as lines that are compared whole. A place prints as its holder and
 // its home, as in `3/0`.
 use dy_book::{AckedAt, Audit};
-use dy_coord::{GetDone, GetFault, PutDone, PutFault};
+use dy_coord::{PutDone, PutFault};
 use dy_core::{Holding, Place};
 use dy_dots::{Context, Dot, Fault};
 use dy_handoff::Pass;
 use dy_shares::Naming;
-use dy_siblings::{Row, Value};
+use dy_siblings::Row;
 use dy_transport::AnswerRead;
 use std::alloc::Global;
 
@@ -58,51 +58,6 @@ fn write_places(out: &mut String, places: &[Place]) -> Result<(), Fault> {
         write_place(out, *place)?;
     }
     Ok(())
-}
-
-// The bytes in hexadecimal digits.
-fn write_value(out: &mut String, value: &Value) -> Result<(), Fault> {
-    for byte in value.as_bytes() {
-        write!(out, "{:02x}", *byte)?;
-    }
-    Ok(())
-}
-
-// The present values with their dots.
-fn write_values(out: &mut String, values: &[(Dot, &Value)]) -> Result<(), Fault> {
-    if values.is_empty() {
-        out.push_str(" none")?;
-    }
-    for value in values {
-        write!(out, " {}=", value.0)?;
-        write_value(out, value.1)?;
-    }
-    out.push_str("\n")?;
-    Ok(())
-}
-
-// What a get that was answered gives.
-fn write_got<J: Naming>(alloc: Global, out: &mut String, done: &GetDone<J>) -> Result<(), Fault> {
-    write!(out, "get ok context {} from", done.context)?;
-    write_places(out, done.from.as_slice())?;
-    out.push_str(" values")?;
-    let values = done.values(alloc)?;
-    write_values(out, values.as_slice())
-}
-
-// What came of a get.
-pub fn write_get<J: Naming>(
-    alloc: Global,
-    out: &mut String,
-    ended: &Result<GetDone<J>, GetFault>,
-) -> Result<(), Fault> {
-    match ended {
-        Ok(done) => write_got(alloc, out, done),
-        Err(refused) => {
-            write!(out, "get {}", refused.fault)?;
-            write_answers(out, refused.answers.as_slice())
-        }
-    }
 }
 
 // What came of a pass.
@@ -163,12 +118,6 @@ fn write_acked(out: &mut String, acked: &[AckedAt]) -> Result<(), Fault> {
 // What a transport listed.
 pub fn write_list(out: &mut String, list: &str) -> Result<(), Fault> {
     write!(out, "listed{list}\n")?;
-    Ok(())
-}
-
-// How many acks and gets the session was told.
-pub fn write_told(out: &mut String, acks: usize, gets: usize) -> Result<(), Fault> {
-    write!(out, "told acks {acks} gets {gets}\n")?;
     Ok(())
 }
 

@@ -20,7 +20,6 @@ use std::sync::Wait;
 // What is done while the call is under way.
 #[derive(Clone, Copy, PartialEq, Eq)]
 pub enum Meanwhile {
-    Nothing,
     // A handover comes before the put is told.
     HandOver,
     // A message comes after the hints were listed.
