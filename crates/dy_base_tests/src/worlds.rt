@@ -25,8 +25,8 @@ enum Scene {
     Ack,
 }
 
-/// Node 2 makes a version and holds it, and node 1 stands in for node 0, until that holds it itself.
-/// The put is told of two homes, and node 2 is asked.
+/// Node 2 makes a version and holds it, and node 1 stands in for node 0, until that holds it
+/// itself. The put is told of two homes, and node 2 is asked.
 const SCENES: [Scene; 7] = [
     Scene::Issue,
     Scene::Hold(Spot::First),

@@ -1,4 +1,5 @@
-//! The tests of `dy_cluster`, apart from it, so that its own functions are not proved once more.
+//! The tests of `dy_cluster` and `dy_storm`, apart from them, so that their own functions are not
+//! proved once more.
 #![tactic(auto)]
 
 #[cfg(test)]
@@ -25,5 +26,7 @@ mod renewals;
 mod rings;
 #[cfg(test)]
 mod signals;
+#[cfg(test)]
+mod storms;
 #[cfg(test)]
 mod workers;

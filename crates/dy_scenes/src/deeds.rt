@@ -18,8 +18,8 @@ pub enum Deed {
     Put(u8),
     // The same over a line on which node 1's answers are lost.
     PutLossy(u8),
-    // The same over a transport that lists what came of it, and before it is told node 0 comes up, and
-    // node 3 hands over to it.
+    // The same over a transport that lists what came of it, and before it is told node 0 comes up,
+    // and node 3 hands over to it.
     PutWhileHandedOver(u8),
     // What concerns one node.
     At(usize, NodeDeed),

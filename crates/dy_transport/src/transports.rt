@@ -31,8 +31,8 @@ use std::sync::Wait;
 pub const SPARE_TRIES: usize = 32;
 
 /// What carries the messages of one put, get, repair or pass (Dynamo, section 4.5): it reaches the
-/// nodes and the book, and tells what was tried, asked and answered. Tries and acks stand here once;
-/// a transport has what carries its asks and their answers.
+/// nodes and the book, and tells what was tried, asked and answered. Tries and acks stand here
+/// once; a transport has what carries its asks and their answers.
 pub trait Transport<J: Naming> {
     ghost told: { Self → Told J };
 

@@ -3,18 +3,21 @@ use dy_core::Holding;
 use dy_storm::{Storm, storm};
 use std::test::Fail;
 
-/// Whether a node holds something for another one.
+// Whether a node holds something for another one.
 fn have_hint(held: &[Holding]) -> bool {
     held.iter().any(|holding| holding.holder != holding.home)
 }
 
-// In twenty storms with faults nodes stand in for those that are away, and passes hand over what
-// they kept.
+// In one of twenty storms with faults at least a node stands in for one that is away, and in one of
+// them passes hand over what stand-ins kept. The storms after that are not played.
 #[test]
 fn stand_ins_and_handoffs_occur(rt: HostRuntime) -> Result<(), Fail> {
     let mut was_hint = false;
     let mut was_handed_over = false;
     for seed in 1..21 {
+        if was_hint && was_handed_over {
+            return Ok(());
+        }
         let plan = Storm {
             seed,
             threads: 8,
