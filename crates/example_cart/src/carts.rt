@@ -1,4 +1,4 @@
-use dy_cluster::{Fault, Row};
+use dy_cluster::{Closed, Fault, Key, Row};
 use std::alloc::Global;
 use std::collections::BTreeSet;
 
@@ -9,7 +9,7 @@ pub(crate) const CART: &[u8] = b"cart";
 pub(crate) type Cart = BTreeSet<String>;
 
 /// Adds what each of the siblings has.
-pub(crate) fn unite(alloc: Global, cart: &mut Cart, row: &Row) -> Result<(), Fault> {
+fn unite(alloc: Global, cart: &mut Cart, row: &Row) -> Result<(), Fault> {
     for version in row.versions() {
         if let Some(value) = version.value() {
             let items = std::str::from_utf8(value.as_bytes()).unwrap_or("?");
@@ -21,8 +21,22 @@ pub(crate) fn unite(alloc: Global, cart: &mut Cart, row: &Row) -> Result<(), Fau
     Ok(())
 }
 
+/// All that the siblings have.
+pub(crate) fn all_of(alloc: Global, row: &Row) -> Result<Cart, Fault> {
+    let mut cart = Cart::new(alloc);
+    unite(alloc, &mut cart, row)?;
+    Ok(cart)
+}
+
+/// The union of what the siblings have, and an item more.
+pub(crate) fn united(alloc: Global, row: &Row, item: &str) -> Result<String, Fault> {
+    let mut cart = all_of(alloc, row)?;
+    cart.insert(String::from_str(alloc, item)?)?;
+    text_of(alloc, &cart)
+}
+
 /// The names, with blanks between.
-pub(crate) fn text_of(alloc: Global, cart: &Cart) -> Result<String, Fault> {
+fn text_of(alloc: Global, cart: &Cart) -> Result<String, Fault> {
     let mut text = String::new(alloc);
     for item in cart {
         if !text.is_empty() {
@@ -31,4 +45,15 @@ pub(crate) fn text_of(alloc: Global, cart: &Cart) -> Result<String, Fault> {
         text.push_str(item.as_str())?;
     }
     Ok(text)
+}
+
+/// The names in all that the nodes hold of the key.
+pub(crate) fn text_at(alloc: Global, closed: &Closed, key: &Key) -> Result<String, Fault> {
+    let mut cart = Cart::new(alloc);
+    for holding in &closed.audit.held {
+        if holding.row.key() == key {
+            unite(alloc, &mut cart, &holding.row)?;
+        }
+    }
+    text_of(alloc, &cart)
 }

@@ -1,49 +1,31 @@
-use crate::carts::{CART, Cart, text_of, unite};
-use dy_cluster::{Client, Connection, Context, Fault, Key, Naming, NodeId, Transport, Value};
+use crate::carts::{CART, united};
+use crate::states::{clear, put};
+use dy_cluster::{Connection, Context, Fault, Key, Naming, NodeId, Transport, Value};
 use std::alloc::Global;
 use std::sync::Wait;
 
-/// Shoppers who fill one cart, each in a thread of its own.
-#[derive(Drop)]
-pub(crate) struct Shoppers;
+/// What each shopper puts into the cart: an item without a look, and one after a look.
+const ITEMS: [(&str, &str); 3] = [("bread", "butter"), ("milk", "honey"), ("eggs", "salt")];
 
-impl Client for Shoppers {
-    fn run<J: Naming, T: Transport<J>, R: Wait>(
-        &self,
-        rt: &R,
-        alloc: Global,
-        number: usize,
-        connection: &mut Connection<'_, J, T>,
-    ) {
-        // What can't be put is missing in the cart, and in the count of what was acknowledged.
-        let _ = shop(rt, alloc, connection, NodeId::nth(number % 3));
-    }
-}
-
-/// While the node is down, logs in, puts an item without a look, adds another to all that is there,
-/// and logs out. Then the nodes hand over what they kept for the one that was down.
-fn shop<J: Naming, T: Transport<J>, R: Wait>(
+/// Logs in and fills the cart while a node is down, and logs out once it is back; but the last of
+/// the three, who forgets to.
+pub(crate) fn visit<J: Naming, T: Transport<J>, R: Wait>(
     rt: &R,
     alloc: Global,
     connection: &mut Connection<'_, J, T>,
-    node: NodeId,
+    login: &Key,
+    number: usize,
 ) -> Result<(), Fault> {
-    let (name, first, second) = match node.number() {
-        0 => ("ann", "bread", "butter"),
-        1 => ("ben", "milk", "honey"),
-        _ => ("cleo", "eggs", "salt"),
-    };
-    let (login, cart) = (Key::new(alloc, name.as_bytes())?, Key::new(alloc, CART)?);
-    let none = Context::new(alloc);
-    let cluster = connection.cluster();
-    cluster.set_up(rt, node, false);
-    connection.put(rt, &login, &none, Value::new(alloc, b"here")?)?;
-    connection.put(rt, &cart, &none, Value::new(alloc, first.as_bytes())?)?;
-    add(rt, alloc, connection, &cart, second)?;
-    log_out(rt, connection, &login)?;
-    cluster.set_up(rt, node, true);
-    for number in 0..5 {
-        let _ = cluster.handoff(rt, NodeId::nth(number));
+    let cart = Key::new(alloc, CART)?;
+    let (mut seen, mut none) = (Context::new(alloc), Context::new(alloc));
+    let ((first, second), node) = (ITEMS[number % 3], NodeId::nth(number % 3));
+    connection.cluster().set_up(rt, node, false);
+    let _ = put(rt, alloc, connection, login, &mut seen, "here");
+    let _ = put(rt, alloc, connection, &cart, &mut none, first);
+    let _ = add(rt, alloc, connection, &cart, second);
+    connection.cluster().set_up(rt, node, true);
+    if number < 2 {
+        let _ = clear(rt, alloc, connection, login, &mut seen);
     }
     Ok(())
 }
@@ -57,21 +39,8 @@ fn add<J: Naming, T: Transport<J>, R: Wait>(
     item: &str,
 ) -> Result<(), Fault> {
     let done = connection.get(rt, key)?;
-    let mut cart = Cart::new(alloc);
-    unite(alloc, &mut cart, &done.row)?;
-    cart.insert(String::from_str(alloc, item)?)?;
-    let value = Value::new(alloc, text_of(alloc, &cart)?.as_bytes())?;
+    let cart = united(alloc, &done.row, item)?;
+    let value = Value::new(alloc, cart.as_bytes())?;
     connection.put(rt, key, &done.context, value)?;
-    Ok(())
-}
-
-/// Deletes all logins that lie there side by side.
-fn log_out<J: Naming, T: Transport<J>, R: Wait>(
-    rt: &R,
-    connection: &mut Connection<'_, J, T>,
-    key: &Key,
-) -> Result<(), Fault> {
-    let done = connection.get(rt, key)?;
-    connection.delete(rt, key, &done.context)?;
     Ok(())
 }

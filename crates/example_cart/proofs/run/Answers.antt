@@ -1,5 +1,5 @@
 use Rattle.std.proofs.lemmas.Result.{IfOk-weaker}
-use Rattle.example_cart.proofs.fill.Goals as goal
+use Rattle.example_cart.proofs.run.Goals as goal
 
 -- what the audit lists as acknowledged is covered by the stores
 pub returns-then-by_workers-clause-covered : goal.returns-then-by_workers-clause-covered
@@ -19,4 +19,15 @@ returns-then-by_workers-clause-own_writes g c = IfOk-weaker c.with_workers.resul
 pub returns-clause-own_writes : goal.returns-clause-own_writes
 returns-clause-own_writes g c = IfOk-weaker c.with_clients.result _ _
     (λ closed ends. (ends.0, ends.1, c.session_guarantees.ensures.own_writes _ _ _ ends.0 closed ends.1))
+    c.with_clients.ensures.closed
+
+-- and nothing comes back to them that was deleted
+pub returns-then-by_workers-clause-deleted : goal.returns-then-by_workers-clause-deleted
+returns-then-by_workers-clause-deleted g c = IfOk-weaker c.with_workers.result _ _
+    (λ closed ends. (ends.0, ends.1, c.session_guarantees.ensures.deleted _ _ _ ends.0 closed ends.1))
+    c.with_workers.ensures.closed
+
+pub returns-clause-deleted : goal.returns-clause-deleted
+returns-clause-deleted g c = IfOk-weaker c.with_clients.result _ _
+    (λ closed ends. (ends.0, ends.1, c.session_guarantees.ensures.deleted _ _ _ ends.0 closed ends.1))
     c.with_clients.ensures.closed
