@@ -1,8 +1,12 @@
+pub mod Carried
 pub mod Delivered
-pub mod Sent
-pub mod Seated
-pub mod Shown
 pub mod Firsts
+pub mod Gathered
 pub mod Guarantees
+pub mod Presenting
+pub mod Seated
+pub mod Sent
+pub mod Shown
 pub mod StoreCovers
+pub mod Stored
 pub mod Together

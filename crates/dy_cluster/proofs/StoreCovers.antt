@@ -30,10 +30,10 @@ use Rattle.dy_cluster.specs.Stores.{AreCovering, IsKept, KeepsCover, TellsStores
 use Rattle.dy_cluster.specs.declared.restings.Closed.{Closed}
 
 -- of two lists that go together: what goes with an item of the first
-record Other {A B : Type 0} (R : A → B → Type 0) (ys : List B) (x : A) : Type 0 where
-  item : B
-  in_list : Contains ys item
-  goes : R x item
+pub record Other {A B : Type 0} (R : A → B → Type 0) (ys : List B) (x : A) : Type 0 where
+  pub item : B
+  pub in_list : Contains ys item
+  pub goes : R x item
 
 -- the first list's item, with its other
 other : {A B : Type 0} (R : A → B → Type 0) (xs : List A) (ys : List B) → AllZip R xs ys → (x : A) →
@@ -63,7 +63,7 @@ module _ (ring : Tokens) (n r : ℕ) (c : AtRest) (tellings : List SessionPart) 
       ended.audit.all.nodes_belong i
 
   -- what the store of a share keeps is what the world holds there
-  same_rows : (p : NodePart) → Contains c.parts p → (s : RestState) → Shows p s.stored →
+  pub same_rows : (p : NodePart) → Contains c.parts p → (s : RestState) → Shows p s.stored →
       (home : ℕ) (key : List ℕ) →
       IsSameRow (versions_at s.stored.rooms home key) (row_at (world_of c.book) p.node home key)
   same_rows p i s is home key =
@@ -71,11 +71,11 @@ module _ (ring : Tokens) (n r : ℕ) (c : AtRest) (tellings : List SessionPart) 
       (row_at (world_of c.book) m home key)) is.node_is
       ((matches_world (steps_of c.book.log) p (belongs p i) s.stored is).rows_are home key)
 
-  store_of : (p : NodePart) → Contains c.parts p → Other (GoesWith ring n) closed.rests.items p
+  pub store_of : (p : NodePart) → Contains c.parts p → Other (GoesWith ring n) closed.rests.items p
   store_of p i = subst (λ rs. Other (GoesWith ring n) rs p) (sym ended.rests_are)
       (other (GoesWith ring n) c.parts c.rests ended.together p i)
 
-  share_of : (s : RestState) → Contains closed.rests.items s →
+  pub share_of : (s : RestState) → Contains closed.rests.items s →
       Other (λ x p. GoesWith ring n p x) c.parts s
   share_of s i = other (λ x p. GoesWith ring n p x) c.rests c.parts
       (turned (GoesWith ring n) c.parts c.rests ended.together) s

@@ -1,3 +1,4 @@
+pub mod Carrying
 pub mod Connections
 pub mod Deliveries
 pub mod Ends
@@ -5,8 +6,10 @@ pub mod Firsts
 pub mod Guarantees
 pub mod Lists
 pub mod Named
+pub mod PresentValues
 pub mod Refusals
 pub mod Settings
 pub mod Shows
 pub mod Stores
 pub mod Tellings
+pub mod inside

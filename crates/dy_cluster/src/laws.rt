@@ -4,7 +4,7 @@ ghost use Rattle.std.specs.Prelude.{◌≡◌, ◌<◌, ◌≤◌, ◌+◌, ℕ,
 ghost use Rattle.std.specs.Prelude.{take};
 ghost use Rattle.std.specs.List.{All, Contains};
 ghost use Rattle.dy_dots.specs.declared.dots.Dot.{Dot};
-ghost use Rattle.dy_siblings.specs.Siblings.{covers, newest};
+ghost use Rattle.dy_siblings.specs.Siblings.{AreOneByDot, covers, newest};
 ghost use Rattle.dy_siblings.specs.Versions.{precedes};
 ghost use Rattle.dy_siblings.specs.declared.versions.Version.{Version};
 ghost use Rattle.dy_ring.specs.Rings.{Tokens};
@@ -23,6 +23,7 @@ ghost use Rattle.dy_cluster.specs.Ends.{AtRest, IsClosed, IsEndOf};
 ghost use Rattle.dy_cluster.specs.Guarantees.{GivesNothingDeleted, IsRead, NeverGoesBack};
 ghost use Rattle.dy_cluster.specs.Guarantees.{ReadsOwnWrites, ReadsWritesOf};
 ghost use Rattle.dy_cluster.specs.Lists.{list_of};
+ghost use Rattle.dy_cluster.specs.PresentValues.{KeepsVersion, versions_held};
 ghost use Rattle.dy_cluster.specs.Stores.{AreCovering, IsKept};
 ghost use Rattle.dy_cluster.specs.declared.restings.Closed.{Closed};
 
@@ -40,6 +41,18 @@ pub fn stores_cover_acks()
     ensures covered { (ring : Tokens) (n r : ℕ) (tellings : List SessionPart) (closed : Closed) →
         IsClosed ring n r tellings closed → (x : Acked) → IsTold tellings x →
         AreCovering ring n closed.rests.items x.key x.dot x.w }
+{}
+
+/// Where a cluster was closed, its audit lists as held exactly the versions that stand in the
+/// nodes' stores, as their own or as hints; and versions of a key with one dot are one version.
+pub fn what_is_held_is_kept()
+    ensures kept { (ring : Tokens) (n r : ℕ) (tellings : List SessionPart) (closed : Closed) →
+        IsClosed ring n r tellings closed → (key : List ℕ) (v : Version) →
+        Contains (versions_held closed.audit.held.items key) v
+        ↔ KeepsVersion closed.rests.items key v }
+    ensures one { (ring : Tokens) (n r : ℕ) (tellings : List SessionPart) (closed : Closed) →
+        IsClosed ring n r tellings closed → (key : List ℕ) →
+        AreOneByDot (versions_held closed.audit.held.items key) }
 {}
 
 /// What the sessions of a closed cluster were sure to read (session guarantees, Terry et al.,

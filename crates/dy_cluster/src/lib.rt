@@ -2,6 +2,7 @@
 #![tactic(auto)]
 
 mod calls;
+mod carrying;
 mod clusters;
 mod connections;
 mod embedding;
@@ -10,30 +11,38 @@ mod handovers;
 mod laws;
 mod locks;
 mod openings;
+mod pasts;
 mod posting;
 mod restings;
 mod seats;
 mod staffing;
+mod values;
 
+pub use carrying::{CarryFault, carry_over};
 pub use clusters::Cluster;
 pub use connections::Connection;
 pub use embedding::{Client, Work, with_clients, with_cluster};
 pub use handovers::Handover;
 pub use laws::{
-    gets_give_what_homes_took, session_guarantees, stores_cover_acks, what_is_seen_is_there,
+    gets_give_what_homes_took, session_guarantees, stores_cover_acks, what_is_held_is_kept,
+    what_is_seen_is_there,
 };
 pub use openings::Opened;
 pub use restings::{Closed, ClusterRefused, Resting};
 pub use staffing::with_workers;
+pub use values::PresentValue;
 
 // What a client writes besides, so that an embedding program needs no other library.
-pub use dy_book::Options;
+pub use dy_book::{AckedAt, Audit, Options};
 pub use dy_coord::{GetDone, GetFault, PutDone, PutFault};
-pub use dy_dots::{Context, Fault, NodeId};
+pub use dy_core::{Acked, Holding, Place};
+pub use dy_dots::{Context, Dot, Fault, NodeId};
+pub use dy_mailboxes::{Gate, Open};
+pub use dy_node::{Ask, Mode};
 pub use dy_ring::Ring;
 pub use dy_shares::Naming;
 use dy_shares::SessionShare;
-pub use dy_siblings::{Key, Row, Value};
+pub use dy_siblings::{Key, Row, Value, Version};
 pub use dy_transport::Transport;
 
 /// A client's session: it is told every acknowledgement and every get of its own, and must be

@@ -5,6 +5,8 @@
 #[cfg(test)]
 mod absences;
 #[cfg(test)]
+mod carrying;
+#[cfg(test)]
 mod connections;
 #[cfg(test)]
 mod floods;

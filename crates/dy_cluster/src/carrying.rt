@@ -1,0 +1,132 @@
+// What was present in a cluster that was closed, put into another.
+ghost use Rattle.std.specs.Prelude.{◌≡◌, map, IfOk, IfErr, OnOk};
+ghost use Rattle.std.specs.Prelude.{IsOkUnless, Err};
+ghost use Rattle.std.specs.FinSet as set;
+ghost use Rattle.dy_cluster.specs.Carrying.{AreCarried, EndsBehindNothing, IsCarried, StopsAt};
+ghost use Rattle.dy_cluster.specs.Carrying.{IsCarriedOver, StopsCarrying};
+ghost use Rattle.dy_cluster.specs.Settings.{setting};
+
+use crate::connections::Connection;
+use crate::restings::Closed;
+use crate::values::PresentValue;
+use dy_coord::{PutDone, PutFault};
+use dy_dots::{Context, Fault};
+use dy_shares::Naming;
+use dy_siblings::Value;
+use dy_transport::Transport;
+use std::alloc::Global;
+use std::collections::VecDeque;
+use std::sync::Wait;
+
+/// Why not all values were carried over: as many of them were put as it counts, and the next was
+/// refused so.
+#[derive(Debug, Drop)]
+pub struct CarryFault {
+    pub count: usize,
+    pub refused: PutFault,
+}
+
+impl From<CarryFault> for Fault {
+    ghost from_gives = { λ stopped fault. fault ≡ stopped.refused.fault };
+
+    fn from(stopped: CarryFault) -> Fault {
+        let CarryFault { count: _, refused } = stopped;
+        refused.fault
+    }
+}
+
+// Copies of what the values store, which share their bytes.
+fn copies_of(alloc: Global, values: &[PresentValue]) -> Result<VecDeque<Value>, Fault>
+    ensures ok { IfOk result (λ copies. copies.items ≡ map (λ x. x.value) values.now) }
+    ensures memory { IsOkUnless result Fault.OutOfMemory }
+{
+    let mut copies = VecDeque::with_capacity(alloc, values.len())?;
+    for present in values {
+        copies.push_back(present.value.try_clone(alloc)?)?;
+    }
+    Ok(copies)
+}
+
+impl<'a, J: Naming, T: Transport<J>> Connection<'a, J, T> {
+    // Puts a value behind nothing.
+    fn put_present<R: Wait>(
+        &mut self,
+        rt: &R,
+        present: &PresentValue,
+        none: &Context,
+        value: Value,
+    ) -> Result<PutDone<J>, PutFault>
+        requires nothing { none.now ≡ set.empty }
+        requires value { value ≡ present.now.value }
+        ensures ok { IfOk result (λ done. IsCarried (setting J J.ring J.n J.r) self.old.w
+            present.now self.old.session self.new.session) }
+        ensures err { IfErr result (λ refused. (self.new.session ≡ self.old.session)
+            × EndsBehindNothing (setting J J.ring J.n J.r) self.old.w present.now
+            self.old.session self.old.session (Err refused)) }
+        ensures w { self.new.w ≡ self.old.w }
+    {
+        self.put(rt, &present.key, none, value)
+    }
+
+    /// Puts each of the values behind nothing, in their order, so that none of them follows
+    /// another; what a put is refused by ends it. May wait for answers and locks.
+    pub fn put_each<R: Wait>(
+        &mut self,
+        rt: &R,
+        alloc: Global,
+        values: &[PresentValue],
+    ) -> Result<(), CarryFault>
+        ensures ok { OnOk result (AreCarried (setting J J.ring J.n J.r) self.old.w values.now
+            self.old.session self.new.session) }
+        ensures err { IfErr result (StopsAt (setting J J.ring J.n J.r) self.old.w values.now
+            self.old.session self.new.session) }
+        ensures w { self.new.w ≡ self.old.w }
+    {
+        let mut copies = match copies_of(alloc, values) {
+            Ok(copies) => copies,
+            Err(fault) => {
+                let refused = self.cluster().unlisted(fault);
+                return Err(CarryFault { count: 0, refused });
+            }
+        };
+        let none = Context::new(alloc);
+        let mut count = 0;
+        for present in values {
+            let Some(value) = copies.pop_front() else {
+                unreachable!();
+            };
+            if let Err(refused) = self.put_present(rt, present, &none, value) {
+                return Err(CarryFault { count, refused });
+            }
+            count += 1;
+        }
+        Ok(())
+    }
+}
+
+/// Puts the values that were present in the closed cluster into that of the connection, each behind
+/// nothing, by key and then by dot, and gives how many. What it needs memory for is there before
+/// the first put. Where it is refused, go on with `put_each` and the rest of `Closed::values`. May
+/// wait for answers and locks.
+pub fn carry_over<J: Naming, T: Transport<J>, R: Wait>(
+    rt: &R,
+    alloc: Global,
+    closed: &Closed,
+    connection: &mut Connection<'_, J, T>,
+) -> Result<usize, CarryFault>
+    ensures ok { IfOk result (IsCarriedOver (setting J J.ring J.n J.r) connection.old.w
+        closed.now.audit.held.items connection.old.session connection.new.session) }
+    ensures err { IfErr result (StopsCarrying (setting J J.ring J.n J.r) connection.old.w
+        closed.now.audit.held.items connection.old.session connection.new.session) }
+    ensures w { connection.new.w ≡ connection.old.w }
+{
+    let values = match closed.values(alloc) {
+        Ok(values) => values,
+        Err(fault) => {
+            let refused = connection.cluster().unlisted(fault);
+            return Err(CarryFault { count: 0, refused });
+        }
+    };
+    connection.put_each(rt, alloc, values.as_slice())?;
+    Ok(values.len())
+}

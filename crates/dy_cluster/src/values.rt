@@ -1,0 +1,105 @@
+// The values that are present of what is held.
+ghost use Rattle.std.specs.Prelude.{◌≡◌, ◌++◌, OnOk, IfOk, IsOkUnless, flat_map};
+ghost use Rattle.dy_cluster.specs.PresentValues.{ArePresent, present_cmp};
+ghost use Rattle.dy_cluster.specs.inside.Pasts.{values_in};
+ghost use Rattle.dy_book.specs.inside.Lists.{IsInOrder};
+
+use crate::pasts::{Pasts, pasts_of};
+use crate::restings::Closed;
+use dy_core::{Holding, Ranked};
+use dy_dots::{Dot, Fault};
+use dy_siblings::{Key, Row, Value};
+use std::alloc::Global;
+use std::cmp::Ordering;
+
+/// A value that was present when a cluster closed, with its key and the dot that named it there.
+#[derive(Debug, Drop)]
+pub struct PresentValue {
+    pub key: Key,
+    pub dot: Dot,
+    pub value: Value,
+}
+
+impl Ranked for PresentValue {
+    ghost use Rattle.dy_cluster.specs.PresentValues.{present_cmp};
+
+    ghost ranked = { present_cmp };
+
+    fn rank(&self, other: &PresentValue) -> Ordering {
+        self.key
+            .cmp(&other.key)
+            .then(self.dot.cmp(&other.dot))
+            .then(self.value.as_bytes().cmp(other.value.as_bytes()))
+    }
+}
+
+// Adds the row's values that are present, and that lie in the past of no version of its key.
+fn add_values(
+    alloc: Global,
+    found: &mut Vec<PresentValue>,
+    row: &Row,
+    pasts: &Pasts,
+) -> Result<(), Fault>
+    ensures ok { OnOk result (found.new.items ≡
+        found.old.items ++ values_in pasts.now row.now.key row.now.versions) }
+    ensures memory { IsOkUnless result Fault.OutOfMemory }
+{
+    for version in row.versions() {
+        if pasts.has(row.key(), version.dot()) {
+            continue;
+        }
+        if let Some(value) = version.value() {
+            found.push(PresentValue {
+                key: row.key().try_clone(alloc)?,
+                dot: version.dot(),
+                value: value.try_clone(alloc)?,
+            })?;
+        }
+    }
+    Ok(())
+}
+
+// Those of all that is held, row by row.
+fn found_of(alloc: Global, held: &[Holding], pasts: &Pasts) -> Result<Vec<PresentValue>, Fault>
+    ensures ok { IfOk result (λ found. found.items ≡
+        flat_map (λ h. values_in pasts.now h.row.key h.row.versions) held.now) }
+    ensures memory { IsOkUnless result Fault.OutOfMemory }
+{
+    let mut found = Vec::new(alloc);
+    for holding in held {
+        add_values(alloc, &mut found, &holding.row, pasts)?;
+    }
+    Ok(found)
+}
+
+// The same in order, each once.
+fn ordered(mut found: Vec<PresentValue>) -> Result<Vec<PresentValue>, Fault>
+    ensures ok { IfOk result (λ list. IsInOrder present_cmp found.items list.items) }
+    ensures memory { IsOkUnless result Fault.OutOfMemory }
+{
+    found.sort_by(|item, other| item.rank(other))?;
+    found.dedup_by(|item, other| item.rank(other) == Ordering::Equal);
+    Ok(found)
+}
+
+// The values that are present of what is held, whoever holds it.
+fn values_of(alloc: Global, held: &[Holding]) -> Result<Vec<PresentValue>, Fault>
+    ensures ok { IfOk result (λ values. ArePresent held.now values.items) }
+    ensures memory { IsOkUnless result Fault.OutOfMemory }
+{
+    let pasts = pasts_of(alloc, held)?;
+    let found = found_of(alloc, held, &pasts)?;
+    ordered(found)
+}
+
+impl Closed {
+    /// The values that were present when the cluster closed, by key and then by dot: those of the
+    /// merge of all rows of a key, whoever held them, homes and stand-ins.
+    pub fn values(&self, alloc: Global) -> Result<Vec<PresentValue>, Fault>
+        ensures ok { IfOk result (λ values.
+            ArePresent self.now.audit.held.items values.items) }
+        ensures memory { IsOkUnless result Fault.OutOfMemory }
+    {
+        values_of(alloc, self.audit.held.as_slice())
+    }
+}
