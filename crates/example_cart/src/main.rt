@@ -17,8 +17,9 @@ mod states;
 
 use crate::carts::text_at;
 use crate::shops::Shop;
-use dy_cluster::{Closed, Fault, Options, Ring, session_guarantees, with_clients, with_workers};
-use dy_mailboxes::Open;
+use dy_cluster::{
+    Closed, Fault, Open, Options, Ring, session_guarantees, with_clients, with_workers,
+};
 use std::alloc::Global;
 use std::sync::Wait;
 use std::sync::atomic::{AtomicUsize, Ordering};
