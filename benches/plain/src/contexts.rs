@@ -47,6 +47,10 @@ impl Context {
         &self.runs
     }
 
+    pub fn is_empty(&self) -> bool {
+        self.runs.is_empty()
+    }
+
     /// The run that the dot lies in.
     pub fn run_of(&self, dot: Dot) -> Option<&Run> {
         let alone = Run {

@@ -86,7 +86,7 @@ impl Row {
         }
     }
 
-    /// Keeps of both rows' versions those that no version of them follows.
+    /// Keeps of both rows' versions those that no version of them follows, in one pass over both.
     pub fn merge(&mut self, other: &Row) {
         let past = past_of(self.versions.iter().chain(&other.versions));
         let is_followed = |it: &&Version| past.contains(it.dot);
@@ -96,7 +96,11 @@ impl Row {
             .filter(is_followed)
             .map(|it| it.dot)
             .collect();
-        let is_new = |it: &&Version| !past.contains(it.dot) && !self.has(it.dot);
+        let mut own = self.versions.iter().map(|it| it.dot).peekable();
+        let is_new = |it: &&Version| {
+            while own.next_if(|dot| *dot < it.dot).is_some() {}
+            own.peek() != Some(&it.dot) && !past.contains(it.dot)
+        };
         let new: Vec<Version> = other.versions.iter().filter(is_new).cloned().collect();
         if !gone.is_empty() {
             self.versions
@@ -108,7 +112,7 @@ impl Row {
         let is_behind = self.versions.last().map(|it| it.dot) < new.first().map(|it| it.dot);
         self.versions.extend(new);
         if !is_behind {
-            // Two lists that rise: this is one pass over both.
+            // Two lists that rise: the sort finds them and merges them.
             self.versions.sort_by_key(|it| it.dot);
         }
     }
@@ -132,7 +136,7 @@ impl Row {
 fn past_of<'a>(versions: impl Iterator<Item = &'a Version>) -> Cow<'a, Context> {
     let mut past: Cow<Context> = Cow::Owned(Context::default());
     for version in versions {
-        if past.includes(&version.past) {
+        if version.past.is_empty() || past.includes(&version.past) {
             continue;
         }
         if version.past.includes(&past) {
