@@ -124,8 +124,10 @@ pub fn put(
         key,
         row: &row,
     };
-    let mut answers = vec![(own, Kind::Stored)];
-    let mut homes = vec![own.home];
+    let mut answers = Vec::with_capacity(list.nodes().len());
+    answers.push((own, Kind::Stored));
+    // A bit for each home that has it.
+    let mut homes = 1_u32 << own.home;
     for home in list
         .homes()
         .iter()
@@ -136,11 +138,11 @@ pub fn put(
     }
     let mut stand_ins = list.stand_ins(own.holder);
     while let Some((place, answer)) = read_next(transport, &ask, &mut stand_ins, &mut answers) {
-        if matches!(answer, Answer::Stored) && !homes.contains(&place.home) {
-            homes.push(place.home);
+        if matches!(answer, Answer::Stored) {
+            homes |= 1 << place.home;
         }
     }
-    if homes.len() < usize::from(w) {
+    if homes.count_ones() < u32::from(w) {
         return Err(PutFault {
             fault: Fault::NotEnough,
             dot: Some(dot),
@@ -179,11 +181,14 @@ pub fn get(
     });
     let (own, first) = looked.map_err(GetFault::early)?;
     let ask = |home| Ask::Fetch { home, key };
-    let mut answers = vec![(own, Kind::Row)];
+    let mut answers = Vec::with_capacity(list.nodes().len());
+    answers.push((own, Kind::Row));
     let mut row = first.row.clone();
     let mut at = first.at;
-    let mut from = vec![own];
-    let mut seen = vec![first];
+    let mut from = Vec::with_capacity(r);
+    from.push(own);
+    let mut seen = Vec::with_capacity(r);
+    seen.push(first);
     for home in list
         .homes()
         .iter()
