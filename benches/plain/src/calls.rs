@@ -91,10 +91,10 @@ fn read_next<'a>(
     };
     answers.push((place, kind));
     let again = ask(place.home);
-    if !again.is_served_by(&answer) {
-        if let Some(next) = stand_ins.next() {
-            transport.ask(next, again);
-        }
+    if !again.is_served_by(&answer)
+        && let Some(next) = stand_ins.next()
+    {
+        transport.ask(next, again);
     }
     Some((place, answer))
 }

@@ -86,11 +86,11 @@ impl Context {
         run.first = run.first.min(alone.first);
         run.last = run.last.max(alone.last);
         let longer = *run;
-        if let Some(next) = self.runs.get(place + 1) {
-            if !longer.is_below(next) {
-                self.runs[place].last = next.last;
-                self.runs.remove(place + 1);
-            }
+        if let Some(next) = self.runs.get(place + 1)
+            && !longer.is_below(next)
+        {
+            self.runs[place].last = next.last;
+            self.runs.remove(place + 1);
         }
     }
 
@@ -98,10 +98,7 @@ impl Context {
     pub fn includes(&self, other: &Context) -> bool {
         let mut mine = self.runs.iter().peekable();
         other.runs.iter().all(|run| {
-            while mine
-                .next_if(|own| own.is_below(run) && !own.covers(run))
-                .is_some()
-            {}
+            while mine.next_if(|own| own.is_below(run)).is_some() {}
             mine.peek().is_some_and(|own| own.covers(run))
         })
     }
