@@ -62,15 +62,7 @@ fn open<R: Threads + Wait + Sync>(
     shop: &Shop,
 ) -> Result<Closed, Fault> {
     let ring = Ring::derived(alloc, 5, 8)?;
-    let options = Options {
-        n: 3,
-        r: 2,
-        w: 2,
-        counter_limit: 100,
-        versions_limit: 100,
-        steps_limit: 10_000,
-    };
-    run(rt, alloc, ring, options, by_workers, shop)
+    run(rt, alloc, ring, Options::of(3, 2, 2), by_workers, shop)
 }
 
 /// Runs the clients, over the nodes' workers or without, and closes the cluster: what was
