@@ -10,10 +10,13 @@ use Rattle.std.specs.FinMap.Entries.{find}
 use Rattle.std.proofs.lemmas.Map.Lookups.{CmpEqualImpliesEq, exact_bytes, exact_unsigned, exact_pairs}
 use Rattle.std.proofs.lemmas.Map.Views.{tells_apart}
 use Rattle.std.proofs.lemmas.Bool.{cases_lt}
-use Rattle.std.proofs.lemmas.List.{get_or-set_same, get_or-set_other}
+use Rattle.std.proofs.lemmas.List.{get_or-set_same, get_or-set_other, set-get_or}
 use Rattle.dy_siblings.specs.Siblings.{Siblings}
 use Rattle.dy_siblings.specs.Versions.{VersionParts}
 use Rattle.dy_node_store.specs.Rows.{Rows, with_versions}
+use Rattle.dy_node_store.specs.Absorbing.{AddsNothing, IsAbsorbed}
+use Rattle.dy_node_store.specs.declared.placed.Placed.{Placed}
+use Rattle.dy_node_store.specs.declared.placed.Placed.TheVariants.{Nothing, New, Over}
 use Rattle.dy_hint_store.specs.Hints.{Hints, home_then_key, with_versions_for}
 use Rattle.dy_hint_store.specs.inside.Homes.{rows_for, entries_for, entries_from, HaveSameRows}
 
@@ -168,6 +171,29 @@ hints_with homes hints at home key vs rows view same inside rows_are =
     ap (λ r. maps.from_entries (entries_from 0 (set homes at r))) rows_are
     ∙ changed_hints homes at key vs inside
     ∙ (λ i. with_versions_for (view i) (same i) key vs)
+
+-- what becomes of a row in the map of a home, becomes of it in the hints
+pub absorbed_for : (homes : List Rows) (hints : Hints) (at home : ℕ) (rows new : Rows) (row : Siblings) (placed : Placed) → maps.from_entries (entries_from 0 homes) ≡ hints → at ≡ home → at < length homes → rows ≡ rows_for homes at → IsAbsorbed rows new (with_versions rows row.key) (maps.get rows row.key) row placed → IsAbsorbed hints (maps.from_entries (entries_from 0 (set homes at new))) (with_versions_for hints home row.key) (maps.get hints (home, row.key)) row placed
+absorbed_for homes hints at home rows new row Nothing view same inside is h = (
+  ap (λ m. maps.from_entries (entries_from 0 (set homes at m))) (h.0 ∙ is)
+      ∙ ap (λ others. maps.from_entries (entries_from 0 others)) (set-get_or homes at maps.empty) ∙ view,
+  subst (λ o. AddsNothing o row) (sym (found_hint homes hints at home row.key rows view same is)) h.1,
+)
+absorbed_for homes hints at home rows new row New view same inside is h = (
+  hints_with homes hints at home row.key row.versions new view same inside
+      (h.0 ∙ ap (λ m. with_versions m row.key row.versions) is),
+  found_hint homes hints at home row.key rows view same is ∙ h.1,
+  h.2,
+)
+absorbed_for homes hints at home rows new row (Over before) view same inside is h = (
+  found_hint homes hints at home row.key rows view same is ∙ h.0,
+  (
+    h.1.0,
+    hints_with homes hints at home row.key h.1.0 new view same inside
+        (h.1.1 ∙ ap (λ m. with_versions m row.key h.1.0) is),
+    h.1.2,
+  ),
+)
 
 -- a hint is found only in a map
 pub inside_where_found : (homes : List Rows) (hints : Hints) (at home : ℕ) (key : List ℕ) → maps.from_entries (entries_from 0 homes) ≡ hints → at ≡ home → IsSome (maps.get hints (home, key)) → at < length homes

@@ -1,16 +1,17 @@
 ghost use Rattle.std.specs.Prelude.{◌≡◌, ◌<◌, ◌-◌, ◌^◌, None, Some, length, map, min};
 ghost use Rattle.std.specs.Prelude.{IsSome, IfSome, IfOk, OnOk};
-ghost use Rattle.std.specs.Prelude.{OnErr, IsOkUnless};
+ghost use Rattle.std.specs.Prelude.{OnErr, IsOk, IsOkUnless};
 ghost use Rattle.std.specs.Option.{option_copied};
 ghost use Rattle.std.specs.FinMap as maps;
 ghost use Rattle.std.specs.List.{All};
 ghost use Rattle.dy_node_store.specs.Rows.{without_dots, IsRowOf};
+ghost use Rattle.dy_node_store.specs.Absorbing.{IsAbsorbed};
 ghost use Rattle.dy_hint_store.specs.Hints.{versions_for, with_versions_for, home_and_row, shown};
 ghost use Rattle.dy_hint_store.specs.Hints.{IsHint};
 
 use crate::homes;
 use dy_dots::{Dot, Fault, NodeId};
-use dy_node_store::RowMap;
+use dy_node_store::{Placed, RowMap};
 use dy_siblings::{Key, Row};
 use std::alloc::Global;
 use std::marker::Model;
@@ -87,10 +88,41 @@ impl HintStore {
             self.remove_row(home, row.key());
             return Ok(());
         }
+        let _before = self.swap_row(home, row)?;
+        Ok(())
+    }
+
+    /// Puts the row in the place of its key's for the home, and gives back what was there. Takes
+    /// memory only where there was none.
+    pub fn swap_row(&mut self, home: NodeId, row: Row) -> Result<Option<Row>, Fault>
+        requires { 0 < length row.versions }
+        ensures ok { OnOk result (self.new ≡ with_versions_for self.old home row.key row.versions) }
+        ensures before { IfOk result (λ before. before ≡ maps.get self.old (home, row.key)) }
+        ensures valid { IfOk result (λ before. IfSome before (IsRowOf row.key)) }
+        ensures err { OnErr result (self.new ≡ self.old) }
+        ensures absent { OnErr result (maps.get self.old (home, row.key) ≡ None) }
+        ensures memory { IsOkUnless result Fault.OutOfMemory }
+    {
         let at = home.number() as usize;
         homes::make_room(self.alloc, &mut self.homes, at)?;
-        self.homes[at].put_row(row)?;
-        Ok(())
+        let before = self.homes[at].swap_row(row)?;
+        Ok(before)
+    }
+
+    /// Merges the row into what is kept of its key for the home, in the place of that, and tells
+    /// what was there. Takes no memory where the row is kept as it is.
+    pub fn absorb(&mut self, home: NodeId, row: &Row) -> Result<Placed, Fault>
+        ensures ok { IfOk result
+            (IsAbsorbed self.old self.new (with_versions_for self.old home row.now.key)
+            (maps.get self.old (home, row.now.key)) row.now) }
+        ensures err { OnErr result (self.new ≡ self.old) }
+        ensures spared { maps.get self.old (home, row.now.key) ≡ Some row.now → IsOk result }
+        ensures memory { IsOkUnless result Fault.OutOfMemory }
+    {
+        let at = home.number() as usize;
+        homes::make_room(self.alloc, &mut self.homes, at)?;
+        let placed = self.homes[at].absorb(row)?;
+        Ok(placed)
     }
 
     /// Puts the row in the place of its key's for the home, and gives that back. Takes no memory.

@@ -1,3 +1,4 @@
+pub mod AbsorbLemmas
 pub mod CounterLemmas
 pub mod DotLemmas
 pub mod Maps

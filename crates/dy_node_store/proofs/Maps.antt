@@ -83,6 +83,15 @@ module _ {X : Type 0} where
         | false ↦ λ _. refl
       ] refl)
 
+  -- to insert what is there changes nothing
+  pub insert_present : (m : maps.FinMap (slice_cmp nat_cmp) X) (k : List ℕ) (v : X) → maps.get m k ≡ Some v → maps.insert m k v ≡ m
+  insert_present m k v there = maps.same_map nat_list_cmp_total exact_bytes _ _ (λ q.
+      maps.get-insert nat_list_cmp_total m k v q
+      ∙ elim (eq_by_cmp (slice_cmp nat_cmp) q k) as (λ b. eq_by_cmp (slice_cmp nat_cmp) q k ≡ b → cond b (Some v) (maps.get m q) ≡ maps.get m q) [
+        | true ↦ λ tied. sym (ap (maps.get m) (tells_apart exact_bytes q k tied) ∙ there)
+        | false ↦ λ _. refl
+      ] refl)
+
 -- an entry that was written over is removed as it was before
 pub remove_entry-set_value : {X : Type 0} (test : List ℕ → Bool) (es : List (List ℕ × X)) (w : X) → remove_entry test (set_value test es w) ≡ remove_entry test es
 remove_entry-set_value test [] w = refl

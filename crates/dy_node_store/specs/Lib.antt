@@ -1,3 +1,4 @@
+pub mod Absorbing
 pub mod Counters
 pub mod Kept
 pub mod Rows

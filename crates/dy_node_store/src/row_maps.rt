@@ -1,11 +1,13 @@
 ghost use Rattle.std.specs.Prelude.{◌≡◌, ◌<◌, None, Some, length, map, IsSome, IfSome, IfOk, OnOk};
-ghost use Rattle.std.specs.Prelude.{OnErr, IsOkUnless};
+ghost use Rattle.std.specs.Prelude.{OnErr, IsOk, IsOkUnless};
 ghost use Rattle.std.specs.Option.{option_copied};
 ghost use Rattle.std.specs.FinMap as maps;
 ghost use Rattle.std.specs.List.{All};
 ghost use Rattle.dy_node_store.specs.Rows.{with_versions, versions_of, without_dots, IsRowOf};
 ghost use Rattle.dy_node_store.specs.Rows.{IsKeptRow};
+ghost use Rattle.dy_node_store.specs.Absorbing.{IsAbsorbed};
 
+use crate::placed::Placed;
 use dy_dots::{Dot, Fault};
 use dy_siblings::{Key, Row};
 use std::alloc::Global;
@@ -72,15 +74,68 @@ impl RowMap {
             self.rows.remove(row.key());
             return Ok(());
         }
+        let _before = self.swap_row(row)?;
+        Ok(())
+    }
+
+    /// Puts the row in the place of its key's, and gives back what was there. Takes memory only
+    /// where the key had none.
+    pub fn swap_row(&mut self, row: Row) -> Result<Option<Row>, Fault>
+        requires { 0 < length row.versions }
+        ensures ok { OnOk result (self.new ≡ with_versions self.old row.key row.versions) }
+        ensures before { IfOk result (λ before. before ≡ maps.get self.old row.key) }
+        ensures valid { IfOk result (λ before. IfSome before (IsRowOf row.key)) }
+        ensures err { OnErr result (self.new ≡ self.old) }
+        ensures absent { OnErr result (maps.get self.old row.key ≡ None) }
+        ensures memory { IsOkUnless result Fault.OutOfMemory }
+    {
         match self.rows.get_mut(row.key()) {
             Some(kept) => {
-                *kept = row;
-                Ok(())
+                let before = mem::replace(kept, row);
+                Ok(Some(before))
             }
             None => {
-                let key = row.key().try_clone(self.alloc)?;
-                self.rows.insert(key, row)?;
-                Ok(())
+                self.put_new(row)?;
+                Ok(None)
+            }
+        }
+    }
+
+    // Puts the row at its key, which has none.
+    fn put_new(&mut self, row: Row) -> Result<(), Fault>
+        requires absent { maps.get self.old row.key ≡ None }
+        requires filled { 0 < length row.versions }
+        ensures ok { OnOk result (self.new ≡ with_versions self.old row.key row.versions) }
+        ensures err { OnErr result (self.new ≡ self.old) }
+        ensures memory { IsOkUnless result Fault.OutOfMemory }
+    {
+        let key = row.key().try_clone(self.alloc)?;
+        self.rows.insert(key, row)?;
+        Ok(())
+    }
+
+    /// Merges the row into what is kept of its key, in the place of that, and tells what was there.
+    /// Takes no memory where the row is kept as it is.
+    pub fn absorb(&mut self, row: &Row) -> Result<Placed, Fault>
+        ensures ok { IfOk result
+            (IsAbsorbed self.old self.new (with_versions self.old row.now.key)
+            (maps.get self.old row.now.key) row.now) }
+        ensures err { OnErr result (self.new ≡ self.old) }
+        ensures spared { maps.get self.old row.now.key ≡ Some row.now → IsOk result }
+        ensures memory { IsOkUnless result Fault.OutOfMemory }
+    {
+        match self.rows.get_mut(row.key()) {
+            Some(kept) => {
+                let placed = merge_into(self.alloc, kept, row)?;
+                Ok(placed)
+            }
+            None => {
+                if row.is_empty() {
+                    return Ok(Placed::Nothing);
+                }
+                let copy = row.try_clone(self.alloc)?;
+                self.put_new(copy)?;
+                Ok(Placed::New)
             }
         }
     }
@@ -134,6 +189,28 @@ impl RowMap {
         }
         Ok(rows)
     }
+}
+
+// Puts the merge of both rows in the place of the first, and gives that back, where they differ and
+// agree, and a version is left.
+fn merge_into(alloc: Global, kept: &mut Row, row: &Row) -> Result<Placed, Fault>
+    requires { IsRowOf row.now.key kept.old }
+    ensures ok { IfOk result
+        (IsAbsorbed kept.old kept.new (λ vs. record { key = row.now.key; versions = vs })
+        (Some kept.old) row.now) }
+    ensures err { OnErr result (kept.new ≡ kept.old) }
+    ensures spared { kept.old ≡ row.now → IsOk result }
+    ensures memory { IsOkUnless result Fault.OutOfMemory }
+{
+    if kept.is_same(row) || !kept.agrees(row) {
+        return Ok(Placed::Nothing);
+    }
+    let merged = kept.merged(alloc, row)?;
+    if merged.is_empty() {
+        return Ok(Placed::Nothing);
+    }
+    let before = mem::replace(kept, merged);
+    Ok(Placed::Over(before))
 }
 
 fn drop_dots(row: &mut Row, dots: &[Dot])

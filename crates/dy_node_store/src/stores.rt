@@ -1,12 +1,14 @@
 ghost use Rattle.std.specs.Prelude.{◌≡◌, ◌<◌, ◌≤◌, ◌+◌, ℕ, List, None, Some, length, map, IsSome};
-ghost use Rattle.std.specs.Prelude.{IfSome, IfOk, IfErr, OnOk, OnErr, IsOkUnless};
+ghost use Rattle.std.specs.Prelude.{IfSome, IfOk, IfErr, OnOk, OnErr, IsOk, IsOkUnless};
 ghost use Rattle.std.specs.Option.{option_copied};
 ghost use Rattle.std.specs.Result.{OkIff};
 ghost use Rattle.std.specs.FinMap as maps;
 ghost use Rattle.std.specs.List.{All};
 ghost use Rattle.dy_node_store.specs.Rows.{with_versions, IsKeptRow, IsRowOf};
 ghost use Rattle.dy_node_store.specs.Counters.{greatest_used, with_used};
+ghost use Rattle.dy_node_store.specs.Absorbing.{IsAbsorbed};
 
+use crate::placed::Placed;
 use crate::row_maps::RowMap;
 use dy_dots::Fault;
 use dy_siblings::{Key, Row};
@@ -65,6 +67,35 @@ impl NodeStore {
         ensures memory { IsOkUnless result Fault.OutOfMemory }
     {
         self.rows.put_row(row)
+    }
+
+    /// Puts the row in the place of its key's, and gives back what was there. Takes memory only
+    /// where the key had none.
+    pub fn swap_row(&mut self, row: Row) -> Result<Option<Row>, Fault>
+        requires { 0 < length row.versions }
+        ensures ok { OnOk result (self.new ≡
+            record self.old { rows = with_versions self.old.rows row.key row.versions }) }
+        ensures before { IfOk result (λ before. before ≡ maps.get self.old.rows row.key) }
+        ensures valid { IfOk result (λ before. IfSome before (IsRowOf row.key)) }
+        ensures err { OnErr result (self.new ≡ self.old) }
+        ensures absent { OnErr result (maps.get self.old.rows row.key ≡ None) }
+        ensures memory { IsOkUnless result Fault.OutOfMemory }
+    {
+        self.rows.swap_row(row)
+    }
+
+    /// Merges the row into what is kept of its key, in the place of that, and tells what was there.
+    /// Takes no memory where the row is kept as it is.
+    pub fn absorb(&mut self, row: &Row) -> Result<Placed, Fault>
+        ensures ok { IfOk result (IsAbsorbed self.old self.new
+            (λ vs. record self.old { rows = with_versions self.old.rows row.now.key vs })
+            (maps.get self.old.rows row.now.key) row.now) }
+        ensures err { OnErr result (self.new ≡ self.old) }
+        ensures spared { maps.get self.old.rows row.now.key ≡ Some row.now → IsOk result }
+        ensures memory { IsOkUnless result Fault.OutOfMemory }
+    {
+        let placed = self.rows.absorb(row)?;
+        Ok(placed)
     }
 
     /// Puts the row in the place of its key's, and gives that back. Takes no memory.

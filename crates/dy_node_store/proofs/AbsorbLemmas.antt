@@ -1,0 +1,76 @@
+-- A row that is merged into what is kept of its key.
+use Rattle.std.proofs.Common.{◌≡◌, ℕ, true, false, List, [], Option, None, Some}
+use Rattle.std.proofs.Common.{IsSome, IfSome, inr, refl, sym, ap, ◌∙◌, subst}
+use Rattle.std.specs.Ordering.{nat_cmp}
+use Rattle.std.specs.Cmp.Lexicographic.{slice_cmp}
+use Rattle.std.specs.List.{Contains}
+use Rattle.std.specs.BTreeMap.{is_at}
+use Rattle.std.specs.Map.{lookup}
+use Rattle.std.specs.FinMap as maps
+use Rattle.dy_siblings.specs.Siblings.{Siblings, merge}
+use Rattle.dy_siblings.specs.Versions.{VersionParts}
+use Rattle.dy_siblings.proofs.Members.{not_in_nil}
+use Rattle.dy_node_store.specs.Rows.{Rows, with_versions, IsRowOf}
+use Rattle.dy_node_store.specs.Absorbing.{AddsNothing, IsAbsorbed}
+use Rattle.dy_node_store.specs.inside.Entries.{AreRows}
+use Rattle.dy_node_store.specs.declared.placed.Placed.{Placed}
+use Rattle.dy_node_store.specs.declared.placed.Placed.TheVariants.{Nothing, New, Over}
+use Rattle.dy_node_store.proofs.Maps.{insert_present}
+use Rattle.dy_node_store.proofs.RowLemmas.{IsRowOf-lookup, with_versions_filled}
+
+-- there is a row, or there is none
+pub not_none : {X : Type 0} (x : X) → Some x ≡ None → ⊥
+not_none x is = let both : false ≡ true = subst IsSome is refl in cc
+
+-- what is found at a key is a row of it
+pub found_row : (es : List (List ℕ × Siblings)) (k key : List ℕ) (row : Siblings) → AreRows es →
+    k ≡ key → lookup (is_at (slice_cmp nat_cmp k)) es ≡ Some row → IsRowOf key row
+found_row es k key row rows same there = subst (λ j. IsRowOf j row) same
+    (subst (λ o. IfSome o (IsRowOf k)) there (IsRowOf-lookup es k rows))
+
+-- an empty row adds nothing where none is kept
+pub empty_adds : (row : Siblings) (kept : Option Siblings) → kept ≡ None → row.versions ≡ [] →
+    AddsNothing kept row
+empty_adds row kept none empty = subst (λ o. AddsNothing o row) (sym none)
+    (inr (inr (λ v h. not_in_nil v (subst (λ vs. Contains (merge [] vs) v) empty h))))
+
+-- other versions of the row's key, as a row
+abbrev pub row_of : Siblings → List VersionParts → Siblings
+row_of row vs = record { key = row.key; versions = vs }
+
+-- what comes of a row of the key is a row of it
+pub absorbed_row : (kept after row : Siblings) (placed : Placed) → IsRowOf row.key kept →
+    IsAbsorbed kept after (row_of row) (Some kept) row placed → IsRowOf row.key after
+absorbed_row kept after row Nothing is h = subst (IsRowOf row.key) (sym h.0) is
+absorbed_row kept after row New is h = absurd (not_none kept h.1)
+absorbed_row kept after row (Over before) is h =
+    subst (IsRowOf row.key) (sym h.1.1) (refl, h.1.2.filled)
+
+-- and it is kept in the place of the key's
+pub absorbed_rows : (rows new : Rows) (kept after row : Siblings) (placed : Placed) →
+    maps.get rows row.key ≡ Some kept → new ≡ maps.insert rows row.key after →
+    IsAbsorbed kept after (row_of row) (Some kept) row placed →
+    IsAbsorbed rows new (with_versions rows row.key) (maps.get rows row.key) row placed
+absorbed_rows rows new kept after row Nothing there is h = (
+  is ∙ ap (maps.insert rows row.key) h.0 ∙ insert_present rows row.key kept there,
+  subst (λ o. AddsNothing o row) (sym there) h.1,
+)
+absorbed_rows rows new kept after row New there is h = absurd (not_none kept h.1)
+absorbed_rows rows new kept after row (Over before) there is h = (
+  there ∙ h.0,
+  (
+    h.1.0,
+    is ∙ ap (maps.insert rows row.key) h.1.1
+        ∙ sym (with_versions_filled rows row.key h.1.0 h.1.2.filled),
+    h.1.2,
+  ),
+)
+
+-- the same of a map that is part of another
+pub absorbed_in : {M N : Type 0} (f : M → N) (old new : M) (with : List VersionParts → M)
+    (kept : Option Siblings) (row : Siblings) (placed : Placed) →
+    IsAbsorbed old new with kept row placed →
+    IsAbsorbed (f old) (f new) (λ vs. f (with vs)) kept row placed
+absorbed_in f old new with kept row Nothing h = (ap f h.0, h.1)
+absorbed_in f old new with kept row New h = (ap f h.0, h.1, h.2)
+absorbed_in f old new with kept row (Over before) h = (h.0, (h.1.0, ap f h.1.1, h.1.2))
