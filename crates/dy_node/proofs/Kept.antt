@@ -16,6 +16,7 @@ use Rattle.dy_siblings.specs.declared.versions.Version.{Version}
 use Rattle.dy_node_store.specs.Rows.{versions_in, versions_of}
 use Rattle.dy_hint_store.specs.Hints.{home_then_key, versions_for}
 use Rattle.dy_node_store.specs.Counters.{Counters, greatest_used, with_used}
+use Rattle.dy_node_store.proofs.Maps.{insert_present}
 use Rattle.dy_core.specs.Worlds.{Layout, World, AreMadeOf, empty_world, row_at}
 use Rattle.dy_core.specs.Steps.{version_made, after_issue, after_hold}
 use Rattle.dy_core.specs.Steps.{place_for}
@@ -37,7 +38,7 @@ use Rattle.dy_node.specs.Stored.{ShowsNothing, versions_at}
 use Rattle.dy_node.specs.inside.Agreed.{IsAgreed}
 use Rattle.dy_node.specs.Nodes.{HasCounterLeft, LacksCounter}
 use Rattle.dy_node.specs.inside.Placing.{EitherAt, IsAdded, IsMerged, IsUnmerged}
-use Rattle.dy_node.specs.declared.placed.Placed.{Placed}
+use Rattle.dy_node_store.specs.declared.placed.Placed.{Placed}
 use Rattle.dy_node.proofs.MergedRows.{stays_placed}
 use Rattle.dy_node.proofs.Worldly.{hold_matches, issue_matches, matches_world}
 use Rattle.dy_node.proofs.Worldly.{merge_of_something, shows_share, used_is}
@@ -222,6 +223,17 @@ used_there m k c none =
     ∙ ap (λ o. cond (is_eq o) (Some (max (greatest_used m k) c)) (maps.get m k))
     (tied_itself nat_list_cmp_total k) in
     let clash : Some (max (greatest_used m k) c) ≡ None = sym there ∙ none in cc
+
+-- where a counter was used, to use 0 changes nothing
+pub used_stays : (m : Counters) (k : List ℕ) → 0 < greatest_used m k → with_used m k 0 ≡ m
+used_stays m k used = by_found (maps.get m k) refl used
+  where
+    by_found : (o : Option ℕ) → maps.get m k ≡ o → 0 < unwrap_or o 0 →
+        maps.insert m k (max (unwrap_or o 0) 0) ≡ m
+    by_found None is lt = absurd (omega (arith, lt))
+    by_found (Some n) is lt =
+        let same : max n 0 ≡ n = omega arith in
+        ap (maps.insert m k) same ∙ insert_present m k n is
 
 module _ (layout : Layout) (b c : BookParts) (p q : NodePart) (s t : Stored) (home : ℕ)
     (v : Version) (placed : Placed) where

@@ -1,7 +1,7 @@
 -- What is kept once a row was merged into what was there.
 use Rattle.std.specs.List.{Contains}
 use Rattle.std.proofs.Common.{[], ◌≡◌, ℕ, suc, ◌+◌, ◌==◌, ◌<◌, Bool, true, false, List, ◌∷◌}
-use Rattle.std.proofs.Common.{length, ◌++◌, Option, Some, IsSome, inl, inr}
+use Rattle.std.proofs.Common.{length, ◌++◌, Option, None, Some, IsSome, cond, inl, inr}
 use Rattle.std.proofs.Common.{refl, sym, ap, ◌∙◌, subst, arith}
 use Rattle.std.specs.FinMap as maps
 use Rattle.std.proofs.lemmas.Bool.{eqb-true}
@@ -11,15 +11,17 @@ use Rattle.dy_siblings.proofs.SameKeys.{same_key_is, same_key_self}
 use Rattle.dy_siblings.proofs.Members.{not_in_nil}
 use Rattle.dy_siblings.specs.declared.versions.Version.{Version}
 use Rattle.dy_siblings.proofs.Merges.{idempotent}
-use Rattle.dy_node_store.specs.Rows.{versions_in}
-use Rattle.dy_hint_store.specs.Hints.{Hints}
+use Rattle.dy_node_store.specs.Rows.{versions_in, with_versions}
+use Rattle.dy_node_store.specs.Absorbing.{AddsNothing, IsAbsorbed}
+use Rattle.dy_hint_store.specs.Hints.{Hints, with_versions_for}
 use Rattle.dy_hint_store.proofs.HomeLemmas.{row_with}
 use Rattle.dy_node.specs.inside.Placing.{EitherAt, IsAdded, IsPlaced, row_kept}
-use Rattle.dy_node.specs.declared.placed.Placed.{Placed}
-use Rattle.dy_node.specs.declared.placed.Placed.TheVariants.{Nothing, New, Over}
+use Rattle.dy_node_store.specs.declared.placed.Placed.{Placed}
+use Rattle.dy_node_store.specs.declared.placed.Placed.TheVariants.{Nothing, New, Over}
 use Rattle.dy_node.specs.Stored.{Rooms, hints_below, listed, versions_at, with_row}
 use Rattle.dy_node.proofs.RoomLemmas.{apart_from, kept_after, kept_there, versions_kept, with_node}
-use Rattle.dy_node.proofs.RoomLemmas.{with_place}
+use Rattle.dy_node.proofs.RoomLemmas.{found_none, found_versions, merge_nothing, own_hints_stay}
+use Rattle.dy_node.proofs.RoomLemmas.{put_back, row_with-row, with_place}
 
 -- ---- a row that is merged into what is kept
 
@@ -140,6 +142,94 @@ added_same r home row is kept =
 
     own : IsSameRow (merge row.versions row.versions) row.versions
     own = idempotent row.versions is.none_past
+
+-- ---- what a store took in
+
+-- is what is kept at its place
+pub added_absorbed : (old new : Rooms) (home : ℕ) (row : Siblings) (placed : Placed) →
+    IsSiblingSet row.key row.versions →
+    IsAbsorbed old new (with_row old home row.key) (row_kept old home row.key) row placed →
+    IsAdded old new home row placed
+added_absorbed old new home row Nothing valid h =
+    subst (λ r. IsAdded old r home row Nothing) (sym h.0) (by_cause h.1)
+  where
+    here : versions_in (row_kept old home row.key) ≡ versions_at old home row.key
+    here = sym (versions_kept old home row.key)
+
+    by_cause : AddsNothing (row_kept old home row.key) row → IsAdded old old home row Nothing
+    by_cause (inl kept) = added_same old home row valid kept
+    by_cause (inr (inl clash)) = added_not old home row
+        (subst (λ vs. AreOneByDot (vs ++ row.versions) → ⊥) here clash)
+    by_cause (inr (inr none)) =
+        record {
+          node_is = refl;
+          changed = λ one. inr (record {
+            stays = refl;
+            none = subst (λ vs. (v : Version) → Contains (merge vs row.versions) v → ⊥) here none;
+          });
+          fits = tt;
+          back = refl;
+        }
+added_absorbed old new home row New valid h =
+    added_placed old new home row row New refl
+    (subst (λ vs. IsSameRow row.versions (merge vs row.versions))
+    (found_none old home row.key row.key (sym h.1) refl) (merge_nothing row valid)) (
+      h.0,
+      ap (λ r. with_row r home row.key []) h.0
+          ∙ put_back old home row.key row.versions [] (sym h.1),
+    )
+added_absorbed old new home row (Over before) valid h =
+    let vs = h.1.0 in
+    let m = h.1.2 in
+    added_placed old new home row (record { key = row.key; versions = vs }) (Over before) refl
+    (subst (λ us. IsSameRow vs (merge us row.versions))
+    (found_versions old home row.key row.key before (sym h.0) refl) m.merged) (
+      h.1.1,
+      ap (λ r. with_row r home row.key before.versions) h.1.1
+          ∙ put_back old home row.key vs before.versions
+          (row_with-row row.key before m.one_key.0 m.one_key.1 ∙ sym h.0),
+      m.one_key.0,
+      m.one_key.1,
+      m.filled,
+    )
+
+-- the node's own store
+pub own_absorbed : (r new : Rooms) (home : ℕ) (row : Siblings) (placed : Placed) →
+    (home == r.node) ≡ true →
+    IsAbsorbed r new (λ vs. record r { rows = with_versions r.rows row.key vs })
+    (maps.get r.rows row.key) row placed →
+    IsAbsorbed r new (with_row r home row.key) (row_kept r home row.key) row placed
+own_absorbed r new home row placed own h =
+    subst (λ b. IsAbsorbed r new
+    (λ vs. cond b (record r { rows = with_versions r.rows row.key vs })
+    (record r { hints = with_versions_for r.hints home row.key vs }))
+    (cond b (maps.get r.rows row.key) (maps.get r.hints (home, row.key))) row placed) (sym own) h
+
+-- and that of its hints
+pub hint_absorbed : (r new : Rooms) (home : ℕ) (row : Siblings) (placed : Placed) →
+    (home == r.node) ≡ false →
+    IsAbsorbed r new (λ vs. record r { hints = with_versions_for r.hints home row.key vs })
+    (maps.get r.hints (home, row.key)) row placed →
+    IsAbsorbed r new (with_row r home row.key) (row_kept r home row.key) row placed
+hint_absorbed r new home row placed other h =
+    subst (λ b. IsAbsorbed r new
+    (λ vs. cond b (record r { rows = with_versions r.rows row.key vs })
+    (record r { hints = with_versions_for r.hints home row.key vs }))
+    (cond b (maps.get r.rows row.key) (maps.get r.hints (home, row.key))) row placed) (sym other) h
+
+-- and the node has no hint for itself
+pub own_hints_absent : (hints new : Hints) (node home : ℕ) (kept : Option Siblings)
+    (row : Siblings) (placed : Placed) → (home ≡ node → ⊥) →
+    IsAbsorbed hints new (with_versions_for hints home row.key) kept row placed → (k : List ℕ) →
+    maps.get hints (node, k) ≡ None → maps.get new (node, k) ≡ None
+own_hints_absent hints new node home kept row Nothing apart h k none =
+    ap (λ m. maps.get m (node, k)) h.0 ∙ none
+own_hints_absent hints new node home kept row New apart h k none =
+    ap (λ m. maps.get m (node, k)) h.0
+    ∙ own_hints_stay hints node home row.key row.versions apart k none
+own_hints_absent hints new node home kept row (Over before) apart h k none =
+    ap (λ m. maps.get m (node, k)) h.1.1
+    ∙ own_hints_stay hints node home row.key h.1.0 apart k none
 
 -- the hints for one home more
 pub hints_next : (hints : Hints) (key : List ℕ) (n : ℕ) → hints_below hints key

@@ -1,6 +1,6 @@
 -- What is kept at a place once a row is put there.
 use Rattle.std.proofs.Common.{[], ◌≡◌, ℕ, ◌==◌, ◌<◌, Bool, true, false, cond, List, ◌∷◌}
-use Rattle.std.proofs.Common.{length, Option, Some, None, IsSome, IsTrue, ◌↔◌, inl, inr, ◌⊎◌}
+use Rattle.std.proofs.Common.{length, Some, None, IsTrue, ◌↔◌, inl, inr, ◌⊎◌}
 use Rattle.std.proofs.Common.{refl, sym, ap, ◌∙◌, arith}
 use Rattle.std.specs.Ordering.{nat_cmp, is_eq, eq_by_cmp}
 use Rattle.std.specs.Cmp.{tied_itself}
@@ -282,7 +282,3 @@ pub some_left : {X : Type 0} (xs : List X) (b : Bool) → (IsTrue b ↔ (xs ≡ 
     0 < length xs
 some_left [] b test no_ = let both : true ≡ false = sym (test.1 refl) ∙ no_ in cc
 some_left (x ∷ xs) b test no_ = omega arith
-
-pub none_kept : (o : Option Siblings) (b : Bool) → (IsTrue b ↔ IsSome o) → b ≡ false → None ≡ o
-none_kept None b test no_ = refl
-none_kept (Some row) b test no_ = let both : true ≡ false = sym (test.1 refl) ∙ no_ in cc

@@ -118,7 +118,7 @@ fn issue_row<J: Naming>(
     ensures memory { IsOkUnless result Fault.OutOfMemory }
 {
     book.agree(share);
-    stores.make_counter(version.key())?;
+    stores.make_counter(version.key(), counter)?;
     let placed = stores.place(home, whole)?;
     match book.issue(share, home, version) {
         Ok(receipt) => {

@@ -57,7 +57,6 @@ impl<J: Naming> Node<J> {
             unreachable!();
         };
         match hold_row(
-            self.alloc,
             &mut self.stores,
             &mut self.share,
             book,

@@ -15,11 +15,9 @@ use dy_book::Book;
 use dy_dots::{Fault, NodeId};
 use dy_shares::{Naming, NodeShare, Receipt};
 use dy_siblings::Row;
-use std::alloc::Global;
 
 // Merges the row into what is kept, and holds it for the home; what is refused changes nothing.
 pub(crate) fn hold_row<J: Naming>(
-    alloc: Global,
     stores: &mut Stores,
     share: &mut NodeShare<J>,
     book: &mut Book<J>,
@@ -40,7 +38,7 @@ pub(crate) fn hold_row<J: Naming>(
     ensures refused { HoldRefused book.old row.now (result_err result) }
 {
     book.agree(share);
-    let placed = match stores.add(alloc, home, row) {
+    let placed = match stores.add(home, row) {
         Ok(placed) => placed,
         Err(_fault) => return Err(Fault::OutOfMemory),
     };
@@ -86,13 +84,6 @@ impl<J: Naming> Node<J> {
         if !self.is_up {
             return Err(Fault::Down);
         }
-        hold_row(
-            self.alloc,
-            &mut self.stores,
-            &mut self.share,
-            book,
-            home,
-            row,
-        )
+        hold_row(&mut self.stores, &mut self.share, book, home, row)
     }
 }

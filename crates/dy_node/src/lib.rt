@@ -12,7 +12,6 @@ mod messages;
 mod modes;
 mod nodes;
 mod offers;
-mod placed;
 mod rests;
 mod settling;
 mod stores;

@@ -1,7 +1,7 @@
 // What a node keeps, apart from books and shares.
-ghost use Rattle.std.specs.Prelude.{◌≡◌, ◌≢◌, ◌↔◌, ◌<◌, ◌+◌, ◌++◌, ◌∷◌, [], None, Some, map};
+ghost use Rattle.std.specs.Prelude.{◌≡◌, ◌≢◌, ◌<◌, ◌+◌, ◌++◌, ◌∷◌, [], None, Some, map};
 ghost use Rattle.std.specs.Prelude.{◌-◌, ◌^◌, length, min};
-ghost use Rattle.std.specs.Prelude.{IsSome, IfSome, IfNone, IfOk, IfErr, OnOk, OnErr, IsOk, IsTrue};
+ghost use Rattle.std.specs.Prelude.{IsSome, IfSome, IfNone, IfOk, IfErr, OnOk, OnErr, IsOk};
 ghost use Rattle.std.specs.Prelude.{IsOkUnless};
 ghost use Rattle.std.specs.Option.{option_copied};
 ghost use Rattle.std.specs.Result.{OkIff};
@@ -15,10 +15,9 @@ ghost use Rattle.dy_node.specs.Stored.{empty_rooms, kept_rows, stands, versions_
 ghost use Rattle.dy_node.specs.inside.Placing.{FitsBack, IsAdded, IsHintOf, IsPlaced, row_kept};
 ghost use Rattle.dy_node.specs.inside.Placing.{taken_back};
 
-use crate::placed::Placed;
 use dy_dots::{Dot, Fault, NodeId};
 use dy_hint_store::{HintStore, RowRefFor};
-use dy_node_store::NodeStore;
+use dy_node_store::{NodeStore, Placed};
 use dy_siblings::{Key, Row, Version};
 use std::alloc::Global;
 use std::marker::Model;
@@ -81,13 +80,17 @@ impl Stores {
         self.own.next_counter(key, limit)
     }
 
-    /// Makes room for the key's counter.
-    pub(crate) fn make_counter(&mut self, key: &Key) -> Result<(), Fault>
+    /// Makes room for the key's counter, where the next one is the first.
+    pub(crate) fn make_counter(&mut self, key: &Key, next: u32) -> Result<(), Fault>
+        requires { next ≡ greatest_used self.old.counters key.now + 1 }
         ensures ok { OnOk result (self.new ≡
             record self.old { counters = with_used self.old.counters key.now 0 }) }
         ensures err { OnErr result (self.new ≡ self.old) }
         ensures memory { IsOkUnless result Fault.OutOfMemory }
     {
+        if next > 1 {
+            return Ok(());
+        }
         self.own.use_counter(key, 0)?;
         Ok(())
     }
@@ -104,30 +107,23 @@ impl Stores {
         }
     }
 
-    /// Whether a row is kept of the key for the home. Takes no memory.
-    pub(crate) fn is_kept(&self, home: NodeId, key: &Key) -> bool
-        ensures value { IsTrue result ↔ IsSome (row_kept self.now.rooms home key.now) }
-        ensures valid { IfSome (row_kept self.now.rooms home key.now) (IsRowOf key.now) }
-    {
-        match self.row(home, key) {
-            Some(_row) => true,
-            None => false,
-        }
-    }
-
-    // Puts the row in the place of its key's for the home.
-    fn put(&mut self, home: NodeId, row: Row) -> Result<(), Fault>
+    // Puts the row in the place of its key's for the home, and gives back what was there.
+    fn swap(&mut self, home: NodeId, row: Row) -> Result<Option<Row>, Fault>
+        requires { 0 < length row.versions }
         ensures ok { OnOk result (self.new ≡
             record self.old { rooms = with_row self.old.rooms home row.key row.versions }) }
+        ensures before { IfOk result (λ before. before ≡ row_kept self.old.rooms home row.key) }
+        ensures valid { IfOk result (λ before. IfSome before (IsRowOf row.key)) }
         ensures err { OnErr result (self.new ≡ self.old) }
         ensures memory { IsOkUnless result Fault.OutOfMemory }
     {
         if home == self.node {
-            self.own.put_row(row)?;
+            let before = self.own.swap_row(row)?;
+            Ok(before)
         } else {
-            self.hints.put_row(home, row)?;
+            let before = self.hints.swap_row(home, row)?;
+            Ok(before)
         }
-        Ok(())
     }
 
     // Puts the row in the place of its key's for the home, and gives that back.
@@ -150,44 +146,14 @@ impl Stores {
         ensures { self.new ≡ record self.old { rooms = with_row self.old.rooms home key.now [] } }
     {
         if home == self.node {
-            let _row = self.own.remove_row(key);
+            drop(self.own.remove_row(key));
         } else {
-            let _row = self.hints.remove_row(home, key);
+            drop(self.hints.remove_row(home, key));
         }
     }
 
-    // Whether the row is kept for the home as it is.
-    fn has_same(&self, home: NodeId, row: &Row) -> bool
-        ensures { IsTrue result ↔ (row_kept self.now.rooms home row.now.key ≡ Some row.now) }
-    {
-        match self.row(home, row.key()) {
-            Some(kept) => kept.is_same(row),
-            None => false,
-        }
-    }
-
-    // What is kept of the row's key for the home, merged with the row, where no dot is that of two
-    // versions.
-    fn joined(&self, alloc: Global, home: NodeId, row: &Row) -> Result<Option<Row>, Fault>
-        ensures none { IfOk result (λ o. IfNone o
-            (AreOneByDot (versions_at self.now.rooms home row.now.key ++ row.now.versions) → ⊥)) }
-        ensures key { IfOk result (λ o. IfSome o (λ m. m.key ≡ row.now.key)) }
-        ensures merged { IfOk result (λ o. IfSome o (λ m. IsSameRow m.versions
-            (merge (versions_at self.now.rooms home row.now.key) row.now.versions))) }
-        ensures memory { IsOkUnless result Fault.OutOfMemory }
-    {
-        let Some(kept) = self.row(home, row.key()) else {
-            let copy = row.try_clone(alloc)?;
-            return Ok(Some(copy));
-        };
-        if !kept.agrees(row) {
-            return Ok(None);
-        }
-        let merged = kept.merged(alloc, row)?;
-        Ok(Some(merged))
-    }
-
-    /// The same of a row that is not needed any more: where none is kept, it is the row itself.
+    /// What is kept of the row's key for the home, merged with the row, where no dot is that of two
+    /// versions. Where none is kept, it is the row itself.
     pub(crate) fn joined_with(
         &self,
         alloc: Global,
@@ -203,10 +169,14 @@ impl Stores {
     {
         // They are a row's: none of them is past.
         let _versions = row.versions();
-        if !self.is_kept(home, row.key()) {
+        let Some(kept) = self.row(home, row.key()) else {
             return Ok(Some(row));
+        };
+        if !kept.agrees(&row) {
+            return Ok(None);
         }
-        self.joined(alloc, home, &row)
+        let merged = kept.merged(alloc, &row)?;
+        Ok(Some(merged))
     }
 
     /// Puts a row in its place, and tells how to take it back.
@@ -219,17 +189,15 @@ impl Stores {
         if row.is_empty() {
             return Ok(Placed::Nothing);
         }
-        if self.is_kept(home, row.key()) {
-            let before = self.replace(home, row);
-            return Ok(Placed::Over(before));
+        match self.swap(home, row)? {
+            Some(before) => Ok(Placed::Over(before)),
+            None => Ok(Placed::New),
         }
-        self.put(home, row)?;
-        Ok(Placed::New)
     }
 
     /// Merges the row into what is kept for the home, and tells how to take it back. Where a dot is
     /// that of two versions, nothing is changed. Takes no memory where the row is kept as it is.
-    pub(crate) fn add(&mut self, alloc: Global, home: NodeId, row: &Row) -> Result<Placed, Fault>
+    pub(crate) fn add(&mut self, home: NodeId, row: &Row) -> Result<Placed, Fault>
         ensures added { IfOk result (IsAdded self.old.rooms self.new.rooms home row.now) }
         ensures counters { OnOk result (self.new.counters ≡ self.old.counters) }
         ensures err { OnErr result (self.new ≡ self.old) }
@@ -238,14 +206,13 @@ impl Stores {
     {
         // They are a row's: none of them is past.
         let _versions = row.versions();
-        if self.has_same(home, row) {
-            return Ok(Placed::Nothing);
+        if home == self.node {
+            let placed = self.own.absorb(row)?;
+            Ok(placed)
+        } else {
+            let placed = self.hints.absorb(home, row)?;
+            Ok(placed)
         }
-        let Some(merged) = self.joined(alloc, home, row)? else {
-            return Ok(Placed::Nothing);
-        };
-        let placed = self.place(home, merged)?;
-        Ok(placed)
     }
 
     /// Takes back what was put. Takes no memory.

@@ -7,8 +7,8 @@ use Rattle.dy_siblings.specs.Siblings.{Siblings, AreOneByDot, IsSameRow, merge}
 use Rattle.dy_siblings.specs.declared.versions.Version.{Version}
 use Rattle.dy_hint_store.specs.Hints.{IsHint}
 use Rattle.dy_node.specs.Stored.{Rooms, versions_at, with_row}
-use Rattle.dy_node.specs.declared.placed.Placed.{Placed}
-use Rattle.dy_node.specs.declared.placed.Placed.TheVariants.{Nothing, New, Over}
+use Rattle.dy_node_store.specs.declared.placed.Placed.{Placed}
+use Rattle.dy_node_store.specs.declared.placed.Placed.TheVariants.{Nothing, New, Over}
 
 -- the row that is kept of a key for a home, where there is one
 abbrev pub row_kept : Rooms → ℕ → List ℕ → Option Siblings

@@ -13,6 +13,12 @@ use Rattle.dy_node.proofs.MergedRows.{added_placed, placed_kept}
 use Rattle.dy_node.proofs.Kept.{agreed_on, issue_shows, used_there, zero_shows}
 use Rattle.dy_node.proofs.beginning.issue_row.Goals as goal
 
+-- the counter is the next
+pub make_counter-requires : goal.make_counter-requires
+make_counter-requires g c =
+    c.requires.counter
+    ∙ ap (λ k. greatest_used c.args.stores.now.counters k + 1) (sym c.key.ensures.value)
+
 -- nothing but the room for the counter
 pub returns-in_err-placed-clause-shown : goal.returns-in_err-placed-clause-shown
 returns-in_err-placed-clause-shown g c =

@@ -6,12 +6,6 @@ use Rattle.dy_node.proofs.stores.Stores.remove.Goals as goal
 -- the row is for another home
 pub invariant_of-self-else-eq : goal.invariant_of-self-else-eq
 invariant_of-self-else-eq c = λ key.
-    ap (λ m. maps.get m (c.self.inside.node, key)) c.remove_row-row-else-eq.ensures.hints
-    ∙ own_hints_stay c.self.inside.hints c.self.inside.node c.args.home c.args.key.now []
-    (apart_from _ _ (sym c.eq.ensures ∙ c.if-eq.false)) key (c.self.invariant key)
-
-pub invariant_of-self-else-eq-2 : goal.invariant_of-self-else-eq-2
-invariant_of-self-else-eq-2 c = λ key.
-    ap (λ m. maps.get m (c.self.inside.node, key)) c.remove_row-row-else-eq.ensures.hints
+    ap (λ m. maps.get m (c.self.inside.node, key)) c.remove_row-else-eq.ensures.hints
     ∙ own_hints_stay c.self.inside.hints c.self.inside.node c.args.home c.args.key.now []
     (apart_from _ _ (sym c.eq.ensures ∙ c.if-eq.false)) key (c.self.invariant key)
