@@ -2,8 +2,7 @@
 use Rattle.std.proofs.Common.{◌≡◌, ◌≢◌, ℕ, ◌+◌, ◌<◌, Bool, true, false, cond, eqb, List, [], ◌∷◌}
 use Rattle.std.proofs.Common.{◌++◌, map, length, None, Some, IsTrue, refl, sym, ap, ◌∙◌, subst}
 use Rattle.std.proofs.Common.{⊎_elim, arith}
-use Rattle.std.specs.List.{All, Contains}
-use Rattle.std.specs.List.Sorted.{IsStrictlySortedBy}
+use Rattle.std.specs.List.{Contains}
 use Rattle.std.specs.Ordering.{nat_cmp, is_eq}
 use Rattle.std.specs.Cmp.{tied_itself}
 use Rattle.std.specs.Cmp.Lexicographic.{slice_cmp, nat_list_cmp_total}
@@ -45,6 +44,7 @@ use Rattle.dy_book.specs.inside.Indexes.{made_by, made_in, places_in, part_at, A
 use Rattle.dy_book.specs.inside.Indexes.{IsIndex}
 use Rattle.dy_book.proofs.OfKeys.{issue_own, issue_other, issue_rows, hold_own, hold_other}
 use Rattle.dy_book.proofs.OfKeys.{agree_at}
+use Rattle.dy_book.proofs.Parting.{part_or_none}
 use Rattle.dy_book.proofs.Issuing.{made_again, known_past}
 
 -- ---- the log
@@ -100,20 +100,9 @@ pub index_with_empty : (es fs : List (List ℕ × KeyPart)) (key : List ℕ) (p 
     ((q : List ℕ) → part_at fs q ≡ cond (is_at (slice_cmp nat_cmp key) q) (Some p) (part_at es q)) →
     (w : World) → IsIndex w es → IsIndex w fs
 index_with_empty es fs key p none no_made no_places written w index =
-    index_written w w es fs key p written here (λ q apart made places are. are) index
-  where
-    was : IsPart w key None
-    was = subst (IsPart w key) none (index key)
-
-    here : IsPart w key (Some p)
-    here = record {
-      made_are = λ node. ap (λ xs. list_at xs node) no_made ∙ was.made_are node;
-      rows_are = λ holder home. subst
-          (λ hs. IsSameRow (row_in hs holder home key) (row_at w holder home key)) (sym no_places)
-          (was.rows_are holder home);
-      in_order = subst (λ hs. IsStrictlySortedBy holding_cmp hs) (sym no_places) was.in_order;
-      of_key = subst (λ hs. All (λ h. h.row.key ≡ key) hs) (sym no_places) was.of_key;
-    }
+    index_written w w es fs key p written
+    (part_or_none w key None p no_made no_places (subst (IsPart w key) none (index key)))
+    (λ q apart made places are. are) index
 
 -- each version that is held is covered there
 covers_held : (layout : Layout) (w : World) → IsSound layout w →

@@ -7,6 +7,7 @@ pub mod Issuing
 pub mod Listing
 pub mod Making
 pub mod OfKeys
+pub mod Parting
 pub mod Pasts
 pub mod Settling
 pub mod Sinces

@@ -1,5 +1,5 @@
-ghost use Rattle.std.specs.Prelude.{◌≡◌, ◌≢◌, ◌↔◌, ◌+◌, ◌<◌, ◌≤◌, ℕ, [], length, IfOk, OnOk, OnErr};
-ghost use Rattle.std.specs.Prelude.{IsErrOf, IsOkUnless, MatchBool, MatchOption, false};
+ghost use Rattle.std.specs.Prelude.{◌≡◌, ◌≢◌, ◌↔◌, ◌+◌, ◌<◌, ◌≤◌, ℕ, List, [], length, IfOk, OnOk};
+ghost use Rattle.std.specs.Prelude.{OnErr, IsErrOf, IsOkUnless, MatchBool, MatchOption, false};
 ghost use Rattle.std.specs.Option.{option_copied};
 ghost use Rattle.std.specs.List.{Contains};
 ghost use Rattle.dy_dots.specs.declared.dots.TheConstants.{MAX_COUNTER};
@@ -190,8 +190,16 @@ impl<J: Naming> Book<J> {
     pub fn last(&self, node: NodeId, key: &Key) -> usize
         ensures { result ≡ (world_of self.now).counters node key.now }
     {
+        self.last_in(self.part(key), node)
+    }
+
+    // The same, where this is what is known of the key.
+    pub(crate) fn last_in(&self, part: Option<&KeyPart>, node: NodeId) -> usize
+        ensures { (key : List ℕ) → IsPart (world_of self.now) key (option_copied part.entry) →
+            result ≡ (world_of self.now).counters node key }
+    {
         let _alloc = &self.alloc;
-        match self.part(key) {
+        match part {
             Some(part) => part.count(node),
             None => 0,
         }
@@ -203,9 +211,23 @@ impl<J: Naming> Book<J> {
             (λ v. Contains (world_of self.now).versions v.now
             × (v.now.key ≡ key.now) × (v.now.dot ≡ dot)) }
     {
+        self.version_in(self.part(key), dot)
+    }
+
+    // The same, where this is what is known of the key.
+    pub(crate) fn version_in<'a>(
+        &'a self,
+        part: Option<&'a KeyPart>,
+        dot: Dot,
+    ) -> Option<&'a Version>
+        ensures { (key : List ℕ) → IsPart (world_of self.now) key (option_copied part.entry) →
+            MatchOption result (is_issued (world_of self.now).versions key dot ≡ false)
+            (λ v. Contains (world_of self.now).versions v.now
+            × (v.now.key ≡ key) × (v.now.dot ≡ dot)) }
+    {
         let _alloc = &self.alloc;
         let _counter = dot.counter();
-        match self.part(key) {
+        match part {
             Some(part) => part.version(dot),
             None => None,
         }

@@ -8,9 +8,10 @@ ghost use Rattle.dy_siblings.specs.Siblings.{AreOneByDot, IsSameRow, merge};
 ghost use Rattle.dy_book.specs.inside.Lists.{is_hint_here, listed_from, released};
 ghost use Rattle.dy_book.specs.Books.{DotsRise};
 
+use crate::dots::Dots;
 use dy_core::{Holding, Place, Placed, Ranked};
 use dy_dots::{Dot, Fault, NodeId};
-use dy_siblings::{Key, Row, Version};
+use dy_siblings::{Key, Row};
 use std::alloc::Global;
 use std::cmp::Ordering;
 use std::marker::Model;
@@ -21,7 +22,7 @@ pub struct Custody {
     pub(crate) holder: NodeId,
     pub(crate) home: NodeId,
     pub(crate) row: Row,
-    dots: Vec<Dot>,
+    dots: Dots,
 }
 
 impl Model for Custody {
@@ -35,19 +36,7 @@ impl Model for Custody {
 
     ghost view = { λ c. record { holder = c.holder; home = c.home; row = c.row } };
 
-    ghost invariant = { λ c. c.dots.items ≡ map (λ v. v.dot) c.row.versions };
-}
-
-// The dots of the versions, in their order.
-fn dots_of(alloc: Global, versions: &[Version]) -> Result<Vec<Dot>, Fault>
-    ensures ok { IfOk result (λ dots. dots.items ≡ map (λ v. v.dot) versions.now) }
-    ensures memory { IsOkUnless result Fault.OutOfMemory }
-{
-    let mut dots = Vec::with_capacity(alloc, versions.len())?;
-    for version in versions {
-        dots.push(version.dot())?;
-    }
-    Ok(dots)
+    ghost invariant = { λ c. c.dots ≡ map (λ v. v.dot) c.row.versions };
 }
 
 impl Placed for Custody {
@@ -79,7 +68,7 @@ impl Custody {
         ensures ok { IfOk result (λ c. c ≡ record { holder = holder; home = home; row = row }) }
         ensures memory { IsOkUnless result Fault.OutOfMemory }
     {
-        let dots = dots_of(alloc, row.versions())?;
+        let dots = Dots::of(alloc, row.versions())?;
         Ok(Custody {
             holder,
             home,
@@ -124,7 +113,7 @@ impl Custody {
     {
         if self.is_at(holder, home, key) {
             self.row.remove(dot);
-            self.dots.retain(|other| *other != dot);
+            self.dots.take_out(dot);
         }
     }
 }

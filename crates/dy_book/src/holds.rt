@@ -1,8 +1,8 @@
 // How the book grows by versions and by what is held.
-ghost use Rattle.std.specs.Prelude.{◌≡◌, ◌≢◌, ◌+◌, ◌≤◌, ◌<◌, ◌↔◌, ◌⊎◌, ◌++◌, ◌∷◌, ℕ, List, []};
+ghost use Rattle.std.specs.Prelude.{◌≡◌, ◌≢◌, ◌+◌, ◌-◌, ◌≤◌, ◌<◌, ◌↔◌, ◌⊎◌, ◌++◌, ◌∷◌, ℕ, List, []};
 ghost use Rattle.std.specs.Prelude.{Some, map, length, vec_len, vec_capacity, IsTrue, IsSome, IfOk};
-ghost use Rattle.std.specs.Prelude.{IfErr, OnOk, OnErr, IsErrOf, IsOkUnless, MatchOption};
-ghost use Rattle.std.specs.List.{All, Contains};
+ghost use Rattle.std.specs.Prelude.{IfErr, OnOk, OnErr, IsErrOf, IsOkUnless};
+ghost use Rattle.std.specs.List.{All};
 ghost use Rattle.dy_dots.specs.declared.dots.Dot.{Dot as DotParts};
 ghost use Rattle.dy_dots.specs.declared.dots.TheConstants.{MAX_COUNTER};
 ghost use Rattle.dy_siblings.specs.Siblings.{AreOneByDot, IsSameRow, merge};
@@ -83,6 +83,20 @@ fn make_part(alloc: Global, keys: &mut BTreeMap<Key, KeyPart>, key: &Key) -> Res
     }
     let key = key.try_clone(alloc)?;
     keys.insert(key, KeyPart::new(alloc))?;
+    Ok(())
+}
+
+// Makes a part for the row's key, where there is none yet. Where it has a version, there is one.
+fn make_part_of(alloc: Global, keys: &mut BTreeMap<Key, KeyPart>, row: &Row) -> Result<(), Fault>
+    requires { row.now.versions ≢ [] → IsSome (part_at keys.old.entries row.now.key) }
+    ensures same { (w : World) → IsIndex w keys.old.entries → IsIndex w keys.new.entries }
+    ensures has { OnOk result (IsSome (part_at keys.new.entries row.now.key)) }
+    ensures memory { IsOkUnless result Fault.OutOfMemory }
+{
+    if !row.is_empty() {
+        return Ok(());
+    }
+    make_part(alloc, keys, row.key())?;
     Ok(())
 }
 
@@ -213,51 +227,22 @@ impl<J: Naming> Book<J> {
         let key = version.key().try_clone(self.alloc)?;
         let row = Row::of(self.alloc, version.try_clone(self.alloc)?)?;
         let copy = version.try_clone(self.alloc)?;
-        make_part(self.alloc, &mut self.keys, &key)?;
-        match self.keys.get_mut(&key) {
-            Some(part) => {
-                issue_in(
-                    self.alloc,
-                    &mut self.ledger,
-                    part,
-                    share,
-                    home,
-                    copy,
-                    &row,
-                    steps,
-                )?;
-            }
-            None => unreachable!(),
-        }
+        let of_part = key.try_clone(self.alloc)?;
+        let entry = self.keys.entry(of_part)?;
+        let part = entry.or_insert(KeyPart::new(self.alloc));
+        issue_in(
+            self.alloc,
+            &mut self.ledger,
+            part,
+            share,
+            home,
+            copy,
+            &row,
+            steps,
+        )?;
         self.versions += 1;
         let place = Place { holder: node, home };
         Ok(self.ledger.receipt(key, version.dot(), place))
-    }
-
-    // Whether the version is the issued one of its key and dot.
-    fn is_issued_as(&self, version: &Version) -> bool
-        ensures { IsTrue result ↔ Contains (world_of self.now).versions version.now }
-    {
-        let _alloc = &self.alloc;
-        match self.version(version.key(), version.dot()) {
-            Some(issued) => issued.is_same(version),
-            None => false,
-        }
-    }
-
-    // The least dot of the row's versions that aren't issued as they are.
-    fn first_not_issued(&self, row: &Row) -> Option<Dot>
-        ensures { MatchOption result
-            (AreMadeOf (world_of self.now) row.now.key row.now.versions)
-            (IsLeastNotIssued (world_of self.now).versions row.now.versions) }
-    {
-        let versions = row.versions();
-        for version in versions {
-            if !self.is_issued_as(version) {
-                return Some(version.dot());
-            }
-        }
-        None
     }
 
     /// What the node holds for the home becomes its merge with the incoming row; one receipt for
@@ -334,9 +319,10 @@ impl<J: Naming> Book<J> {
         ensures sessions { (session : ℕ) → SessionStays self.old.log self.new.log session }
     {
         let steps = steps_of_hold(self.alloc, holder, home, incoming)?;
-        let mut keys = keys_of(self.alloc, incoming)?;
+        let first = incoming.key().try_clone(self.alloc)?;
+        let mut keys = more_keys(self.alloc, incoming)?;
         let mut receipts = Vec::with_capacity(self.alloc, incoming.versions().len())?;
-        make_part(self.alloc, &mut self.keys, incoming.key())?;
+        make_part_of(self.alloc, &mut self.keys, incoming)?;
         match self.keys.get_mut(incoming.key()) {
             Some(part) => {
                 hold_in(
@@ -352,20 +338,27 @@ impl<J: Naming> Book<J> {
             None => unreachable!(),
         }
         let place = Place { holder, home };
-        give_receipts(&self.ledger, &mut receipts, &mut keys, incoming, &place);
+        give_receipts(
+            &self.ledger,
+            &mut receipts,
+            first,
+            &mut keys,
+            incoming,
+            &place,
+        );
         Ok(receipts)
     }
 }
 
-// A copy of the row's key for each of its versions.
-fn keys_of(alloc: Global, row: &Row) -> Result<Vec<Key>, Fault>
-    ensures count { IfOk result (λ keys. length keys.items ≡ length row.now.versions) }
+// A copy of the row's key for each of its versions but one. For one version it takes no memory.
+fn more_keys(alloc: Global, row: &Row) -> Result<Vec<Key>, Fault>
+    ensures count { IfOk result (λ keys. length keys.items ≡ length row.now.versions - 1) }
     ensures same { IfOk result (λ keys. All (λ key. key ≡ row.now.key) keys.items) }
     ensures memory { IsOkUnless result Fault.OutOfMemory }
 {
-    let versions = row.versions();
-    let mut keys = Vec::with_capacity(alloc, versions.len())?;
-    for _version in versions {
+    let count = row.versions().len().max(1) - 1;
+    let mut keys = Vec::with_capacity(alloc, count)?;
+    while keys.len() < count {
         keys.push(row.key().try_clone(alloc)?)?;
     }
     Ok(keys)
@@ -375,23 +368,25 @@ fn keys_of(alloc: Global, row: &Row) -> Result<Vec<Key>, Fault>
 fn give_receipts<J: Naming>(
     ledger: &Ledger<J>,
     receipts: &mut Vec<Receipt<J>>,
+    key: Key,
     keys: &mut Vec<Key>,
     row: &Row,
     place: &Place,
 )
     requires none { receipts.old.items ≡ [] }
     requires room { length row.now.versions ≤ vec_capacity receipts.old }
-    requires count { length keys.old.items ≡ length row.now.versions }
+    requires key { key ≡ row.now.key }
+    requires count { length keys.old.items ≡ length row.now.versions - 1 }
     requires same { All (λ key. key ≡ row.now.key) keys.old.items }
     requires held { All (λ v. IsReceipt (steps_of ledger.now.log)
         (receipt_parts row.now.key v.dot place.now.holder place.now.home)) row.now.versions }
     ensures { receipts.new.items ≡ receipts_of row.now.versions place.now.holder place.now.home }
 {
     let versions = row.versions();
+    let mut next = Some(key);
     for version in versions {
-        let Some(key) = keys.pop() else {
-            unreachable!()
-        };
+        let Some(key) = next else { unreachable!() };
         receipts.push_reserved(ledger.receipt(key, version.dot(), *place));
+        next = keys.pop();
     }
 }

@@ -1,6 +1,7 @@
 // Which version an issue would add.
-ghost use Rattle.std.specs.Prelude.{◌≡◌, ◌+◌, ◌<◌, ◌≤◌, ◌↔◌, ◌⊎◌, ℕ, true, length, IfOk, IfErr};
-ghost use Rattle.std.specs.Prelude.{OnOk, IsErrOf, IsOkUnless, MatchOption};
+ghost use Rattle.std.specs.Prelude.{◌≡◌, ◌+◌, ◌<◌, ◌≤◌, ◌↔◌, ◌⊎◌, ℕ, List, true, length, IfOk};
+ghost use Rattle.std.specs.Prelude.{IfErr, OnOk, IsErrOf, IsOkUnless, MatchOption};
+ghost use Rattle.std.specs.Option.{option_copied};
 ghost use Rattle.std.specs.FinSet as set;
 ghost use Rattle.dy_dots.specs.declared.dots.Dot.{Dot as DotParts};
 ghost use Rattle.dy_dots.specs.declared.dots.TheConstants.{MAX_COUNTER};
@@ -9,9 +10,11 @@ ghost use Rattle.dy_core.specs.Steps.{IsKnown, past_of, version_made};
 ghost use Rattle.dy_core.specs.inside.Meanings.{AreIssuedBelow, IsFirstUnissued};
 ghost use Rattle.dy_core.specs.Listings.{IsLeastUnknown};
 ghost use Rattle.dy_book.specs.Books.{HasVersionsLeft, LacksRoom, MayIssue, world_of};
+ghost use Rattle.dy_book.specs.inside.Indexes.{IsPart};
 ghost use Rattle.dy_book.specs.inside.Pasts.{GrowsBy, GrowsByRun, IsClosed, HasFrom};
 
 use crate::books::Book;
+use crate::parts::KeyPart;
 use dy_dots::{Context, Dot, Fault, Run};
 use dy_shares::{Naming, NodeShare};
 use dy_siblings::{Key, Value, Version};
@@ -44,16 +47,17 @@ fn low_end(past: &Context, dot: Dot) -> u32
 }
 
 impl<J: Naming> Book<J> {
-    // The least dot of the run that is of no version of the key.
-    fn first_unknown(&self, key: &Key, run: &Run) -> Option<Dot>
+    // The least dot of the run that is of no version of the key of which this is known.
+    fn first_unknown(&self, part: Option<&KeyPart>, run: &Run) -> Option<Dot>
         requires low { 1 ≤ run.now.first }
         requires high { run.now.last ≤ MAX_COUNTER }
-        ensures { MatchOption result
-            (AreIssuedBelow (world_of self.now).versions key.now run.now (run.now.last + 1))
-            (IsFirstUnissued (world_of self.now).versions key.now run.now) }
+        ensures { (key : List ℕ) → IsPart (world_of self.now) key (option_copied part.entry) →
+            MatchOption result
+            (AreIssuedBelow (world_of self.now).versions key run.now (run.now.last + 1))
+            (IsFirstUnissued (world_of self.now).versions key run.now) }
     {
         let _alloc = &self.alloc;
-        let last = self.last(run.node, key);
+        let last = self.last_in(part, run.node);
         if run.last as usize <= last {
             return None;
         }
@@ -71,9 +75,18 @@ impl<J: Naming> Book<J> {
         ensures { MatchOption result (IsKnown (world_of self.now) key.now context.now)
             (IsLeastUnknown (world_of self.now).versions key.now context.now) }
     {
+        self.unknown_in(self.part(key), key, context)
+    }
+
+    // The same, where this is what is known of the key.
+    fn unknown_in(&self, part: Option<&KeyPart>, _key: &Key, context: &Context) -> Option<Dot>
+        requires { IsPart (world_of self.now) _key.now (option_copied part) }
+        ensures { MatchOption result (IsKnown (world_of self.now) _key.now context.now)
+            (IsLeastUnknown (world_of self.now).versions _key.now context.now) }
+    {
         let runs = context.runs();
         for run in runs {
-            match self.first_unknown(key, run) {
+            match self.first_unknown(part, run) {
                 Some(dot) => return Some(dot),
                 None => {}
             }
@@ -83,11 +96,18 @@ impl<J: Naming> Book<J> {
 
     // Adds the history of the dot's version where the dot isn't there yet, and gives the first of
     // the counters that lie without a gap below it.
-    fn add_history(&self, key: &Key, past: &mut Context, dot: Dot) -> Result<u32, Fault>
-        requires issued { is_issued (world_of self.now).versions key.now dot ≡ true }
-        requires closed { IsClosed (world_of self.now).versions key.now past.old }
+    fn add_history(
+        &self,
+        part: Option<&KeyPart>,
+        _key: &Key,
+        past: &mut Context,
+        dot: Dot,
+    ) -> Result<u32, Fault>
+        requires part { IsPart (world_of self.now) _key.now (option_copied part) }
+        requires issued { is_issued (world_of self.now).versions _key.now dot ≡ true }
+        requires closed { IsClosed (world_of self.now).versions _key.now past.old }
         ensures grows { OnOk result
-            (GrowsBy (world_of self.now).versions key.now dot past.old past.new) }
+            (GrowsBy (world_of self.now).versions _key.now dot past.old past.new) }
         ensures low { IfOk result (λ first. first ≤ dot.counter) }
         ensures inside { IfOk result (λ first. HasFrom past.new dot.node first (dot.counter + 1)) }
         ensures memory { IsOkUnless result Fault.OutOfMemory }
@@ -96,7 +116,7 @@ impl<J: Naming> Book<J> {
         if past.contains(dot) {
             return Ok(low_end(past, dot));
         }
-        let Some(version) = self.version(key, dot) else {
+        let Some(version) = self.version_in(part, dot) else {
             unreachable!()
         };
         past.union(self.alloc, version.past())?;
@@ -106,7 +126,14 @@ impl<J: Naming> Book<J> {
 
     // Adds the histories of the versions that the run names, from the last to the first, and skips
     // what is there already: a version's history lies in that of each version that follows it.
-    fn add_run(&self, key: &Key, past: &mut Context, run: &Run) -> Result<(), Fault>
+    fn add_run(
+        &self,
+        part: Option<&KeyPart>,
+        key: &Key,
+        past: &mut Context,
+        run: &Run,
+    ) -> Result<(), Fault>
+        requires part { IsPart (world_of self.now) key.now (option_copied part) }
         requires low { 1 ≤ run.now.first }
         requires high { run.now.last ≤ MAX_COUNTER }
         requires issued { AreIssuedBelow (world_of self.now).versions key.now run.now
@@ -121,14 +148,20 @@ impl<J: Naming> Book<J> {
         let mut next = run.last + 1;
         while next > run.first {
             let dot = Dot::new(run.node, next - 1).unwrap();
-            next = self.add_history(key, past, dot)?;
+            next = self.add_history(part, key, past, dot)?;
         }
         Ok(())
     }
 
     // The histories, together, of the versions of the key that the context names.
-    fn past_named(&self, key: &Key, context: &Context) -> Result<Context, Fault>
-        requires { IsKnown (world_of self.now) key.now context.now }
+    fn past_named(
+        &self,
+        part: Option<&KeyPart>,
+        key: &Key,
+        context: &Context,
+    ) -> Result<Context, Fault>
+        requires part { IsPart (world_of self.now) key.now (option_copied part) }
+        requires known { IsKnown (world_of self.now) key.now context.now }
         ensures ok { IfOk result
             (λ past. past ≡ past_of (world_of self.now).versions key.now context.now) }
         ensures memory { IsOkUnless result Fault.OutOfMemory }
@@ -136,7 +169,7 @@ impl<J: Naming> Book<J> {
         let mut past = Context::new(self.alloc);
         let runs = context.runs();
         for run in runs {
-            self.add_run(key, &mut past, run)?;
+            self.add_run(part, key, &mut past, run)?;
         }
         Ok(past)
     }
@@ -169,7 +202,8 @@ impl<J: Naming> Book<J> {
             ⊎ ((fault ≡ Fault.VersionsFull) ⊎ ((fault ≡ Fault.StepsFull)
             ⊎ (fault ≡ Fault.OutOfMemory)))) }
     {
-        if let Some(dot) = self.unknown(key, context) {
+        let part = self.part(key);
+        if let Some(dot) = self.unknown_in(part, key, context) {
             return Err(Fault::ContextUnknown { dot });
         }
         if self.versions >= self.options.versions_limit {
@@ -179,9 +213,9 @@ impl<J: Naming> Book<J> {
             return Err(Fault::StepsFull);
         }
         let node = share.node();
-        let counter = self.last(node, key) as u32 + 1;
+        let counter = self.last_in(part, node) as u32 + 1;
         let dot = Dot::new(node, counter).unwrap();
-        let past = match self.past_named(key, context) {
+        let past = match self.past_named(part, key, context) {
             Ok(past) => past,
             Err(fault) => return Err(fault),
         };

@@ -1,6 +1,6 @@
 -- The versions of a key, node by node.
 use Rattle.std.specs.Prelude.{◌≡◌, ℕ, ◌+◌, List, [], ◌∷◌, ◌++◌, slice_index_or, if◌then◌else◌, Bool}
-use Rattle.std.specs.Prelude.{◌&&◌, not, eqb, fold}
+use Rattle.std.specs.Prelude.{◌&&◌, not, eqb, fold, Option, None, Some}
 use Rattle.std.specs.Coded.{Coded}
 use Rattle.std.specs.List.{Contains}
 use Rattle.std.specs.List.Sorted.{IsStrictlySortedBy}
@@ -51,6 +51,11 @@ is_some h = not (is_nothing h.row.versions)
 -- the list with what has a version at its end
 abbrev pub listed_from : List Holding → List Holding → List Holding
 listed_from held hs = fold (λ list h. if is_some h then list ++ h ∷ [] else list) held hs
+
+-- the dots of which the one stands alone, or else all these
+abbrev pub dots_in : Option Dot → List Dot → List Dot
+dots_in None more = more
+dots_in (Some d) more = d ∷ []
 
 -- the list has the items in order, and of those that tie one
 pub record IsInOrder {X : Type 0} (cmp : X → X → Ordering) (items list : List X) : Type 0 where

@@ -1,4 +1,4 @@
-use Rattle.std.proofs.Common.{◌≡◌, ◌+◌, length, take, vec_capacity}
+use Rattle.std.proofs.Common.{◌≡◌, ◌+◌, ◌<◌, List, ℕ, length, take, vec_capacity, IsSome, Some}
 use Rattle.std.specs.List.{All}
 use Rattle.dy_book.specs.Books.{receipts_of}
 use Rattle.dy_book.proofs.holds.give_receipts.Given as goal
@@ -7,7 +7,10 @@ abbrev pub invariant-loop-version : goal.invariant-loop-version
 invariant-loop-version g l = record {
   given : l.receipts.items ≡ receipts_of
       (take l.version-index l.versions) l.place.holder l.place.home;
-  left : length l.keys.items + l.version-index ≡ length l.versions;
+  some : l.version-index < length l.versions → IsSome l.next;
+  left : l.version-index < length l.versions →
+      length l.keys.items + l.version-index + 1 ≡ length l.versions;
+  next : (key : List ℕ) → l.next ≡ Some key → key ≡ l.row.key;
   same : All (λ key. key ≡ l.row.key) l.keys.items;
   room : vec_capacity l.receipts ≡ vec_capacity l.initial.receipts;
 }

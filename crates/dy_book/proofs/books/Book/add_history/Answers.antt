@@ -15,12 +15,13 @@ returns-clause-grows g c =
     let legal = subst (λ b. IsLegal layout (steps_of b.log)) c.self.view_is
     c.self.invariant.legal in
     let w = world_of c.args.self.now in
+    let found = c.in-Some.ensures c.args._key.now c.requires.part in
     let new = c.in_ok-insert.ensures.ok
     ∙ (λ i. set.insert ((c.in_ok-union.ensures.ok
-    ∙ ap (set.union c.args.past.now) c.past.ensures.value) i) (sym c.in-Some.ensures.2 i)) in
+    ∙ ap (set.union c.args.past.now) c.past.ensures.value) i) (sym found.2 i)) in
     grows_history w.versions (log_sound layout (steps_of c.args.self.now.log) legal).ordered
-    c.args.key.now c.args.past.now c.requires.closed
-    c.in-Some.version.now c.in-Some.ensures.0 c.in-Some.ensures.1 c.args.dot c.in-Some.ensures.2
+    c.args._key.now c.args.past.now c.requires.closed
+    c.in-Some.version.now found.0 found.1 c.args.dot found.2
     c.insert.new.self new
 
 pub returns-clause-inside : goal.returns-clause-inside
@@ -29,13 +30,14 @@ returns-clause-inside g c =
     let legal = subst (λ b. IsLegal layout (steps_of b.log)) c.self.view_is
     c.self.invariant.legal in
     let w = world_of c.args.self.now in
+    let found = c.in-Some.ensures c.args._key.now c.requires.part in
     let new = c.in_ok-insert.ensures.ok
     ∙ (λ i. set.insert ((c.in_ok-union.ensures.ok
-    ∙ ap (set.union c.args.past.now) c.past.ensures.value) i) (sym c.in-Some.ensures.2 i)) in
+    ∙ ap (set.union c.args.past.now) c.past.ensures.value) i) (sym found.2 i)) in
     subst (λ n. HasFrom c.insert.new.self c.args.dot.node n (c.args.dot.counter + 1))
     (sym c.counter.ensures.value)
     (itself_from c.insert.new.self c.args.dot
     (has_own w.versions (log_sound layout (steps_of c.args.self.now.log) legal).ordered
-    c.args.key.now c.args.past.now c.requires.closed
-    c.in-Some.version.now c.in-Some.ensures.0 c.in-Some.ensures.1 c.args.dot c.in-Some.ensures.2
+    c.args._key.now c.args.past.now c.requires.closed
+    c.in-Some.version.now found.0 found.1 c.args.dot found.2
     c.insert.new.self new))

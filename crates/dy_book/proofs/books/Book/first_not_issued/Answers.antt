@@ -1,5 +1,6 @@
 use Rattle.std.proofs.Common.{◌≡◌, List, sym, ◌∙◌, subst}
 use Rattle.std.specs.List.{All, Contains}
+use Rattle.std.specs.Option.{option_copied}
 use Rattle.std.proofs.lemmas.Bool.{true≢false}
 use Rattle.std.proofs.lemmas.List.{take_all}
 use Rattle.std.proofs.lemmas.List.Elements.{All-contains}
@@ -7,6 +8,7 @@ use Rattle.dy_siblings.specs.Siblings.{Rise}
 use Rattle.dy_siblings.specs.declared.versions.Version.{Version}
 use Rattle.dy_core.specs.Worlds.{AreMadeOf}
 use Rattle.dy_book.specs.Books.{IsLeastNotIssued, world_of}
+use Rattle.dy_book.specs.inside.Indexes.{IsPart}
 use Rattle.dy_book.proofs.Incoming.{least_is, issued_more}
 use Rattle.dy_book.proofs.books.Book.first_not_issued.Goals as goal
 
@@ -23,6 +25,20 @@ returns-then-not-is_issued_as g c =
     c.loop-version.invariant
     (λ inside. true≢false (sym (c.is_issued_as.ensures.1 inside) ∙ c.if-not-is_issued_as.true))
     c.dot.result c.dot.ensures.value)
+
+pub is_issued_as-requires : goal.is_issued_as-requires
+is_issued_as-requires g c =
+    let vs = c.versions-versions.result.now in
+    let k = c.args.row.now.key in
+    let v = c.version-item.result in
+    let of_row : All (λ (u : Version). u.key ≡ k) vs =
+    subst (λ (us : List Version). All (λ u. u.key ≡ k) us)
+    (sym c.versions-versions.ensures.value) c.versions-versions.ensures.valid.of_key in
+    let own_key : v.key ≡ k =
+    All-contains (λ (u : Version). u.key ≡ k) vs v of_row
+    (c.loop-version.version-index, c.loop-version-test.true, sym c.version-item.is) in
+    subst (λ j. IsPart (world_of c.args.self.now) j (option_copied c.part-part.result))
+    (c.key.ensures ∙ sym own_key) c.part-part.ensures
 
 pub loop-version-preserved : goal.loop-version-preserved
 loop-version-preserved g c =

@@ -8,23 +8,23 @@ use Rattle.dy_book.proofs.books.Book.first_unknown.Goals as goal
 
 -- the node's counters go past the run
 pub returns-then-run-last : goal.returns-then-run-last
-returns-then-run-last g c =
+returns-then-run-last g c = λ key of_key.
     let layout = layout_of g.J.Naming.ring g.J.Naming.n in
     let legal = subst (λ b. IsLegal layout (steps_of b.log)) c.self.view_is
     c.self.invariant.legal in
-    all_issued layout (steps_of c.args.self.now.log) legal c.args.key.now c.args.run.now
+    all_issued layout (steps_of c.args.self.now.log) legal key c.args.run.now
     c.requires.low
-    (subst (λ n. c.args.run.now.last ≤ n) c.last-last.ensures c.if-run-last.true)
+    (subst (λ n. c.args.run.now.last ≤ n) (c.last_in-last.ensures key of_key) c.if-run-last.true)
 
 -- the first counter past the node's, or of the run
 pub returns : goal.returns
-returns g c =
+returns g c = λ key of_key.
     let layout = layout_of g.J.Naming.ring g.J.Naming.n in
     let legal = subst (λ b. IsLegal layout (steps_of b.log)) c.self.view_is
     c.self.invariant.legal in
-    first_not_issued layout (steps_of c.args.self.now.log) legal c.args.key.now c.args.run.now
+    first_not_issued layout (steps_of c.args.self.now.log) legal key c.args.run.now
     c.requires.low
-    c.last-last.result c.last-last.ensures c.unwrap-dot.result
+    c.last_in-last.result (c.last_in-last.ensures key of_key) c.unwrap-dot.result
     (subst (λ r. IfSome r
     (λ (d : Dot). d ≡ record { node = c.args.run.now.node; counter = c.max-counter.result }))
     c.unwrap-dot.ensures c.new.ensures.value

@@ -12,14 +12,15 @@ returns-in-Some g c =
     let layout = layout_of g.J.Naming.ring g.J.Naming.n in
     let legal = subst (λ b. IsLegal layout (steps_of b.log)) c.self.view_is
     c.self.invariant.legal in
+    let found = c.in-Some.ensures c.args.version.now.key c.requires in
     compared_is (world_of c.args.self.now).versions
     (log_sound layout (steps_of c.args.self.now.log) legal).ordered c.is_same.result
     c.in-Some.issued.now c.args.version.now
-    c.in-Some.ensures.0 (c.in-Some.ensures.1 ∙ c.key.ensures.value)
-    (c.in-Some.ensures.2 ∙ c.dot.ensures.value) c.is_same.ensures
+    found.0 found.1 (found.2 ∙ c.dot.ensures.value) c.is_same.ensures
 
 pub returns-in-None : goal.returns-in-None
 returns-in-None g c =
-    none_issued (world_of c.args.self.now).versions c.args.version.now
-    ((λ i. is_issued (world_of c.args.self.now).versions (sym c.key.ensures.value i)
-    (sym c.dot.ensures.value i)) ∙ c.in-None.ensures)
+    let v = c.args.version.now in
+    none_issued (world_of c.args.self.now).versions v
+    ((λ i. is_issued (world_of c.args.self.now).versions v.key (sym c.dot.ensures.value i))
+    ∙ c.in-None.ensures v.key c.requires)

@@ -1,8 +1,10 @@
 -- The index is that of the book before the issue wherever a growth was refused, and of the book
--- after
--- both steps where the part was written back; the version's own past, named whole, gives it again.
-use Rattle.std.proofs.Common.{◌≡◌, ◌++◌, map, Some, IsSome, refl, sym, ap, ◌∙◌, subst}
-use Rattle.std.specs.Option.{option_copied_mut}
+-- after both steps where the part was written back; the version's own past, named whole, gives it
+-- again.
+use Rattle.std.proofs.Common.{◌≡◌, ◌++◌, map, unwrap_or, Some, OnOk, OnErr, sym, ap, ◌∙◌, subst}
+use Rattle.std.proofs.Common.{arith}
+use Rattle.std.proofs.lemmas.Grind.{common_steps}
+use Rattle.std.specs.BTreeMap.Entry.{map_with_value}
 use Rattle.dy_core.specs.Worlds.{layout_of}
 use Rattle.dy_siblings.specs.declared.versions.Version.{Version}
 use Rattle.dy_core.specs.Steps.{version_made}
@@ -10,50 +12,58 @@ use Rattle.dy_core.specs.Logs.{world_after, IsLegal}
 use Rattle.dy_shares.specs.Shares.{Account, steps_of, untold}
 use Rattle.dy_book.specs.Books.{MayIssue, issue_steps, world_of}
 use Rattle.dy_book.specs.inside.Kept.{IsBook}
-use Rattle.dy_book.specs.inside.Indexes.{IsPart}
-use Rattle.dy_book.proofs.Bookkeeping.{book_reindexed, book_rewritten, issue_book, issue_receipt}
+use Rattle.dy_book.specs.inside.Indexes.{IsPart, part_at}
+use Rattle.dy_book.proofs.Bookkeeping.{book_rewritten, issue_book, issue_receipt}
 use Rattle.dy_book.proofs.Bookkeeping.{counter_few}
 use Rattle.dy_book.proofs.Holding.{issue_makes}
+use Rattle.dy_book.proofs.Parting.{part_or_none}
 use Rattle.dy_book.proofs.books.Book.issue.Goals as goal
 
-pub invariant_of-self-in_err-make_part : goal.invariant_of-self-in_err-make_part
-invariant_of-self-in_err-make_part g c =
+pub invariant_of-self-in_err-entry : goal.invariant_of-self-in_err-entry
+invariant_of-self-in_err-entry g c =
     let b = c.self.inside in
-    subst (λ (a : Account). IsBook g.J.Naming.ring g.J.Naming.n g.J.Naming.r b.ring a.log b.options
-    b.versions c.make_part.new.keys.entries) (sym c.agree.ensures.log)
-    (book_reindexed g.J.Naming.ring g.J.Naming.n g.J.Naming.r b.ring b.ledger.log b.options
-    b.versions b.keys.entries c.self.invariant
-    c.make_part.new.keys.entries c.make_part.ensures.same)
+    let same : c.entry.follows.lender-at-none.entries ≡ b.keys.entries =
+    subst (λ r. OnErr r (c.entry.follows.lender-at-none.entries ≡ b.keys.entries))
+    c.in_err-entry.was c.entry.follows.holds-at-none in
+    subst (λ es. IsBook g.J.Naming.ring g.J.Naming.n g.J.Naming.r b.ring c.agree.new.self.log
+    b.options b.versions es) (sym same)
+    (subst (λ (a : Account). IsBook g.J.Naming.ring g.J.Naming.n g.J.Naming.r b.ring a.log b.options
+    b.versions b.keys.entries) (sym c.agree.ensures.log) c.self.invariant)
 
 pub issue_in-requires-clause-part : goal.issue_in-requires-clause-part
 issue_in-requires-clause-part g c =
     let b = c.self.inside in
     let w = world_after (steps_of b.ledger.log) in
-    let key_is = c.in_ok-key.ensures.value
-    ∙ (c.key.ensures.value ∙ sym (ap (λ v. v.key) c.in_ok-copy.ensures.value)) in
-    let there = sym c.get_mut.ensures.value ∙ ap option_copied_mut c.in-Some.is in
+    let key = c.in_ok-of_part.of_part in
+    let key_is = c.in_ok-of_part.ensures.value
+    ∙ (c.in_ok-key.ensures.value
+    ∙ (c.key.ensures.value ∙ sym (ap (λ v. v.key) c.in_ok-copy.ensures.value))) in
     subst (λ (a : Account). IsPart (world_after (steps_of a.log)) c.in_ok-copy.copy.key
-    (Some c.in-Some.part.now)) (sym c.agree.ensures.log)
-    (subst (λ k. IsPart w k (Some c.in-Some.part.now)) key_is
-    (subst (IsPart w c.in_ok-key.key) there
-    (c.make_part.ensures.same w c.self.invariant.index c.in_ok-key.key)))
+    (Some c.or_insert-part.result.now)) (sym c.agree.ensures.log)
+    (subst (λ k. IsPart w k (Some c.or_insert-part.result.now)) key_is
+    (subst (λ p. IsPart w key (Some p))
+    (sym (c.or_insert-part.ensures.value
+    ∙ ap (λ o. unwrap_or o c.new.result) c.in_ok-entry.ensures.value))
+    (part_or_none w key (part_at b.keys.entries key) c.new.result
+    c.new.ensures.made c.new.ensures.places (c.self.invariant.index key))))
 
-pub invariant_of-self-in_err-issue_in-in-Some : goal.invariant_of-self-in_err-issue_in-in-Some
-invariant_of-self-in_err-issue_in-in-Some g c =
+pub invariant_of-self-in_err-issue_in : goal.invariant_of-self-in_err-issue_in
+invariant_of-self-in_err-issue_in g c =
     let b = c.self.inside in
-    let book = book_reindexed g.J.Naming.ring g.J.Naming.n g.J.Naming.r b.ring b.ledger.log
-    b.options b.versions b.keys.entries c.self.invariant
-    c.make_part.new.keys.entries c.make_part.ensures.same in
-    let key_is = c.in_ok-key.ensures.value
-    ∙ (c.key.ensures.value ∙ sym (ap (λ v. v.key) c.in_ok-copy.ensures.value)) in
-    let present = subst IsSome (sym (ap option_copied_mut c.in-Some.is) ∙ c.get_mut.ensures.value)
-    refl in
+    let key_is = c.in_ok-of_part.ensures.value
+    ∙ (c.in_ok-key.ensures.value
+    ∙ (c.key.ensures.value ∙ sym (ap (λ v. v.key) c.in_ok-copy.ensures.value))) in
+    let keys = map_with_value c.in_ok-entry.entry c.issue_in.new.part in
+    let same : c.entry.follows.lender keys ≡ keys =
+    subst (λ r. OnOk r (c.entry.follows.lender keys ≡ keys)) c.in_ok-entry.was
+    (c.entry.follows.holds keys) in
     book_rewritten g.J.Naming.ring g.J.Naming.n g.J.Naming.r b.ring b.ledger.log b.options
-    b.versions c.make_part.new.keys.entries book
-    c.in_ok-key.key c.in_ok-copy.copy.key key_is c.issue_in.new.part _
-    ((c.get_mut.follows.holds c.issue_in.new.part).3 present).0
+    b.versions b.keys.entries c.self.invariant
+    c.in_ok-of_part.of_part c.in_ok-copy.copy.key key_is c.issue_in.new.part _
+    (λ q. let written = (c.in_ok-entry.ensures.update.0 c.issue_in.new.part).0 q in
+    grind (arith, common_steps, written, same))
     c.issue_in.new.ledger.log
-    (ap (λ a. a.log) (c.in_err-issue_in-in-Some.ensures.err.0 ∙ c.agree.ensures.log))
+    (ap (λ a. a.log) (c.in_err-issue_in.ensures.err.0 ∙ c.agree.ensures.log))
     c.issue_in.ensures.part
 
 pub receipt-requires : goal.receipt-requires
@@ -64,7 +74,7 @@ receipt-requires g c =
     let may = subst (λ s. MayIssue s node v) (sym c.self.view_is) c.requires.may in
     let node_is = c.node-node.ensures.value ∙ ap (λ p. p.node) c.agree.ensures.share in
     let steps_are = c.in_ok-steps.ensures.ok ∙ ap (λ m. issue_steps m c.args.home v) node_is in
-    let log_is = ap (λ a. a.log) c.in_ok-issue_in-in-Some.ensures.log
+    let log_is = ap (λ a. a.log) c.in_ok-issue_in.ensures.log
     ∙ (λ i. (c.agree.ensures.log i).log ++ map untold (steps_are i)) in
     issue_receipt g.J.Naming.ring g.J.Naming.n g.J.Naming.r b.ring b.ledger.log b.options b.versions
     b.keys.entries c.self.invariant
@@ -81,18 +91,20 @@ invariant_of-self-2 g c =
     let may = subst (λ s. MayIssue s node v) (sym c.self.view_is) c.requires.may in
     let node_is = c.node-node.ensures.value ∙ ap (λ p. p.node) c.agree.ensures.share in
     let steps_are = c.in_ok-steps.ensures.ok ∙ ap (λ m. issue_steps m c.args.home v) node_is in
-    let log_is = ap (λ a. a.log) c.in_ok-issue_in-in-Some.ensures.log
+    let log_is = ap (λ a. a.log) c.in_ok-issue_in.ensures.log
     ∙ (λ i. (c.agree.ensures.log i).log ++ map untold (steps_are i)) in
-    let book = book_reindexed g.J.Naming.ring g.J.Naming.n g.J.Naming.r b.ring b.ledger.log
-    b.options b.versions b.keys.entries c.self.invariant
-    c.make_part.new.keys.entries c.make_part.ensures.same in
-    let present = subst IsSome (sym (ap option_copied_mut c.in-Some.is) ∙ c.get_mut.ensures.value)
-    refl in
+    let keys = map_with_value c.in_ok-entry.entry c.issue_in.new.part in
+    let same : c.entry.follows.lender keys ≡ keys =
+    subst (λ r. OnOk r (c.entry.follows.lender keys ≡ keys)) c.in_ok-entry.was
+    (c.entry.follows.holds keys) in
     issue_book g.J.Naming.ring g.J.Naming.n g.J.Naming.r b.ring b.ledger.log b.options b.versions
-    c.make_part.new.keys.entries book
+    b.keys.entries c.self.invariant
     node c.args.home v may.next may.counter_left c.requires.may_hold may.versions_left may.room
-    c.in_ok-key.key (c.in_ok-key.ensures.value ∙ c.key.ensures.value) c.issue_in.new.part _
-    ((c.get_mut.follows.holds c.issue_in.new.part).3 present).0
+    c.in_ok-of_part.of_part
+    (c.in_ok-of_part.ensures.value ∙ (c.in_ok-key.ensures.value ∙ c.key.ensures.value))
+    c.issue_in.new.part _
+    (λ q. let written = (c.in_ok-entry.ensures.update.0 c.issue_in.new.part).0 q in
+    grind (arith, common_steps, written, same))
     c.issue_in.new.ledger.log log_is
     (subst (λ (u : Version). IsPart (world_after (steps_of c.issue_in.new.ledger.log)) u.key
     (Some c.issue_in.new.part)) c.in_ok-copy.ensures.value c.issue_in.ensures.part)

@@ -17,12 +17,13 @@ new-requires-2 g c =
     c.self.invariant.legal in
     let w = world_of c.args.self.now in
     let dot_is = subst (λ r. IfSome r
-    (λ (d : Dot). d ≡ record { node = c.node-node.result; counter = c.last.result + 1 }))
+    (λ (d : Dot). d ≡ record { node = c.node-node.result; counter = c.last_in.result + 1 }))
     c.unwrap-dot.ensures c.new.ensures.value
     ∙ (λ i. record {
       node = c.node-node.ensures.value i;
       counter =
-          (c.last.ensures ∙ (λ j. w.counters (c.node-node.ensures.value j) c.args.key.now)) i + 1;
+          (c.last_in.ensures c.args.key.now c.part-part.ensures
+          ∙ (λ j. w.counters (c.node-node.ensures.value j) c.args.key.now)) i + 1;
     })
     in
     ap (λ s. set.contains s c.unwrap-dot.result) c.in-Ok.ensures.ok
@@ -33,12 +34,13 @@ pub returns-in-Ok-new-clause-may : goal.returns-in-Ok-new-clause-may
 returns-in-Ok-new-clause-may g c =
     let w = world_of c.args.self.now in
     let dot_is = subst (λ r. IfSome r
-    (λ (d : Dot). d ≡ record { node = c.node-node.result; counter = c.last.result + 1 }))
+    (λ (d : Dot). d ≡ record { node = c.node-node.result; counter = c.last_in.result + 1 }))
     c.unwrap-dot.ensures c.new.ensures.value
     ∙ (λ i. record {
       node = c.node-node.ensures.value i;
       counter =
-          (c.last.ensures ∙ (λ j. w.counters (c.node-node.ensures.value j) c.args.key.now)) i + 1;
+          (c.last_in.ensures c.args.key.now c.part-part.ensures
+          ∙ (λ j. w.counters (c.node-node.ensures.value j) c.args.key.now)) i + 1;
     })
     in
     let is : c.in-Ok-new.version ≡ version_made w c.args.share.now.node c.args.key.now

@@ -5,5 +5,5 @@ use Rattle.dy_book.proofs.custodies.Custody.dots.Goals as goal
 
 pub returns-clause-rise : goal.returns-clause-rise
 returns-clause-rise c =
-    subst DotsRise (sym (c.as_slice.ensures.value ∙ c.self.invariant))
+    subst DotsRise (sym (c.as_slice.ensures ∙ c.self.invariant))
     (rise_dots c.self.inside.row.versions c.versions-versions.ensures.valid.rise)

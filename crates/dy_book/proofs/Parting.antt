@@ -1,0 +1,40 @@
+-- Which keys have a part of the index.
+use Rattle.std.proofs.Common.{◌≡◌, ◌≢◌, ℕ, List, [], ◌∷◌, Option, None, Some, IsSome, unwrap_or}
+use Rattle.std.proofs.Common.{refl, sym, ap, ◌∙◌, subst}
+use Rattle.std.specs.List.{All, Contains}
+use Rattle.std.specs.List.Sorted.{IsStrictlySortedBy}
+use Rattle.std.proofs.lemmas.List.Elements.{All-contains}
+use Rattle.dy_siblings.specs.declared.versions.Version.{Version}
+use Rattle.dy_siblings.proofs.Members.{not_in_nil, in_head}
+use Rattle.dy_siblings.specs.Siblings.{IsSameRow}
+use Rattle.dy_core.specs.Worlds.{World, AreMadeOf, row_at}
+use Rattle.dy_core.specs.Orders.{holding_cmp}
+use Rattle.dy_core.specs.inside.Meanings.{row_in}
+use Rattle.dy_book.specs.inside.Lists.{list_at}
+use Rattle.dy_book.specs.declared.parts.KeyPart.{KeyPart}
+use Rattle.dy_book.specs.inside.Indexes.{IsPart}
+use Rattle.dy_book.proofs.Making.{in_made, by_from}
+
+-- a key of which a version was made has one
+pub part_there : (w : World) (key : List ℕ) (row : List Version) → AreMadeOf w key row →
+    row ≢ [] → (o : Option KeyPart) → IsPart w key o → IsSome o
+part_there w key row made some (Some p) part = refl
+part_there w key [] made some None part = absurd (some refl)
+part_there w key (v ∷ vs) made some None part =
+    let m = All-contains (λ (u : Version). (u.key ≡ key) × Contains w.versions u) (v ∷ vs) v made
+    (in_head v vs) in
+    absurd (not_in_nil v (subst (λ xs. Contains xs v) (sym (part.made_are v.dot.node))
+    (in_made w.versions key v.dot.node v m.1 (by_from v v.dot.node key refl m.0))))
+
+-- a part without anything is as good as none
+pub part_or_none : (w : World) (key : List ℕ) (o : Option KeyPart) (p : KeyPart) →
+    p.made.items ≡ [] → p.places.items ≡ [] → IsPart w key o → IsPart w key (Some (unwrap_or o p))
+part_or_none w key (Some q) p no_made no_places are = are
+part_or_none w key None p no_made no_places are = record {
+  made_are = λ node. ap (λ xs. list_at xs node) no_made ∙ are.made_are node;
+  rows_are = λ holder home. subst
+      (λ hs. IsSameRow (row_in hs holder home key) (row_at w holder home key)) (sym no_places)
+      (are.rows_are holder home);
+  in_order = subst (λ hs. IsStrictlySortedBy holding_cmp hs) (sym no_places) are.in_order;
+  of_key = subst (λ hs. All (λ h. h.row.key ≡ key) hs) (sym no_places) are.of_key;
+}
