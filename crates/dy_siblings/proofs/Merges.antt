@@ -3,12 +3,12 @@ use Rattle.std.proofs.Common.{◌≡◌, ℕ, Bool, true, false, cond, ◌||◌,
 use Rattle.std.specs.List.{filter, Contains, All}
 use Rattle.std.specs.FinSet as set
 use Rattle.std.proofs.lemmas.Bool.{cases_Bool, or_cases, or_right, true≢false, not-true, not_from_false}
-use Rattle.std.proofs.lemmas.List.Elements.{All-contains, Contains-append_left, Contains-append_right, Contains-append_cases}
+use Rattle.std.proofs.lemmas.List.Elements.{All-cons, All-contains, All-nil, Contains-append_left, Contains-append_right, Contains-append_cases}
 use Rattle.std.proofs.lemmas.List.Folds.{list_any-append}
 use Rattle.std.proofs.lemmas.List.{append-nil}
 use Rattle.dy_dots.specs.Dots.{DotNumbers, same_dot}
 use Rattle.dy_siblings.specs.Versions.{VersionParts, IsVersion, in_history, with_value}
-use Rattle.dy_siblings.specs.Siblings.{AreClosed, IsSameRow, context_of, covers, is_past, merge, newest}
+use Rattle.dy_siblings.specs.Siblings.{AreClosed, AreOneByDot, IsSameRow, context_of, covers, is_past, merge, newest}
 use Rattle.dy_siblings.proofs.Members.{not_in_nil, in_head, in_tail, in_cases, any_gives, any_from, none_from, filter_in, filter_from}
 use Rattle.dy_dots.proofs.SameDots.{same_dot_is}
 use Rattle.dy_dots.proofs.Sets.{same_dots, in_union}
@@ -58,6 +58,16 @@ idempotent s none v = (
   where
     once : (u : VersionParts) → Contains (s ++ s) u → Contains s u
     once u h = ⊎_elim (λ l. l) (λ r. r) (Contains-append_cases s s u h)
+
+-- the merge of a version with itself, which one dot tells, is that version
+pub one_merges : (u v : VersionParts) → AreOneByDot (u ∷ v ∷ []) → IsVersion u → u.dot ≡ v.dot → IsSameRow (u ∷ []) (merge (u ∷ []) (v ∷ []))
+one_merges u v one lacks same =
+    subst (λ x. IsSameRow (u ∷ []) (merge (u ∷ []) (x ∷ [])))
+    (one u v (in_head u (v ∷ [])) (in_tail u v (v ∷ []) (in_head v [])) same)
+    (λ x. let is = idempotent (u ∷ []) (All-cons P u [] (ap (λ b. b || false) lacks) (All-nil P)) x in (is.1, is.0))
+  where
+    P : VersionParts → Type 0
+    P v = is_past (u ∷ []) v.dot ≡ false
 
 -- a version of the list that is u or follows it, and that none of xs follows
 pub record Top (vs xs : List VersionParts) (u : VersionParts) : Type 0 where

@@ -1,10 +1,12 @@
-ghost use Rattle.std.specs.Prelude.{◌≡◌, ◌++◌, map, IfOk, IfSome, IfNone, IsOkUnless, []};
+ghost use Rattle.std.specs.Prelude.{◌≡◌, ◌++◌, map, IfOk, IfSome, IfNone, IsOkUnless, [], ◌∷◌};
 ghost use Rattle.std.specs.Prelude.{◌↔◌, IsTrue};
 ghost use Rattle.std.specs.FinSet as set;
+ghost use Rattle.dy_siblings.specs.inside.Lists.{items_of};
 ghost use Rattle.dy_siblings.specs.inside.Merging.{do_lists_conflict, IsMerge, IsNextVersion};
 ghost use Rattle.dy_siblings.specs.inside.Merging.{IsUnionOutside, with_dots, with_histories};
 ghost use Rattle.dy_siblings.specs.Siblings.{AreOneByDot, Rise, present_values};
 
+use crate::lists::Versions;
 use crate::pasts::Pasts;
 use crate::values::Value;
 use crate::versions::Version;
@@ -41,21 +43,22 @@ fn union_outside(
     past: &Pasts<'_>,
     a: &[Version],
     b: &[Version],
-) -> Result<Vec<Version>, Fault>
+) -> Result<Versions, Fault>
     requires a_rises { Rise a.now }
     requires b_rises { Rise b.now }
     requires agree { AreOneByDot (a.now ++ b.now) }
-    ensures ok { IfOk result (λ kept. IsUnionOutside past.now a.now b.now kept.items) }
+    ensures ok { IfOk result (λ kept. IsUnionOutside past.now a.now b.now (items_of kept)) }
     ensures memory { IsOkUnless result Fault.OutOfMemory }
 {
-    let mut kept = Vec::with_capacity(alloc, a.len().max(b.len()).saturating_add(1))?;
+    let room = a.len().max(b.len()).saturating_add(1);
+    let mut kept = Versions::Few(None);
     let mut left = a;
     let mut right = b;
     while let Some((next, left_rest, right_rest)) = split_next(left, right) {
         left = left_rest;
         right = right_rest;
         if !past.contains(next.dot()) {
-            kept.push(next.try_clone(alloc)?)?;
+            kept.push(alloc, room, next.try_clone(alloc)?)?;
         }
     }
     Ok(kept)
@@ -87,15 +90,46 @@ pub(crate) fn lists_conflict(a: &[Version], b: &[Version]) -> bool
     false
 }
 
+/// The version of a list that has no other.
+fn only(versions: &[Version]) -> Option<&Version>
+    ensures { IfSome result (λ version. versions.now ≡ version.now ∷ []) }
+{
+    match versions.split_first() {
+        Some((version, rest)) if rest.is_empty() => Some(version),
+        _ => None,
+    }
+}
+
+/// The one of two versions that their merge is, where it is one.
+fn newer<'a>(mine: &'a Version, theirs: &'a Version) -> Option<&'a Version>
+    requires { AreOneByDot (mine.now ∷ theirs.now ∷ []) }
+    ensures { IfSome result (λ version.
+        IsMerge (mine.now ∷ []) (theirs.now ∷ []) (version.now ∷ [])) }
+{
+    if mine.dot() == theirs.dot() {
+        return Some(mine);
+    }
+    match (mine.precedes(theirs), theirs.precedes(mine)) {
+        (true, false) => Some(theirs),
+        (false, true) => Some(mine),
+        _ => None,
+    }
+}
+
 /// Copies of the versions of both lists whose dot lies in the past of none, in the order of their
 /// dots.
-pub(crate) fn merged(alloc: Global, a: &[Version], b: &[Version]) -> Result<Vec<Version>, Fault>
+pub(crate) fn merged(alloc: Global, a: &[Version], b: &[Version]) -> Result<Versions, Fault>
     requires a_rises { Rise a.now }
     requires b_rises { Rise b.now }
     requires agree { AreOneByDot (a.now ++ b.now) }
-    ensures ok { IfOk result (λ kept. IsMerge a.now b.now kept.items) }
+    ensures ok { IfOk result (λ kept. IsMerge a.now b.now (items_of kept)) }
     ensures memory { IsOkUnless result Fault.OutOfMemory }
 {
+    if let (Some(mine), Some(theirs)) = (only(a), only(b)) {
+        if let Some(version) = newer(mine, theirs) {
+            return Ok(Versions::Few(Some(version.try_clone(alloc)?)));
+        }
+    }
     let past = Pasts::of(alloc, a, b)?;
     union_outside(alloc, &past, a, b)
 }
@@ -104,29 +138,32 @@ pub(crate) fn merged(alloc: Global, a: &[Version], b: &[Version]) -> Result<Vec<
 pub(crate) fn are_same(a: &[Version], b: &[Version]) -> bool
     ensures { IsTrue result ↔ (a.now ≡ b.now) }
 {
+    if a.len() != b.len() {
+        return false;
+    }
     let mut left = a;
     let mut right = b;
-    while let Some((mine, rest)) = left.split_first() {
-        let Some((theirs, others)) = right.split_first() else {
-            return false;
-        };
+    while let (Some((mine, rest)), Some((theirs, others))) = (
+        left.split_first(),
+        right.split_first(),
+    ) {
         if !mine.is_same(theirs) {
             return false;
         }
         left = rest;
         right = others;
     }
-    right.is_empty()
+    true
 }
 
 /// Copies of the versions.
-pub(crate) fn copied(alloc: Global, versions: &[Version]) -> Result<Vec<Version>, Fault>
-    ensures ok { IfOk result (λ copies. copies.items ≡ versions.now) }
+pub(crate) fn copied(alloc: Global, versions: &[Version]) -> Result<Versions, Fault>
+    ensures ok { IfOk result (λ copies. items_of copies ≡ versions.now) }
     ensures memory { IsOkUnless result Fault.OutOfMemory }
 {
-    let mut copies = Vec::with_capacity(alloc, versions.len())?;
+    let mut copies = Versions::Few(None);
     for version in versions {
-        copies.push(version.try_clone(alloc)?)?;
+        copies.push(alloc, versions.len(), version.try_clone(alloc)?)?;
     }
     Ok(copies)
 }

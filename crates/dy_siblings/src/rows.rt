@@ -3,6 +3,7 @@ ghost use Rattle.std.specs.Prelude.{IsTrue, IsOk};
 ghost use Rattle.std.specs.Slice.Iter.{iter_rest};
 
 use crate::keys::Key;
+use crate::lists::Versions;
 use crate::merging;
 use crate::values::Value;
 use crate::versions::Version;
@@ -16,19 +17,20 @@ use std::slice;
 #[derive(Debug, Drop)]
 pub struct Row {
     key: Key,
-    versions: Vec<Version>,
+    versions: Versions,
 }
 
 impl Model for Row {
     ghost use Rattle.dy_siblings.specs.Siblings.{Siblings, siblings_code, IsSiblingSet};
+    ghost use Rattle.dy_siblings.specs.inside.Lists.{items_of};
 
     ghost Value = { Siblings };
 
     ghost coded = { siblings_code };
 
-    ghost view = { λ row. record { key = row.key; versions = row.versions.items } };
+    ghost view = { λ row. record { key = row.key; versions = items_of row.versions } };
 
-    ghost invariant = { λ row. IsSiblingSet row.key row.versions.items };
+    ghost invariant = { λ row. IsSiblingSet row.key (items_of row.versions) };
 }
 
 impl Row {
@@ -37,12 +39,12 @@ impl Row {
     ghost use Rattle.dy_siblings.specs.Siblings.{present_values};
 
     /// The row of the key that has no version. Takes no memory.
-    pub fn new(alloc: Global, key: Key) -> Row
+    pub fn new(_alloc: Global, key: Key) -> Row
         ensures { result ≡ record { key = key; versions = [] } }
     {
         Row {
             key,
-            versions: Vec::new(alloc),
+            versions: Versions::Few(None),
         }
     }
 
@@ -53,9 +55,10 @@ impl Row {
         ensures memory { IsOkUnless result Fault.OutOfMemory }
     {
         let key = version.key().try_clone(alloc)?;
-        let mut versions = Vec::new(alloc);
-        versions.push(version)?;
-        Ok(Row { key, versions })
+        Ok(Row {
+            key,
+            versions: Versions::Few(Some(version)),
+        })
     }
 
     /// The key. Takes no memory.
@@ -70,21 +73,22 @@ impl Row {
         ensures value { result.now ≡ self.now.versions }
         ensures valid { IsSiblingSet self.now.key self.now.versions }
     {
-        &self.versions
+        self.versions.as_slice()
     }
 
     /// Whether there is no version. Takes no memory.
     pub fn is_empty(&self) -> bool
         ensures { IsTrue result ↔ (self.now.versions ≡ []) }
     {
-        self.versions.is_empty()
+        self.versions().is_empty()
     }
 
     /// Whether a version's history has the dot. Takes no memory.
     pub fn covers(&self, dot: Dot) -> bool
         ensures { result ≡ covers self.now.versions dot }
     {
-        self.versions.iter().any(|version| version.covers(dot))
+        let versions = self.versions();
+        versions.iter().any(|version| version.covers(dot))
     }
 
     /// Whether the rows are of one key, and versions of both with one dot are one version, in one
@@ -163,7 +167,7 @@ impl Row {
         ensures key { self.new.key ≡ self.old.key }
         ensures versions { self.new.versions ≡ without self.old.versions dot }
     {
-        self.versions.retain(|version| !version.has_dot(dot));
+        self.versions.remove(dot);
     }
 
     /// The values that are present, each with its dot, in the order of the dots.

@@ -141,10 +141,11 @@ impl Version {
     fn says_same(&self, other: &Version) -> bool
         ensures { result ≡ same_version self.now other.now }
     {
-        let same_name = self.parts.key == other.parts.key && self.parts.dot == other.parts.dot;
-        let same_past = other.parts.past.includes(&self.parts.past)
-            && self.parts.past.includes(&other.parts.past);
-        same_name && (same_past && self.parts.value == other.parts.value)
+        self.parts.dot == other.parts.dot
+            && self.parts.key == other.parts.key
+            && self.parts.value == other.parts.value
+            && other.parts.past.includes(&self.parts.past)
+            && self.parts.past.includes(&other.parts.past)
     }
 
     // Whether the other has its dot, and is not the same.

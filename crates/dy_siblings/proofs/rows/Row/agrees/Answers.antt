@@ -1,6 +1,7 @@
 use Rattle.std.proofs.Common.{◌≡◌, ap, sym, subst, ◌∙◌}
 use Rattle.std.specs.Cmp.Lexicographic.{bytes_decides}
 use Rattle.std.proofs.lemmas.Bool.{not-true, not_from_false}
+use Rattle.dy_siblings.specs.inside.Lists.{items_of}
 use Rattle.dy_siblings.specs.inside.Merging.{do_lists_conflict}
 use Rattle.dy_siblings.specs.Siblings.{Rise}
 use Rattle.dy_siblings.proofs.Agreeing.{agree_from, agree_then}
@@ -28,7 +29,7 @@ returns-then-eq c = (
     conflict_is : c.lists_conflict.result ≡ do_lists_conflict c.args.self.now.versions c.args.other.now.versions
     conflict_is =
         c.lists_conflict.ensures
-        ∙ ap (λ l. do_lists_conflict l c.as_slice-then-eq.result.now) c.as_slice.ensures.value
-        ∙ ap (do_lists_conflict c.self.inside.versions.items) c.as_slice-then-eq.ensures.value
-        ∙ ap (λ s. do_lists_conflict s.versions c.other.inside.versions.items) c.self.view_is
+        ∙ ap (λ l. do_lists_conflict l c.as_slice-then-eq.result.now) c.as_slice.ensures
+        ∙ ap (do_lists_conflict (items_of c.self.inside.versions)) c.as_slice-then-eq.ensures
+        ∙ ap (λ s. do_lists_conflict s.versions (items_of c.other.inside.versions)) c.self.view_is
         ∙ ap (λ s. do_lists_conflict c.args.self.now.versions s.versions) c.other.view_is

@@ -1,25 +1,27 @@
 use Rattle.std.proofs.Common.{ap, ◌∙◌, sym, subst}
+use Rattle.dy_siblings.specs.inside.Lists.{items_of}
 use Rattle.dy_siblings.specs.inside.Merging.{IsMerge}
 use Rattle.dy_siblings.specs.Siblings.{IsSameRow, IsSiblingSet, merge}
 use Rattle.dy_siblings.proofs.Walking.{merge_siblings}
 use Rattle.dy_siblings.proofs.Merges.{unmerged}
 use Rattle.dy_siblings.proofs.rows.Row.merge.Goals as goal
+use Rattle.dy_siblings.proofs.rows.Row.merge.Goals.{Joined-self-branch}
 
-is_merge : (c : goal.After-drop-self-inside) → IsMerge c.self.inside.versions.items c.other.inside.versions.items c.in_ok-self-inside.field-0.items
+is_merge : (c : Joined-self-branch) → IsMerge (items_of c.self.inside.versions) (items_of c.other.inside.versions) (items_of c.in_ok-self-inside.field-0)
 is_merge c =
-    subst (λ x. IsMerge x c.other.inside.versions.items c.in_ok-self-inside.field-0.items) c.as_slice-mine.ensures.value
-    (subst (λ y. IsMerge c.as_slice-mine.result.now y c.in_ok-self-inside.field-0.items) c.as_slice.ensures.value c.in_ok-self-inside.ensures.ok)
+    subst (λ x. IsMerge x (items_of c.other.inside.versions) (items_of c.in_ok-self-inside.field-0)) c.as_slice-mine.ensures
+    (subst (λ y. IsMerge c.as_slice-mine.result.now y (items_of c.in_ok-self-inside.field-0)) c.as_slice.ensures c.in_ok-self-inside.ensures.ok)
 
 pub invariant_of-self : goal.invariant_of-self
 invariant_of-self c =
-    merge_siblings c.self.inside.key c.self.inside.versions.items c.other.inside.versions.items c.in_ok-self-inside.field-0.items (is_merge c) c.self.invariant
-    (subst (λ key. IsSiblingSet key c.other.inside.versions.items)
+    merge_siblings c.self.inside.key (items_of c.self.inside.versions) (items_of c.other.inside.versions) (items_of c.in_ok-self-inside.field-0) (is_merge c) c.self.invariant
+    (subst (λ key. IsSiblingSet key (items_of c.other.inside.versions))
     (ap (λ s. s.key) c.other.view_is ∙ sym c.requires.one_key ∙ sym (ap (λ s. s.key) c.self.view_is)) c.other.invariant)
 
 pub returns-clause-ok : goal.returns-clause-ok
 returns-clause-ok c =
-    subst (IsSameRow c.in_ok-self-inside.field-0.items)
-    (ap (λ s. merge s.versions c.other.inside.versions.items) c.self.view_is ∙ ap (λ s. merge c.args.self.now.versions s.versions) c.other.view_is)
+    subst (IsSameRow (items_of c.in_ok-self-inside.field-0))
+    (ap (λ s. merge s.versions (items_of c.other.inside.versions)) c.self.view_is ∙ ap (λ s. merge c.args.self.now.versions s.versions) c.other.view_is)
     (is_merge c).1
 
 pub returns-clause-valid : goal.returns-clause-valid

@@ -1,6 +1,7 @@
 -- Both slices are the versions of their rows, of one key: so the merge of the lists is that of the
 -- rows.
 use Rattle.std.proofs.Common.{◌≡◌, ◌++◌, ap, ◌∙◌, sym, subst}
+use Rattle.dy_siblings.specs.inside.Lists.{items_of}
 use Rattle.dy_siblings.specs.inside.Merging.{IsMerge}
 use Rattle.dy_siblings.specs.Siblings.{AreOneByDot, IsSameRow, IsSiblingSet, merge}
 use Rattle.dy_siblings.proofs.Walking.{merge_siblings}
@@ -13,36 +14,36 @@ merged-requires-clause-agree c =
     (subst (λ y. AreOneByDot (c.args.self.now.versions ++ y)) theirs c.requires.agree)
   where
     mine : c.args.self.now.versions ≡ c.as_slice.result.now
-    mine = sym (c.as_slice.ensures.value ∙ ap (λ s. s.versions) c.self.view_is)
+    mine = sym (c.as_slice.ensures ∙ ap (λ s. s.versions) c.self.view_is)
 
     theirs : c.args.other.now.versions ≡ c.as_slice-2.result.now
-    theirs = sym (c.as_slice-2.ensures.value ∙ ap (λ s. s.versions) c.other.view_is)
+    theirs = sym (c.as_slice-2.ensures ∙ ap (λ s. s.versions) c.other.view_is)
 
 -- the merge of two rows of one key is a row of it
 pub invariant_of-result : goal.invariant_of-result
 invariant_of-result c =
-    subst (λ key. IsSiblingSet key c.in_ok-versions.versions.items) (sym c.in_ok-key.ensures.value)
-    (merge_siblings c.self.inside.key c.self.inside.versions.items c.other.inside.versions.items
-    c.in_ok-versions.versions.items is_merge c.self.invariant
-    (subst (λ key. IsSiblingSet key c.other.inside.versions.items)
+    subst (λ key. IsSiblingSet key (items_of c.in_ok-versions.versions)) (sym c.in_ok-key.ensures.value)
+    (merge_siblings c.self.inside.key (items_of c.self.inside.versions) (items_of c.other.inside.versions)
+    (items_of c.in_ok-versions.versions) is_merge c.self.invariant
+    (subst (λ key. IsSiblingSet key (items_of c.other.inside.versions))
     (ap (λ s. s.key) c.other.view_is ∙ sym c.requires.one_key
     ∙ sym (ap (λ s. s.key) c.self.view_is)) c.other.invariant))
   where
-    is_merge : IsMerge c.self.inside.versions.items c.other.inside.versions.items
-        c.in_ok-versions.versions.items
+    is_merge : IsMerge (items_of c.self.inside.versions) (items_of c.other.inside.versions)
+        (items_of c.in_ok-versions.versions)
     is_merge =
-        subst (λ x. IsMerge x c.other.inside.versions.items c.in_ok-versions.versions.items)
-        c.as_slice.ensures.value
-        (subst (λ y. IsMerge c.as_slice.result.now y c.in_ok-versions.versions.items)
-        c.as_slice-2.ensures.value c.in_ok-versions.ensures.ok)
+        subst (λ x. IsMerge x (items_of c.other.inside.versions) (items_of c.in_ok-versions.versions))
+        c.as_slice.ensures
+        (subst (λ y. IsMerge c.as_slice.result.now y (items_of c.in_ok-versions.versions))
+        c.as_slice-2.ensures c.in_ok-versions.ensures.ok)
 
 pub returns-clause-ok : goal.returns-clause-ok
 returns-clause-ok c =
-    subst (IsSameRow c.in_ok-versions.versions.items)
+    subst (IsSameRow (items_of c.in_ok-versions.versions))
     (ap (λ l. merge l c.as_slice-2.result.now)
-    (c.as_slice.ensures.value ∙ ap (λ s. s.versions) c.self.view_is)
+    (c.as_slice.ensures ∙ ap (λ s. s.versions) c.self.view_is)
     ∙ ap (merge c.args.self.now.versions)
-    (c.as_slice-2.ensures.value ∙ ap (λ s. s.versions) c.other.view_is))
+    (c.as_slice-2.ensures ∙ ap (λ s. s.versions) c.other.view_is))
     c.in_ok-versions.ensures.ok.1
 
 pub returns-clause-valid : goal.returns-clause-valid

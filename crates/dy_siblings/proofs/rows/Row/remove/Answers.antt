@@ -1,5 +1,4 @@
-use Rattle.std.proofs.Common.{rules, sym, ap, ◌∙◌, subst, not}
-use Rattle.std.proofs.lemmas.Fn.{filter_same}
+use Rattle.std.proofs.Common.{sym, ap, ◌∙◌, subst, not}
 use Rattle.dy_dots.specs.Dots.{same_dot}
 use Rattle.dy_siblings.specs.Siblings.{IsSiblingSet, without}
 use Rattle.dy_siblings.proofs.Rising.{filter_siblings}
@@ -7,11 +6,9 @@ use Rattle.dy_siblings.proofs.rows.Row.remove.Goals as goal
 
 pub invariant_of-self : goal.invariant_of-self
 invariant_of-self c =
-    subst (IsSiblingSet c.self.inside.key)
-    (sym (filter_same _ (λ v. not (same_dot v.dot c.args.dot)) _ (λ x b f' k. search rules) _ _ c.retain.ensures.filtered))
+    subst (IsSiblingSet c.self.inside.key) (sym c.remove.ensures)
     (filter_siblings (λ v. not (same_dot v.dot c.args.dot)) _ _ c.self.invariant)
 
 pub returns-clause-versions : goal.returns-clause-versions
 returns-clause-versions c =
-    filter_same _ (λ v. not (same_dot v.dot c.args.dot)) _ (λ x b f' k. search rules) _ _ c.retain.ensures.filtered
-    ∙ ap (λ s. without s.versions c.args.dot) c.self.view_is
+    c.remove.ensures ∙ ap (λ s. without s.versions c.args.dot) c.self.view_is
