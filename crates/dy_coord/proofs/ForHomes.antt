@@ -3,7 +3,7 @@
 use Rattle.std.proofs.Common.{Some, ◌≡◌, ◌∷◌, [], List, ℕ, zero, suc, sym, ◌∙◌, ap, subst}
 use Rattle.std.proofs.Common.{inl, inr}
 use Rattle.std.proofs.lemmas.Bool.{cases_Bool}
-use Rattle.std.proofs.lemmas.List.Elements.{All-nil, All-cons, All-head, All-map, All-filter}
+use Rattle.std.proofs.lemmas.List.Elements.{All-head, All-map, All-filter}
 use Rattle.std.proofs.lemmas.List.Elements.{All-push, All-tail, Contains-get_or}
 use Rattle.std.specs.List.{All, Contains, slice_get}
 use Rattle.dy_core.specs.Logs.{Answer as SeenParts}

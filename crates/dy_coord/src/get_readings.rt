@@ -12,7 +12,6 @@ ghost use Rattle.dy_reads.specs.Lists.{homes_in};
 ghost use Rattle.dy_reads.specs.Rules.{IsReadOut, HasRead, as_read};
 ghost use Rattle.dy_coord.specs.Gets.{StopsSoon, seen_in, seens_of};
 ghost use Rattle.dy_coord.specs.inside.GetParts.{Collects};
-ghost use Rattle.dy_coord.specs.declared.put_reads.TheConstants.{MAX_ANSWERS};
 
 use dy_core::Place;
 use dy_dots::NodeId;
@@ -50,8 +49,10 @@ fn read_rows<J: Naming, T: Transport<J>, R: Wait>(
     requires fresh { (T.told transport.old).replies ≡ [] }
     requires room { length (T.told transport.old).asks + length assign.old
         ≤ (T.told transport.old).room }
-    requires few { length (T.told transport.old).asks + length assign.old < MAX_NODES }
-    requires answers_room { vec_len answers.old + MAX_ANSWERS ≤ vec_capacity answers.old + 1 }
+    requires answers_room { vec_len answers.old
+        + 2 * (length (T.told transport.old).asks + length assign.old) ≤ vec_capacity answers.old }
+    requires gathering_room { 1 + 2 * (length (T.told transport.old).asks + length assign.old)
+        ≤ gathering.old.room }
     requires one { length gathering.old.seens ≡ 1 }
     requires r { length (first_answers gathering.old.seens) ≤ gathering.old.r }
     requires whats { All (λ a. a.what ≡ Fetch (snapshot_of key.now) since.now)
@@ -109,7 +110,8 @@ pub(crate) fn gather<J: Naming, T: Transport<J>, R: Wait>(
     requires none { gathering.old.seens ≡ [] }
     requires r { 1 ≤ gathering.old.r }
     requires no_answers { answers.old.items ≡ [] }
-    requires answers_room { MAX_ANSWERS ≤ vec_capacity answers.old }
+    requires answers_room { 2 * length list.now.nodes ≤ vec_capacity answers.old }
+    requires gathering_room { 2 * length list.now.nodes ≤ gathering.old.room }
     ensures collects { Collects list.now key.now gathering.old.r since.now coordinator own
         (T.told transport.new) gathering.new.seens answers.new.items }
     ensures tries { (T.told transport.new).tries ≡ (T.told transport.old).tries }

@@ -1,16 +1,17 @@
-ghost use Rattle.std.specs.Prelude.{◌≡◌, ◌≤◌, [], IfOk, IfErr, OnErr, IsOkUnless, vec_capacity};
+ghost use Rattle.std.specs.Prelude.{◌≡◌, ◌≤◌, ◌*◌, [], length, IfOk, IfErr, OnErr, IsOkUnless};
+ghost use Rattle.std.specs.Prelude.{vec_capacity};
 ghost use Rattle.dy_dots.specs.declared.nodes.TheConstants.{MAX_NODES};
+ghost use Rattle.dy_preference.specs.Preferences.{IsPreferred};
 ghost use Rattle.dy_shares.specs.Shares.{since_of, with_get};
 ghost use Rattle.dy_quorum.specs.Gatherings.{first_answers};
 ghost use Rattle.dy_transport.specs.Told.{Told};
 ghost use Rattle.dy_coord.specs.Gets.{IsGetRefused, IsGot};
-ghost use Rattle.dy_coord.specs.declared.put_reads.TheConstants.{MAX_ANSWERS};
 
 use crate::get_dones::GetDone;
 use crate::get_endings::finish;
 use crate::get_faults::GetFault;
 use crate::get_readings::gather;
-use crate::put_reads::MAX_ANSWERS;
+use crate::put_reads::most_answers;
 use dy_dots::Fault;
 use dy_preference::Preference;
 use dy_quorum::Gathering;
@@ -22,14 +23,21 @@ use std::alloc::Global;
 use std::sync::Wait;
 
 // What is made before the first try.
-fn prepare<J: Naming>(alloc: Global, r: u8) -> Result<(Vec<AnswerRead>, Gathering<J>), Fault>
+fn prepare<J: Naming>(
+    alloc: Global,
+    list: &Preference,
+    r: u8,
+) -> Result<(Vec<AnswerRead>, Gathering<J>), Fault>
     ensures none { IfOk result (λ p. p.0.items ≡ []) }
-    ensures room { IfOk result (λ p. MAX_ANSWERS ≤ vec_capacity p.0) }
-    ensures empty { IfOk result (λ p. p.1 ≡ record { r = r; seens = [] }) }
+    ensures room { IfOk result (λ p. 2 * length list.now.nodes ≤ vec_capacity p.0) }
+    ensures empty { IfOk result (λ p. p.1
+        ≡ record { r = r; room = 2 * length list.now.nodes; seens = [] }) }
+    ensures valid { IsPreferred list.now }
     ensures memory { IsOkUnless result Fault.OutOfMemory }
 {
-    let answers = Vec::with_capacity(alloc, MAX_ANSWERS)?;
-    let gathering = Gathering::new(alloc, r as usize)?;
+    let room = most_answers(list);
+    let answers = Vec::with_capacity(alloc, room)?;
+    let gathering = Gathering::new(alloc, r as usize, room)?;
     Ok((answers, gathering))
 }
 
@@ -60,12 +68,10 @@ pub fn get<J: Naming, T: Transport<J>, R: Wait>(
     ensures refused { IfErr result (λ e.
         IsGetRefused list.now key.now J.r (since_of session.old) (T.told transport.new) e) }
 {
-    let (mut answers, mut gathering) = match prepare(alloc, r) {
+    let (mut answers, mut gathering) = match prepare(alloc, list, r) {
         Ok(made) => made,
         Err(fault) => return Err(GetFault::early(alloc, fault)),
     };
-    // A list has no more nodes than there is room for.
-    let _nodes = list.nodes();
     let since = session.since();
     match look_somewhere(rt, transport, list, key, &since) {
         Somewhere::At(c, own) => {

@@ -1,9 +1,9 @@
-ghost use Rattle.std.specs.Prelude.{◌≡◌, ◌<◌, ◌≤◌, ◌+◌, ◌++◌, [], ◌∷◌, ℕ, IsTrue, length, map};
+ghost use Rattle.std.specs.Prelude.{◌≡◌, ◌≤◌, ◌+◌, ◌*◌, ◌++◌, [], ◌∷◌, ℕ, IsTrue, length, map};
 ghost use Rattle.std.specs.Prelude.{nat_eq, vec_capacity, vec_len};
 ghost use Rattle.std.specs.List.{All, IsDistinct};
 ghost use Rattle.dy_dots.specs.Dots.{same_dot};
-ghost use Rattle.dy_dots.specs.declared.nodes.TheConstants.{MAX_NODES};
 ghost use Rattle.dy_siblings.specs.Siblings.{has_dot};
+ghost use Rattle.dy_preference.specs.Preferences.{IsPreferred};
 ghost use Rattle.dy_shares.specs.Shares.{receipt_parts};
 ghost use Rattle.dy_transport.specs.Snapshots.{snapshot_of};
 ghost use Rattle.dy_transport.specs.Told.{Told};
@@ -13,11 +13,10 @@ ghost use Rattle.dy_reads.specs.Rules.{HasRead, IsReadOut, MayStandIn, as_read, 
 ghost use Rattle.dy_reads.specs.declared.requests.Request.TheVariants as request;
 ghost use Rattle.dy_coord.specs.Puts.{receipts_read};
 ghost use Rattle.dy_coord.specs.inside.PutReads.{first_of, receipt_at};
-ghost use Rattle.dy_coord.specs.declared.put_reads.TheConstants.{MAX_ANSWERS};
 
 use dy_dots::{Dot, NodeId};
 use dy_node::Answer;
-use dy_preference::Assign;
+use dy_preference::{Assign, Preference};
 use dy_quorum::Tally;
 use dy_reads::{Request, read_next};
 use dy_shares::{Naming, Receipt};
@@ -25,8 +24,13 @@ use dy_siblings::Row;
 use dy_transport::{AnswerRead, Transport};
 use std::sync::Wait;
 
-// How many answers a put, or a get, reads at most: its own, and two of each other node.
-pub(crate) const MAX_ANSWERS: usize = 63;
+// How many answers a put, or a get, makes room for: it reads two of each node at most.
+pub(crate) fn most_answers(list: &Preference) -> usize
+    ensures value { result ≡ 2 * length list.now.nodes }
+    ensures valid { IsPreferred list.now }
+{
+    2 * list.nodes().len()
+}
 
 // Whether the receipt is of the dot.
 fn is_of<J: Naming>(receipt: &Receipt<J>, dot: Dot) -> bool
@@ -73,8 +77,10 @@ pub(crate) fn read_put<J: Naming, T: Transport<J>, R: Wait>(
     requires fresh { (T.told transport.old).replies ≡ [] }
     requires room { length (T.told transport.old).asks + length assign.old
         ≤ (T.told transport.old).room }
-    requires few { length (T.told transport.old).asks + length assign.old < MAX_NODES }
-    requires answers_room { vec_len answers.old + MAX_ANSWERS ≤ vec_capacity answers.old + 1 }
+    requires answers_room { vec_len answers.old
+        + 2 * (length (T.told transport.old).asks + length assign.old) ≤ vec_capacity answers.old }
+    requires tally_room { 1 + 2 * (length (T.told transport.old).asks + length assign.old)
+        ≤ tally.old.room }
     requires dot { IsTrue (has_dot row.now.versions dot) }
     requires one_key { All (λ v. v.key ≡ row.now.key) row.now.versions }
     requires own { tally.old.added ≡ receipt_parts row.now.key dot coordinator held ∷ [] }

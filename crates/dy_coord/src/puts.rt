@@ -1,4 +1,4 @@
-ghost use Rattle.std.specs.Prelude.{◌≡◌, ◌<◌, ◌≤◌, ◌+◌, [], ℕ, length, IsTrue, IfOk};
+ghost use Rattle.std.specs.Prelude.{◌≡◌, ◌<◌, ◌≤◌, ◌+◌, ◌*◌, [], ℕ, length, IsTrue, IfOk};
 ghost use Rattle.std.specs.Prelude.{IsOkUnless, OnErr, vec_capacity};
 ghost use Rattle.dy_dots.specs.declared.faults.Fault.TheVariants as Fault;
 ghost use Rattle.dy_dots.specs.declared.nodes.TheConstants.{MAX_NODES};
@@ -13,9 +13,8 @@ ghost use Rattle.dy_reads.specs.Lists.{homes_in};
 ghost use Rattle.dy_coord.specs.Puts.{Spreads};
 ghost use Rattle.dy_coord.specs.PutEnds.{EndsAfter, PutEnds, PutRuns};
 ghost use Rattle.dy_coord.specs.PutDones.{IsPutDone};
-ghost use Rattle.dy_coord.specs.declared.put_reads.TheConstants.{MAX_ANSWERS};
 
-use crate::put_reads::{MAX_ANSWERS, read_put};
+use crate::put_reads::{most_answers, read_put};
 use crate::put_results::{PutDone, PutFault};
 use dy_core::Place;
 use dy_dots::{Context, Dot, Fault, NodeId};
@@ -30,13 +29,18 @@ use std::alloc::Global;
 use std::sync::Wait;
 
 // What is made before the first try.
-fn prepare<J: Naming>(alloc: Global, w: u8) -> Result<(Vec<AnswerRead>, Tally<J>), Fault>
-    ensures ok { IfOk result (λ p. (p.0.items ≡ []) × (MAX_ANSWERS ≤ vec_capacity p.0)
-        × (p.1 ≡ record { w = w; added = [] })) }
+fn prepare<J: Naming>(
+    alloc: Global,
+    list: &Preference,
+    w: u8,
+) -> Result<(Vec<AnswerRead>, Tally<J>), Fault>
+    ensures ok { IfOk result (λ p. (p.0.items ≡ []) × (2 * length list.now.nodes ≤ vec_capacity p.0)
+        × (p.1 ≡ record { w = w; room = 2 * length list.now.nodes; added = [] })) }
     ensures memory { IsOkUnless result Fault.OutOfMemory }
 {
-    let answers = Vec::with_capacity(alloc, MAX_ANSWERS)?;
-    let tally = Tally::new(alloc, w as usize)?;
+    let room = most_answers(list);
+    let answers = Vec::with_capacity(alloc, room)?;
+    let tally = Tally::new(alloc, w as usize, room)?;
     Ok((answers, tally))
 }
 
@@ -63,7 +67,8 @@ fn spread<J: Naming, T: Transport<J>, R: Wait>(
         ≡ receipt_parts row.now.key dot coordinator (home_for (homes_in list.now) coordinator) }
     requires none { tally.old.added ≡ [] }
     requires no_answers { answers.old.items ≡ [] }
-    requires answers_room { MAX_ANSWERS ≤ vec_capacity answers.old }
+    requires answers_room { 2 * length list.now.nodes ≤ vec_capacity answers.old }
+    requires tally_room { 2 * length list.now.nodes ≤ tally.old.room }
     ensures spreads { Spreads list.now row.now dot coordinator
         (T.told transport.new) tally.new.added answers.new.items }
     ensures tries { (T.told transport.new).tries ≡ (T.told transport.old).tries }
@@ -172,7 +177,7 @@ fn put_in_range<J: Naming, T: Transport<J>, R: Wait>(
         session.old session.new (T.told transport.new) result }
     ensures room { (T.told transport.new).room ≡ (T.told transport.old).room }
 {
-    let (mut answers, mut tally) = match prepare(alloc, w) {
+    let (mut answers, mut tally) = match prepare(alloc, list, w) {
         Ok(made) => made,
         Err(fault) => return Err(PutFault::early(alloc, fault)),
     };

@@ -7,16 +7,19 @@ use Rattle.dy_core.specs.declared.places.Place.{Place}
 use Rattle.dy_shares.specs.Codes.{answer_code}
 use Rattle.dy_quorum.specs.Firsts.{firsts_by}
 
--- what a gathering is seen as: how many homes its get needs, and the answers added, in order
+-- what a gathering is seen as: how many homes its get needs, how many answers it has room for, and
+-- those added, in order
 pub record Gathered : Type 0 where
   pub r : ℕ
+  pub room : ℕ
   pub seens : List Answer
 
 -- the code of a gathering
 abbrev pub gathered_code : Coded Gathered
 gathered_code =
-    code_by (ℕ × List Answer) (coded× coded_ℕ (coded_list answer_code))
-    (λ g. (g.r, g.seens)) (λ p. record { r = p.0; seens = p.1 }) (λ _. refl)
+    code_by (ℕ × (ℕ × List Answer)) (coded× coded_ℕ (coded× coded_ℕ (coded_list answer_code)))
+    (λ g. (g.r, (g.room, g.seens))) (λ p. record { r = p.0; room = p.1.0; seens = p.1.1 })
+    (λ _. refl)
 
 -- the homes of answers
 abbrev pub answer_homes : List Answer → List ℕ

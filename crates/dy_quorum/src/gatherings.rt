@@ -1,7 +1,8 @@
 ghost use Rattle.std.specs.Prelude.{◌≡◌, ◌<◌, ◌≤◌, ◌++◌, ◌∷◌, [], length, map, take, IfOk};
 ghost use Rattle.std.specs.Prelude.{IsOkUnless, MatchBool};
+ghost use Rattle.std.specs.Prelude.{◌==◌};
+ghost use Rattle.std.specs.List.{list_any};
 ghost use Rattle.dy_quorum.specs.Gatherings.{answer_place, first_answers};
-ghost use Rattle.dy_quorum.specs.declared.gatherings.TheConstants.{GATHERING_ROOM};
 
 use dy_core::Place;
 use dy_dots::{Fault, NodeId};
@@ -9,58 +10,62 @@ use dy_shares::{Naming, Seen};
 use std::alloc::Global;
 use std::marker::Model;
 
-/// How many answers a gathering has room for.
-pub const GATHERING_ROOM: usize = 64;
-
 /// The answers of one get, and the first of each home among them: a home that answers twice, as by
 /// a stand-in and then itself, counts once.
 #[derive(Drop)]
 pub struct Gathering<J: Naming> {
     r: usize,
+    room: usize,
     seens: Vec<Seen<J>>,
-    homes: Vec<NodeId>,
     places: Vec<Place>,
 }
 
 impl<J: Naming> Model for Gathering<J> {
     ghost use Rattle.std.specs.Prelude.{◌≡◌, ◌≤◌, length, map, vec_capacity};
     ghost use Rattle.dy_quorum.specs.Firsts.{AreFirstsBy};
-    ghost use Rattle.dy_quorum.specs.Gatherings.{Gathered, answer_homes, answer_place};
-    ghost use Rattle.dy_quorum.specs.Gatherings.{first_answers, gathered_code};
-    ghost use Rattle.dy_quorum.specs.declared.gatherings.TheConstants.{GATHERING_ROOM};
+    ghost use Rattle.dy_quorum.specs.Gatherings.{Gathered, answer_place, first_answers};
+    ghost use Rattle.dy_quorum.specs.Gatherings.{gathered_code};
 
     ghost Value = { Gathered };
 
     ghost coded = { gathered_code };
 
-    ghost view = { λ g. record { r = g.r; seens = g.seens.items } };
+    ghost view = { λ g. record { r = g.r; room = g.room; seens = g.seens.items } };
 
     ghost invariant = { λ g.
-        (g.homes.items ≡ answer_homes (first_answers g.seens.items))
-        × (g.places.items ≡ map answer_place (first_answers g.seens.items))
+        (g.places.items ≡ map answer_place (first_answers g.seens.items))
         × AreFirstsBy (λ a. a.home) g.seens.items (first_answers g.seens.items)
-        × (length g.seens.items ≤ GATHERING_ROOM)
-        × (GATHERING_ROOM ≤ vec_capacity g.seens)
-        × (GATHERING_ROOM ≤ vec_capacity g.homes)
-        × (GATHERING_ROOM ≤ vec_capacity g.places) };
+        × (length g.seens.items ≤ g.room)
+        × (g.room ≤ vec_capacity g.seens)
+        × (g.room ≤ vec_capacity g.places) };
+}
+
+// Whether one of the places is for the home.
+fn has_home(places: &[Place], home: NodeId) -> bool
+    ensures { result ≡ list_any (λ p. p.home == home) places.now }
+{
+    places.iter().any(|place| place.home == home)
+}
+
+// Whether one of the answers is of the home.
+fn has_answer<J: Naming>(seens: &[Seen<J>], home: NodeId) -> bool
+    ensures { result ≡ list_any (λ a. a.home == home) seens.now }
+{
+    seens.iter().any(|seen| seen.home() == home)
 }
 
 // Copies the first answer of each home.
 fn copy_firsts<J: Naming>(
     alloc: Global,
     seens: &[Seen<J>],
-    homes: &mut Vec<NodeId>,
     chosen: &mut Vec<Seen<J>>,
 ) -> Result<(), Fault>
-    requires no_homes { homes.old.items ≡ [] }
     requires none_chosen { chosen.old.items ≡ [] }
     ensures value { IfOk result (λ _. chosen.new.items ≡ first_answers seens.now) }
     ensures memory { IsOkUnless result Fault.OutOfMemory }
 {
     for seen in seens {
-        let home = seen.home();
-        if !homes.contains(&home) {
-            homes.push(home)?;
+        if !has_answer(chosen, seen.home()) {
             chosen.push(seen.try_clone(alloc)?)?;
         }
     }
@@ -68,31 +73,33 @@ fn copy_firsts<J: Naming>(
 }
 
 impl<J: Naming> Gathering<J> {
-    /// No answers yet, of a get that needs r homes.
-    pub fn new(alloc: Global, r: usize) -> Result<Gathering<J>, Fault>
-        ensures value { IfOk result (λ g. g ≡ record { r = r; seens = [] }) }
+    /// No answers yet, of a get that needs r homes, and room for so many.
+    pub fn new(alloc: Global, r: usize, room: usize) -> Result<Gathering<J>, Fault>
+        ensures value { IfOk result (λ g. g ≡ record { r = r; room = room; seens = [] }) }
         ensures memory { IsOkUnless result Fault.OutOfMemory }
     {
-        let seens = Vec::with_capacity(alloc, GATHERING_ROOM)?;
-        let homes = Vec::with_capacity(alloc, GATHERING_ROOM)?;
-        let places = Vec::with_capacity(alloc, GATHERING_ROOM)?;
+        let seens = Vec::with_capacity(alloc, room)?;
+        let places = Vec::with_capacity(alloc, room)?;
         Ok(Gathering {
             r,
+            room,
             seens,
-            homes,
             places,
         })
     }
 
     /// Adds the answer. Takes no memory.
     pub fn add(&mut self, seen: Seen<J>)
-        requires { length self.old.seens < GATHERING_ROOM }
-        ensures { self.new ≡ record { r = self.old.r; seens = self.old.seens ++ seen ∷ [] } }
+        requires { length self.old.seens < self.old.room }
+        ensures { self.new ≡ record {
+          r = self.old.r;
+          room = self.old.room;
+          seens = self.old.seens ++ seen ∷ [];
+        } }
     {
         let home = seen.home();
         let holder = seen.holder();
-        if !self.homes.contains(&home) {
-            self.homes.push_reserved(home);
+        if !has_home(&self.places, home) {
             self.places.push_reserved(Place { holder, home });
         }
         self.seens.push_reserved(seen);
@@ -104,7 +111,7 @@ impl<J: Naming> Gathering<J> {
             (self.now.r ≤ length (first_answers self.now.seens))
             (length (first_answers self.now.seens) < self.now.r) }
     {
-        self.r <= self.homes.len()
+        self.r <= self.places.len()
     }
 
     /// Copies of the first answer of each home, in the order in which they were added.
@@ -112,9 +119,8 @@ impl<J: Naming> Gathering<J> {
         ensures value { IfOk result (λ v. v.items ≡ first_answers self.now.seens) }
         ensures memory { IsOkUnless result Fault.OutOfMemory }
     {
-        let mut homes = Vec::with_capacity(alloc, self.homes.len())?;
-        let mut chosen = Vec::with_capacity(alloc, self.homes.len())?;
-        copy_firsts(alloc, &self.seens, &mut homes, &mut chosen)?;
+        let mut chosen = Vec::with_capacity(alloc, self.places.len())?;
+        copy_firsts(alloc, &self.seens, &mut chosen)?;
         Ok(chosen)
     }
 
@@ -126,8 +132,8 @@ impl<J: Naming> Gathering<J> {
     {
         let Gathering {
             r: _,
+            room: _,
             seens,
-            homes: _,
             places,
         } = self;
         (seens, places)

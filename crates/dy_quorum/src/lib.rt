@@ -6,7 +6,7 @@ mod laws;
 mod merges;
 mod tallies;
 
-pub use gatherings::{GATHERING_ROOM, Gathering};
+pub use gatherings::Gathering;
 pub use laws::{distinct_homes_are_enough, first_answers_are_one_a_home};
 pub use merges::merge_all;
-pub use tallies::{TALLY_ROOM, Tally};
+pub use tallies::Tally;

@@ -2,21 +2,18 @@ ghost use Rattle.std.specs.Prelude.{◌≡◌, ◌<◌, ◌≤◌, ◌++◌, ◌
 ghost use Rattle.std.specs.Prelude.{IsOkUnless, MatchBool, vec_capacity};
 ghost use Rattle.dy_quorum.specs.Tallies.{Counted, Agrees, DoAgree, FitsAll, IsChoice, CanChoose};
 ghost use Rattle.dy_quorum.specs.inside.Counting.{firsts};
-ghost use Rattle.dy_quorum.specs.declared.tallies.TheConstants.{TALLY_ROOM};
 
 use dy_dots::{Fault, NodeId};
 use dy_shares::{Naming, Receipt};
 use std::alloc::Global;
 use std::marker::Model;
 
-/// How many receipts a tally has room for.
-pub const TALLY_ROOM: usize = 64;
-
 /// The receipts of one put, and the homes among them. Among receipts that fit, a holder holds for
 /// one home, so receipts of distinct homes have distinct holders, and it is enough to count homes.
 #[derive(Drop)]
 pub struct Tally<J: Naming> {
     w: usize,
+    room: usize,
     added: Vec<Receipt<J>>,
     homes: Vec<NodeId>,
     chosen: Vec<Receipt<J>>,
@@ -26,19 +23,18 @@ impl<J: Naming> Model for Tally<J> {
     ghost use Rattle.std.specs.Prelude.{◌≡◌, ◌≤◌, [], length, map, vec_capacity};
     ghost use Rattle.dy_quorum.specs.Tallies.{Counted, DoAgree};
     ghost use Rattle.dy_quorum.specs.inside.Counting.{IsCount, firsts};
-    ghost use Rattle.dy_quorum.specs.declared.tallies.TheConstants.{TALLY_ROOM};
 
     ghost Value = { Counted };
 
-    ghost view = { λ t. record { w = t.w; added = t.added.items } };
+    ghost view = { λ t. record { w = t.w; room = t.room; added = t.added.items } };
 
     ghost invariant = { λ t.
         (t.homes.items ≡ map (λ r. r.home) (firsts t.added.items))
         × IsCount t.added.items (firsts t.added.items)
-        × (length t.added.items ≤ TALLY_ROOM)
-        × (TALLY_ROOM ≤ vec_capacity t.added)
-        × (TALLY_ROOM ≤ vec_capacity t.homes)
-        × (TALLY_ROOM ≤ vec_capacity t.chosen)
+        × (length t.added.items ≤ t.room)
+        × (t.room ≤ vec_capacity t.added)
+        × (t.room ≤ vec_capacity t.homes)
+        × (t.room ≤ vec_capacity t.chosen)
         × (t.chosen.items ≡ [])
         × DoAgree t.added.items };
 }
@@ -68,9 +64,8 @@ fn first_of_each<J: Naming>(
     mut homes: Vec<NodeId>,
     mut chosen: Vec<Receipt<J>>,
 ) -> Vec<Receipt<J>>
-    requires few { length added.items ≤ TALLY_ROOM }
-    requires homes { TALLY_ROOM ≤ vec_capacity homes }
-    requires chosen { TALLY_ROOM ≤ vec_capacity chosen }
+    requires homes { length added.items ≤ vec_capacity homes }
+    requires chosen { length added.items ≤ vec_capacity chosen }
     requires empty { chosen.items ≡ [] }
     ensures { result.items ≡ firsts added.items }
 {
@@ -86,16 +81,17 @@ fn first_of_each<J: Naming>(
 }
 
 impl<J: Naming> Tally<J> {
-    /// No receipts yet, of a put that needs w homes.
-    pub fn new(alloc: Global, w: usize) -> Result<Tally<J>, Fault>
+    /// No receipts yet, of a put that needs w homes, and room for so many.
+    pub fn new(alloc: Global, w: usize, room: usize) -> Result<Tally<J>, Fault>
         ensures memory { IsOkUnless result Fault.OutOfMemory }
-        ensures value { IfOk result (λ t. t ≡ record { w = w; added = [] }) }
+        ensures value { IfOk result (λ t. t ≡ record { w = w; room = room; added = [] }) }
     {
-        let added = Vec::with_capacity(alloc, TALLY_ROOM)?;
-        let homes = Vec::with_capacity(alloc, TALLY_ROOM)?;
-        let chosen = Vec::with_capacity(alloc, TALLY_ROOM)?;
+        let added = Vec::with_capacity(alloc, room)?;
+        let homes = Vec::with_capacity(alloc, room)?;
+        let chosen = Vec::with_capacity(alloc, room)?;
         Ok(Tally {
             w,
+            room,
             added,
             homes,
             chosen,
@@ -113,17 +109,20 @@ impl<J: Naming> Tally<J> {
     /// Whether there is no room for one more. Takes no memory.
     pub fn is_full(&self) -> bool
         ensures { MatchBool result
-            (length self.now.added ≡ TALLY_ROOM) (length self.now.added < TALLY_ROOM) }
+            (length self.now.added ≡ self.now.room) (length self.now.added < self.now.room) }
     {
-        self.added.len() == TALLY_ROOM
+        self.added.len() == self.room
     }
 
     /// Adds the receipt. Takes no memory.
     pub fn add(&mut self, receipt: Receipt<J>)
         requires fits { FitsAll self.old.added receipt }
-        requires room { length self.old.added < TALLY_ROOM }
-        ensures value { self.new
-            ≡ record { w = self.old.w; added = self.old.added ++ receipt ∷ [] } }
+        requires room { length self.old.added < self.old.room }
+        ensures value { self.new ≡ record {
+          w = self.old.w;
+          room = self.old.room;
+          added = self.old.added ++ receipt ∷ [];
+        } }
         ensures agree { DoAgree self.new.added }
     {
         let home = receipt.home();
@@ -152,6 +151,7 @@ impl<J: Naming> Tally<J> {
     {
         let Tally {
             w,
+            room: _,
             added,
             homes,
             chosen,

@@ -15,7 +15,6 @@ use Rattle.std.proofs.lemmas.List.Elements.{Contains-append_cases}
 use Rattle.std.proofs.lemmas.List.Kept.{AllPairs-cons, AllPairs-filter}
 use Rattle.std.proofs.lemmas.Map.Made.{AllPairs-from_IsDistinct, IsDistinct-from_AllPairs}
 use Rattle.std.specs.List.{All, AllPairs, Contains, IsDistinct, slice_get}
-use Rattle.dy_dots.specs.declared.nodes.TheConstants.{MAX_NODES}
 use Rattle.dy_siblings.proofs.Members.{any_gives, any_from, filter_in, in_cases, not_in_nil}
 use Rattle.dy_preference.specs.Preferences.{Preferred, IsPreferred, home_for, is_home, may_hold}
 use Rattle.dy_preference.specs.Preferences.{stand_ins_of}
@@ -129,7 +128,7 @@ held_is_home list c p = elim (cases_Bool (is_home (homes_in list) c)) [
 -- a coordinator asks all nodes but one at most
 pub few_asked : (list : Preferred) (what : What) (c : ℕ) → IsPreferred list
     → length (home_asks what (home_for (homes_in list) c) (homes_in list)) + length (stand_ins_of
-    list.nodes list.n c) < MAX_NODES
+    list.nodes list.n c) < length list.nodes
 few_asked list what c p =
     let held : ℕ = home_for (homes_in list) c in
     let less : length (asked_homes held (homes_in list)) < length (homes_in list) =
@@ -137,7 +136,6 @@ few_asked list what c p =
     (rw (eq-eqb held held refl) refl) in
     let le : length (stand_ins_of list.nodes list.n c) ≤ length (drop list.n list.nodes) = filter_le
     (other_than c) (drop list.n list.nodes) in
-    let few = p.few in
     let enough = p.enough in
     omega (
       arith,

@@ -1,10 +1,10 @@
 -- There is room for all that may be asked and read, and what was read is the coordinator's own row
 -- and what the replies bring.
-use Rattle.std.proofs.Common.{◌≡◌, ◌<◌, ◌≤◌, ◌+◌, ◌∷◌, List, length, arith, sym, ◌∙◌}
+use Rattle.std.proofs.Common.{◌≡◌, ◌≤◌, ◌∷◌, List, length, arith, sym, ◌∙◌}
 use Rattle.std.proofs.Common.{[], refl, ap, subst}
 use Rattle.std.proofs.lemmas.List.Elements.{All-cons, All-nil}
 use Rattle.std.specs.List.{All, Contains}
-use Rattle.dy_preference.specs.Preferences.{home_for, stand_ins_of}
+use Rattle.dy_preference.specs.Preferences.{home_for}
 use Rattle.dy_core.specs.Logs.{Answer}
 use Rattle.dy_transport.specs.Snapshots.{snapshot_of}
 use Rattle.dy_transport.specs.declared.asked.Asked.{Asked}
@@ -28,10 +28,9 @@ ask_homes-requires-clause-room g c =
 pub read_rows-requires-clause-room : goal.read_rows-requires-clause-room
 read_rows-requires-clause-room g c =
     let what = Fetch (snapshot_of c.args.key.now) c.args.since.now in
-    let few : length (home_asks what (home_for (homes_in c.args.list.now) c.args.coordinator)
-    (homes_in c.args.list.now))
-    + length (stand_ins_of c.args.list.now.nodes c.args.list.now.n c.args.coordinator) < 32 =
-    few_asked c.args.list.now what c.args.coordinator c.requires.valid in
+    let asked = few_asked c.args.list.now what c.args.coordinator c.requires.valid in
+    let p = c.requires.valid in
+    let few : length c.args.list.now.nodes ≤ 32 = p.few in
     let room : 32 ≤ (g.T.Transport.told c.args.transport.now).room = c.requires.room in
     rw (
       c.ask_homes.ensures.room,
@@ -41,16 +40,33 @@ read_rows-requires-clause-room g c =
       c.new-assign.ensures.value,
     ) (omega arith)
 
-pub read_rows-requires-clause-few : goal.read_rows-requires-clause-few
-read_rows-requires-clause-few g c =
+pub read_rows-requires-clause-answers_room : goal.read_rows-requires-clause-answers_room
+read_rows-requires-clause-answers_room g c =
     let what = Fetch (snapshot_of c.args.key.now) c.args.since.now in
-    let few = few_asked c.args.list.now what c.args.coordinator c.requires.valid in
+    let asked = few_asked c.args.list.now what c.args.coordinator c.requires.valid in
+    let room = c.requires.answers_room in
+    let none = ap length c.requires.no_answers in
     rw (
       c.ask_homes.ensures.asks,
       c.requires.fresh_asks,
       c.home_for-held.ensures.value,
       c.new-assign.ensures.value,
-    ) few
+      c.push_reserved.ensures.len,
+      c.push_reserved.ensures.capacity,
+    ) (omega (arith, c.args.answers.now.ok))
+
+pub read_rows-requires-clause-gathering_room : goal.read_rows-requires-clause-gathering_room
+read_rows-requires-clause-gathering_room g c =
+    let what = Fetch (snapshot_of c.args.key.now) c.args.since.now in
+    let asked = few_asked c.args.list.now what c.args.coordinator c.requires.valid in
+    let room = c.requires.gathering_room in
+    let same = ap (λ t. t.room) c.add.ensures in
+    rw (
+      c.ask_homes.ensures.asks,
+      c.requires.fresh_asks,
+      c.home_for-held.ensures.value,
+      c.new-assign.ensures.value,
+    ) (omega arith)
 
 pub read_rows-requires-clause-whats : goal.read_rows-requires-clause-whats
 read_rows-requires-clause-whats g c =

@@ -1,9 +1,9 @@
 -- One answer more: what the loop keeps stays true, field by field, whether it has a row or not. The
 -- loop ends with the gathering ready, or with nothing left to read.
-use Rattle.std.proofs.Common.{rules, ◌<◌, ◌≤◌, ◌+◌, length, arith}
+use Rattle.std.proofs.Common.{rules, ◌<◌, length, arith}
 use Rattle.std.proofs.lemmas.List.Elements.{All-push}
 use Rattle.std.specs.List.{Contains}
-use Rattle.std.proofs.Common.{◌∙◌, refl, ap, vec_len, vec_capacity}
+use Rattle.std.proofs.Common.{◌∙◌, refl, ap}
 use Rattle.dy_quorum.specs.Gatherings.{first_answers}
 use Rattle.dy_transport.specs.Snapshots.{snapshot_of}
 use Rattle.dy_transport.specs.Told.{reply}
@@ -37,11 +37,9 @@ read_next-requires-clause-answers_room g c =
     let inv = c.reading.invariant in
     let n = reading_count what start.asks c.args.assign.now told.asks told.replies
     c.reading.assign inv.reading in
-    let few : length start.asks + length c.args.assign.now < 32 = c.requires.few in
     let len = inv.answers_len in
     let cap = inv.answers_room in
-    let room : vec_len c.args.answers.now + 63 ≤ vec_capacity c.args.answers.now + 1 =
-    c.requires.answers_room in
+    let room = c.requires.answers_room in
     λ within. omega arith
 
 pub add-requires : goal.add-requires
@@ -52,7 +50,8 @@ add-requires g c =
     let inv = c.reading.invariant in
     let n = reading_count what start.asks c.args.assign.now told.asks told.replies
     c.reading.assign inv.reading in
-    let few : length start.asks + length c.args.assign.now < 32 = c.requires.few in
+    let room = c.requires.gathering_room in
+    let same = inv.gathering_room in
     let count = inv.count in
     let q = c.in-Some-read_next.ensures.some.1 in
     let within = q.within in
@@ -82,6 +81,7 @@ reading-preserved-in-Some-seen_of g c =
       seens = seens_added _ _ _ told.replies new.replies r _ inv.seens
           c.in-Some-seen_of.ensures.some now q.replies;
       count = count_added _ _ told.replies new.replies r _ inv.count now q.replies;
+      gathering_room = ap (λ t. t.room) c.add.ensures ∙ inv.gathering_room;
       r = ap (λ t. t.r) c.add.ensures ∙ inv.r;
       most = most_added _ _ _ _ below now;
       stops = stops_after _ _ _ told.replies new.replies r inv.seens below q.replies;
@@ -121,6 +121,7 @@ reading-preserved g c =
       tries = q.tries ∙ inv.tries;
       seens = seens_kept _ _ told.replies new.replies r inv.seens none q.replies;
       count = count_kept _ told.replies new.replies r inv.count q.replies;
+      gathering_room = inv.gathering_room;
       r = inv.r;
       most = inv.most;
       stops = stops_after _ _ _ told.replies new.replies r inv.seens below q.replies;

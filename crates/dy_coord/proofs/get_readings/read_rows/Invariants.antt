@@ -19,6 +19,7 @@ invariant-reading g l =
       tries : told.tries ≡ start.tries;
       seens : l.gathering.seens ≡ l.initial.gathering.seens ++ seens_of told.replies;
       count : length l.gathering.seens ≤ 1 + length told.replies;
+      gathering_room : l.gathering.room ≡ l.initial.gathering.room;
       r : l.gathering.r ≡ l.initial.gathering.r;
       most : length (first_answers l.gathering.seens) ≤ l.initial.gathering.r;
       stops : StopsSoon l.initial.gathering.r l.initial.gathering.seens told.replies;

@@ -35,7 +35,6 @@ read_next-requires-clause-answers_room g c =
     let n = reading_count (Store (snapshot_of c.args.row.now)) start.asks c.args.assign.now
     told.asks
     told.replies c.reading.assign inv.reading in
-    let few = c.requires.few in
     let len = inv.answers_len in
     let cap = inv.answers_room in
     let room = c.requires.answers_room in
@@ -49,7 +48,8 @@ add-requires-clause-room g c =
     let n = reading_count (Store (snapshot_of c.args.row.now)) start.asks c.args.assign.now
     told.asks
     told.replies c.reading.assign inv.reading in
-    let few = c.requires.few in
+    let room = c.requires.tally_room in
+    let same = inv.tally_room in
     let count = inv.count in
     let q = c.in-Some-read_next.ensures.some.1 in
     let within = q.within in
@@ -100,6 +100,7 @@ reading-preserved-in-Some-receipt_in g c =
           q.replies;
       agree = c.add.ensures.agree;
       count = count_more told.replies new.replies r _ _ _ inv.count now q.replies;
+      tally_room = ap (λ t. t.room) c.add.ensures.value ∙ inv.tally_room;
       w = ap (λ t. t.w) c.add.ensures.value ∙ inv.w;
       answers = listed_more _ _ _ told.replies new.replies r _ c.in-Some-read_next.ensures.listed
           refl inv.answers q.replies;
@@ -131,6 +132,7 @@ reading-preserved g c =
       added = added_same row.key c.args.dot told.replies new.replies r _ _ inv.added none q.replies;
       agree = inv.agree;
       count = count_same told.replies new.replies r _ inv.count q.replies;
+      tally_room = inv.tally_room;
       w = inv.w;
       answers = listed_more _ _ _ told.replies new.replies r _ c.in-Some-read_next.ensures.listed
           refl inv.answers q.replies;

@@ -1,6 +1,7 @@
 -- From the homes on: those asked and those left are few and all different, may hold, and are asked
 -- for one row; so a put reads until nothing is left, by the rule.
-use Rattle.std.proofs.Common.{◌≡◌, ◌++◌, ◌∷◌, ℕ, List, nat_eq, arith, sym, ◌∙◌, refl, ap, subst}
+use Rattle.std.proofs.Common.{◌≡◌, ◌++◌, ◌∷◌, ℕ, List, length, nat_eq, arith, sym, ◌∙◌, refl, ap}
+use Rattle.std.proofs.Common.{subst}
 use Rattle.std.specs.List.{All, IsDistinct}
 use Rattle.dy_preference.specs.Preferences.{home_for, stand_ins_of}
 use Rattle.dy_transport.specs.Snapshots.{snapshot_of}
@@ -27,8 +28,9 @@ ask_homes-requires-clause-may_ask g c =
 
 pub read_put-requires-clause-room : goal.read_put-requires-clause-room
 read_put-requires-clause-room g c =
-    let few = few_asked c.args.list.now (Store (snapshot_of c.args.row.now)) c.args.coordinator
+    let asked = few_asked c.args.list.now (Store (snapshot_of c.args.row.now)) c.args.coordinator
     c.requires.valid in
+    let few = c.requires.valid.few in
     let room = c.requires.room in
     rw (
       c.ask_homes.ensures.room,
@@ -38,16 +40,33 @@ read_put-requires-clause-room g c =
       c.new-assign.ensures.value,
     ) (omega arith)
 
-pub read_put-requires-clause-few : goal.read_put-requires-clause-few
-read_put-requires-clause-few g c =
-    let few = few_asked c.args.list.now (Store (snapshot_of c.args.row.now)) c.args.coordinator
+pub read_put-requires-clause-answers_room : goal.read_put-requires-clause-answers_room
+read_put-requires-clause-answers_room g c =
+    let asked = few_asked c.args.list.now (Store (snapshot_of c.args.row.now)) c.args.coordinator
     c.requires.valid in
+    let room = c.requires.answers_room in
+    let none = ap length c.requires.no_answers in
     rw (
       c.ask_homes.ensures.asks,
       c.requires.fresh_asks,
       c.home_for-held.ensures.value,
       c.new-assign.ensures.value,
-    ) few
+      c.push_reserved.ensures.len,
+      c.push_reserved.ensures.capacity,
+    ) (omega (arith, c.args.answers.now.ok))
+
+pub read_put-requires-clause-tally_room : goal.read_put-requires-clause-tally_room
+read_put-requires-clause-tally_room g c =
+    let asked = few_asked c.args.list.now (Store (snapshot_of c.args.row.now)) c.args.coordinator
+    c.requires.valid in
+    let room = c.requires.tally_room in
+    let same = ap (λ t. t.room) c.add.ensures.value in
+    rw (
+      c.ask_homes.ensures.asks,
+      c.requires.fresh_asks,
+      c.home_for-held.ensures.value,
+      c.new-assign.ensures.value,
+    ) (omega arith)
 
 pub read_put-requires-clause-whats : goal.read_put-requires-clause-whats
 read_put-requires-clause-whats g c =

@@ -1,9 +1,8 @@
 use Rattle.std.proofs.Common.{◌≡◌, take}
-use Rattle.dy_quorum.specs.Gatherings.{answer_homes, first_answers}
+use Rattle.dy_quorum.specs.Gatherings.{first_answers}
 use Rattle.dy_quorum.proofs.gatherings.copy_firsts.Given as goal
 
 abbrev pub invariant-loop-seen : goal.invariant-loop-seen
 invariant-loop-seen g l = record {
   chosen : l.chosen.items ≡ first_answers (take l.seen-index l.seens);
-  homes : l.homes.items ≡ answer_homes (first_answers (take l.seen-index l.seens));
 }

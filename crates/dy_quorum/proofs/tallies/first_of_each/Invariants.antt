@@ -7,6 +7,6 @@ invariant-loop-receipt g l = record {
   chosen : l.chosen.items ≡ firsts l.yielded;
   homes : l.homes.items ≡ receipt_homes (firsts l.yielded);
   few : length (firsts l.yielded) ≤ length l.yielded;
-  homes_room : 64 ≤ vec_capacity l.homes;
-  chosen_room : 64 ≤ vec_capacity l.chosen;
+  homes_room : length l.fn.added.items ≤ vec_capacity l.homes;
+  chosen_room : length l.fn.added.items ≤ vec_capacity l.chosen;
 }

@@ -15,15 +15,15 @@ push_reserved-requires g c =
     let f = i.firsts_are in
     let few = f.few in
     let cap = c.self.invariant.4 in
-    let P : Counted → Type 0 = λ t. length t.added < 64 in
-    let room : length c.self.inside.added.items < 64 = subst P (sym c.self.view_is) c.requires.room in
+    let P : Counted → Type 0 = λ t. length t.added < t.room in
+    let room : length c.self.inside.added.items < c.self.inside.room = subst P (sym c.self.view_is) c.requires.room in
     omega (arith, c.self.inside.homes.ok)
 
 pub invariant_of-self : goal.invariant_of-self
 invariant_of-self g c =
     let inv = c.self.invariant in
-    let P : Counted → Type 0 = λ t. length t.added < 64 in
-    let room : length c.self.inside.added.items < 64 = subst P (sym c.self.view_is) c.requires.room in
+    let P : Counted → Type 0 = λ t. length t.added < t.room in
+    let room : length c.self.inside.added.items < c.self.inside.room = subst P (sym c.self.view_is) c.requires.room in
     let Q : Counted → Type 0 = λ t. FitsAll t.added c.args.receipt in
     let fits : FitsAll c.self.inside.added.items c.args.receipt = subst Q (sym c.self.view_is) c.requires.fits in
     let tested = rw (c.deref.ensures.value, c.home-home.ensures) at c.contains.ensures.value in
