@@ -1,4 +1,6 @@
 pub mod KnownKeys
 pub mod ListsRead
+pub mod LookUps
+pub mod Ranges
 pub mod TextsRead
 pub mod TokenPositions

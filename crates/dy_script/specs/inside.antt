@@ -1,3 +1,4 @@
 -- What contracts of private functions alone speak of.
+pub mod Documents
 pub mod Keys
 pub mod Readings

@@ -2,7 +2,9 @@
 #![tactic(auto)]
 
 mod commands;
+mod documents;
 mod members;
+mod numbers;
 mod orders;
 mod reading;
 mod scripts;

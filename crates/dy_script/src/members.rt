@@ -1,25 +1,25 @@
-ghost use Rattle.std.specs.Prelude.{◌≡◌, map, option_map, string_bytes};
+ghost use Rattle.std.specs.Prelude.{◌≡◌, map, option_map};
 ghost use Rattle.std.specs.List.{list_all};
-ghost use Rattle.std.specs.Map.{keys_of};
+ghost use Rattle.dy_script.specs.inside.Documents.{view, items_view, members_view};
 ghost use Rattle.dy_script.specs.inside.Keys.{is_one_of};
-ghost use Rattle.serde_json.specs.Find.{get as member_of};
-ghost use Rattle.serde_json.specs.View.{view, items_view};
-ghost use Rattle.dy_script.specs.Members.{need, seen, allow_only, text, small, flag};
+ghost use Rattle.serde_json.specs.Find.{get as member_of, as_str, as_bool, as_array, as_object};
+ghost use Rattle.dy_script.specs.Members.{seen, allow_only, text, small, flag};
 ghost use Rattle.dy_script.specs.Members.{optional_text, optional_list, optional_whole};
 ghost use Rattle.dy_script.specs.Members.{optional_small, as_whole, as_small};
 
+use crate::numbers::number_of;
 use dy_dots::Fault;
-use serde_json::{Map, Value};
+use json::Value;
 
 /// The members of one JSON value, which has none where it is no object, and the number of the
 /// command that it stands for, 0 for the script itself.
 #[derive(Clone, Copy)]
-pub(crate) struct Members<'a> {
-    pub(crate) value: &'a Value,
+pub(crate) struct Members<'v, 'a> {
+    pub(crate) value: &'v Value<'a>,
     pub(crate) command: u32,
 }
 
-impl<'a> Members<'a> {
+impl<'v, 'a> Members<'v, 'a> {
     /// The refusal of a wrong member.
     pub(crate) fn fault(&self) -> Fault
         ensures { result ≡ Fault.ScriptSyntax self.now.command }
@@ -35,10 +35,10 @@ impl<'a> Members<'a> {
         ensures { result ≡ allow_only self.now.command (map (λ name. name.now) names.now)
             (view self.now.value.now) }
     {
-        let Some(object) = self.value.as_object() else {
+        let Some(members) = object_of(self.value) else {
             return Err(self.fault());
         };
-        if has_only(object, names) {
+        if has_only(members, names) {
             Ok(())
         } else {
             Err(self.fault())
@@ -46,7 +46,7 @@ impl<'a> Members<'a> {
     }
 
     /// The member of this name, where it is there.
-    pub(crate) fn get(&self, name: &str) -> Option<&'a Value>
+    pub(crate) fn get(&self, name: &str) -> Option<&'v Value<'a>>
         ensures { option_map (λ v. view v.now) result
             ≡ member_of name.now (view self.now.value.now) }
     {
@@ -59,7 +59,7 @@ impl<'a> Members<'a> {
         ensures { seen (λ s. s.now) result
             ≡ text self.now.command name.now (view self.now.value.now) }
     {
-        match self.get(name).and_then(Value::as_str) {
+        match self.get(name).and_then(text_of) {
             Some(text) => Ok(text),
             None => Err(self.fault()),
         }
@@ -72,7 +72,7 @@ impl<'a> Members<'a> {
             ≡ optional_text self.now.command name.now (view self.now.value.now) }
     {
         match self.get(name) {
-            Some(value) => match value.as_str() {
+            Some(value) => match text_of(value) {
                 Some(text) => Ok(Some(text)),
                 None => Err(self.fault()),
             },
@@ -82,13 +82,13 @@ impl<'a> Members<'a> {
 
     /// The elements of the list of this name, where it is there.
     #[tactic(auto, unfolding(crate::specs::Members::optional_list))]
-    pub(crate) fn optional_list(&self, name: &str) -> Result<Option<&'a [Value]>, Fault>
+    pub(crate) fn optional_list(&self, name: &str) -> Result<Option<&'v [Value<'a>]>, Fault>
         ensures { seen (option_map (λ vs. items_view vs.now)) result
             ≡ optional_list self.now.command name.now (view self.now.value.now) }
     {
         match self.get(name) {
-            Some(value) => match value.as_array() {
-                Some(list) => Ok(Some(list.as_slice())),
+            Some(value) => match list_of(value) {
+                Some(list) => Ok(Some(list)),
                 None => Err(self.fault()),
             },
             None => Ok(None),
@@ -102,7 +102,7 @@ impl<'a> Members<'a> {
             ≡ optional_whole self.now.command name.now (view self.now.value.now) }
     {
         match self.get(name) {
-            Some(value) => match value.as_u64() {
+            Some(value) => match whole_of(value) {
                 Some(number) => Ok(Some(number)),
                 None => Err(self.fault()),
             },
@@ -142,7 +142,7 @@ impl<'a> Members<'a> {
         ensures { result ≡ flag self.now.command name.now (view self.now.value.now) }
     {
         match self.get(name) {
-            Some(value) => match value.as_bool() {
+            Some(value) => match flag_of(value) {
                 Some(flag) => Ok(flag),
                 None => Err(self.fault()),
             },
@@ -151,22 +151,62 @@ impl<'a> Members<'a> {
     }
 }
 
+/// The text that the value is.
+pub(crate) fn text_of<'a>(value: &Value<'a>) -> Option<&'a str>
+    ensures { option_map (λ s. s.now) result ≡ as_str (view value.now) }
+{
+    value.as_str()
+}
+
+/// The truth value that the value is.
+fn flag_of(value: &Value) -> Option<bool>
+    ensures { result ≡ as_bool (view value.now) }
+{
+    value.as_bool()
+}
+
+/// The elements of the list that the value is.
+pub(crate) fn list_of<'v, 'a>(value: &'v Value<'a>) -> Option<&'v [Value<'a>]>
+    ensures { option_map (λ vs. items_view vs.now) result ≡ as_array (view value.now) }
+{
+    match value {
+        Value::Array(items) => Some(items.as_slice()),
+        _ => None,
+    }
+}
+
+/// The members of the object that the value is, in their order.
+fn object_of<'v, 'a>(value: &'v Value<'a>) -> Option<&'v [(&'a str, Value<'a>)]>
+    ensures { option_map (λ ms. members_view ms.now) result ≡ as_object (view value.now) }
+{
+    match value {
+        Value::Object(members) => Some(members.as_slice()),
+        _ => None,
+    }
+}
+
+/// The whole number that the value is.
+pub(crate) fn whole_of(value: &Value) -> Option<u64>
+    ensures { result ≡ as_whole (view value.now) }
+{
+    number_of(value.as_number()?)?.as_u64()
+}
+
 /// The whole number from 0 to 255 that the value is.
 fn small_of(value: &Value) -> Option<u8>
     ensures { result ≡ as_small (view value.now) }
 {
-    match value.as_u64() {
+    match whole_of(value) {
         Some(number) => u8::try_from(number).ok(),
         None => None,
     }
 }
 
-/// Whether each key is one of the names.
-fn has_only(object: &Map<String, Value>, names: &[&str]) -> bool
-    ensures { result ≡ list_all (λ key. is_one_of names.now (string_bytes key))
-        (keys_of object.now.entries) }
+/// Whether each member has one of the names.
+fn has_only(members: &[(&str, Value)], names: &[&str]) -> bool
+    ensures { result ≡ list_all (λ m. is_one_of names.now m.0.now) members.now }
 {
-    object.keys().all(|key| is_one_of(key.as_str(), names))
+    members.iter().all(|member| is_one_of(member.0, names))
 }
 
 /// Whether the key is one of the names.

@@ -1,19 +1,19 @@
 ghost use Rattle.std.specs.Prelude.{◌≡◌};
 ghost use Rattle.std.specs.Vec.{vec_items};
-ghost use Rattle.serde_json.specs.View.{view};
 ghost use Rattle.dy_script.specs.Members.{allow_only};
 ghost use Rattle.dy_script.specs.Orders.{command_parts, write_parts, put_names};
 ghost use Rattle.dy_script.specs.Orders.{node_named, lone_node, mode_of, session_of};
 ghost use Rattle.dy_script.specs.Orders.{bytes_of, value_of, write_of};
 ghost use Rattle.dy_script.specs.Orders.{put_of, delete_of, get_of, set_mode_of, show_of};
 ghost use Rattle.dy_script.specs.Orders.{at_node, command_of};
+ghost use Rattle.dy_script.specs.inside.Documents.{view};
 ghost use Rattle.dy_script.specs.inside.Readings.{IsReadingOf};
 
 use crate::commands::{Command, Mode, Write};
-use crate::members::Members;
+use crate::members::{Members, whole_of};
 use crate::scripts::MAX_SCRIPT_SESSIONS;
 use dy_dots::Fault;
-use serde_json::Value;
+use json::Value;
 use std::alloc::Global;
 
 /// The command that the value says, on a ring of so many nodes.
@@ -80,7 +80,7 @@ fn lone_node(members: Members, nodes: usize) -> Result<usize, Fault>
 fn node_named(members: Members, nodes: usize) -> Result<usize, Fault>
     ensures { result ≡ node_named nodes members.entry.command (view members.entry.value.now) }
 {
-    match members.get("node").and_then(Value::as_u64) {
+    match members.get("node").and_then(whole_of) {
         Some(number) if number < nodes as u64 => Ok(number as usize),
         _ => Err(members.fault()),
     }

@@ -1,29 +1,26 @@
-ghost use Rattle.std.specs.Prelude.{◌≡◌, ◌⊎◌, ◌<◌, ◌≤◌, length, Some, Ok, Err, IfOk, IfErr, OnOk};
-ghost use Rattle.std.specs.Prelude.{vec_items, option_map, map, ℕ};
-ghost use Rattle.serde_json.specs.View.{view, items_view};
+ghost use Rattle.std.specs.Prelude.{◌≡◌, ◌⊎◌, ◌<◌, ◌≤◌, length, Ok, Err, IfOk, IfErr};
+ghost use Rattle.std.specs.Prelude.{vec_items, map, ℕ};
 ghost use Rattle.dy_script.specs.Members.{allow_only, each_of, seen};
 ghost use Rattle.dy_script.specs.Orders.{command_parts};
 ghost use Rattle.dy_script.specs.Reading.{layout_parts, script_parts, script_names, node_count};
 ghost use Rattle.dy_script.specs.Reading.{token_at, token_list, tokens_at, token_lists};
 ghost use Rattle.dy_script.specs.Reading.{derived_of, tokens_given, limits_of, key_at, keys_of};
 ghost use Rattle.dy_script.specs.Reading.{command_at, commands_given, run_of};
-ghost use Rattle.dy_script.specs.Reading.{script_of, data_of, script_of_text};
+ghost use Rattle.dy_script.specs.Reading.{script_of, script_of_text};
 ghost use Rattle.dy_script.specs.declared.scripts.TheConstants.{MAX_COMMANDS};
+ghost use Rattle.dy_script.specs.inside.Documents.{view, items_view};
 ghost use Rattle.dy_script.specs.inside.Readings.{IsReadingOf};
 
 use crate::commands::Command;
-use crate::members::Members;
+use crate::documents::{WRONG_SCRIPT, value_of};
+use crate::members::{Members, list_of, text_of};
 use crate::orders::command_of;
 use crate::scripts::{Layout, Limits, MAX_COMMANDS, Script};
 use crate::tokens::token;
 use dy_dots::Fault;
 use dy_siblings::Key;
-use serde_json::Value;
-use serde_json::error::Category;
+use json::{Scratch, Value};
 use std::alloc::Global;
-
-/// The fault of a script whose own members are wrong.
-const WRONG_SCRIPT: Fault = Fault::ScriptSyntax { command: 0 };
 
 /// The script that the bytes spell, or its first fault: that of the script itself before those of
 /// its commands.
@@ -34,26 +31,9 @@ pub fn read(alloc: Global, bytes: &[u8]) -> Result<Script, Fault>
         ⊎ (script_of_text bytes.now ≡ Err fault)) }
     ensures memory { IfErr result (λ fault. fault ≡ Fault.OutOfMemory → 0 < length bytes.now) }
 {
-    let value = value_of(alloc, bytes)?;
+    let mut scratch = Scratch::new(alloc);
+    let value = value_of(alloc, bytes, &mut scratch)?;
     script_of(alloc, &value)
-}
-
-/// The JSON value that the bytes spell.
-#[tactic(auto, unfolding(crate::specs::Reading::data_of))]
-fn value_of(alloc: Global, bytes: &[u8]) -> Result<Value, Fault>
-    ensures ok { IfOk result (λ value. data_of bytes.now ≡ Some (view value)) }
-    ensures err { IfErr result (λ fault. (fault ≡ Fault.OutOfMemory)
-        ⊎ ((fault ≡ Fault.ScriptSyntax 0) × (data_of bytes.now ≡ None))) }
-    ensures memory { IfErr result (λ fault. fault ≡ Fault.OutOfMemory → 0 < length bytes.now) }
-    ensures some { OnOk result (0 < length bytes.now) }
-{
-    match Value::from_slice(alloc, bytes) {
-        Ok(value) => Ok(value),
-        Err(error) => match error.classify() {
-            Category::Memory => Err(Fault::OutOfMemory),
-            _ => Err(WRONG_SCRIPT),
-        },
-    }
 }
 
 /// The script that the value says.
@@ -150,8 +130,8 @@ fn token_lists(alloc: Global, lists: &[Value]) -> Result<Vec<Vec<u128>>, Fault>
 fn tokens_at(alloc: Global, value: &Value) -> Result<Vec<u128>, Fault>
     ensures { (i : ℕ) → IsReadingOf vec_items result (tokens_at i (view value.now)) }
 {
-    match value.as_array() {
-        Some(texts) => token_list(alloc, texts.as_slice()),
+    match list_of(value) {
+        Some(texts) => token_list(alloc, texts),
         None => Err(WRONG_SCRIPT),
     }
 }
@@ -174,7 +154,7 @@ fn token_list(alloc: Global, texts: &[Value]) -> Result<Vec<u128>, Fault>
 fn token_at(value: &Value) -> Result<u128, Fault>
     ensures { (i : ℕ) → result ≡ token_at i (view value.now) }
 {
-    match value.as_str() {
+    match text_of(value) {
         Some(text) => match token(text) {
             Some(position) => Ok(position),
             None => Err(WRONG_SCRIPT),
@@ -236,7 +216,7 @@ fn keys_in(alloc: Global, list: &[Value]) -> Result<Vec<Key>, Fault>
 fn key_at(alloc: Global, value: &Value) -> Result<Key, Fault>
     ensures { (i : ℕ) → IsReadingOf (λ key. key) result (key_at i (view value.now)) }
 {
-    let Some(text) = value.as_str() else {
+    let Some(text) = text_of(value) else {
         return Err(WRONG_SCRIPT);
     };
     match Key::new(alloc, text.as_bytes()) {
@@ -277,7 +257,7 @@ fn commands_in(alloc: Global, list: &[Value], nodes: usize) -> Result<Vec<Comman
     ensures { IsReadingOf (λ run. map command_parts run.items) result
         (each_of (command_at nodes) 0 (items_view list.now)) }
 {
-    let mut found = Vec::new(alloc);
+    let mut found = Vec::with_capacity(alloc, list.len())?;
     let mut number = 0u32;
     for value in list {
         number += 1;

@@ -17,9 +17,9 @@ knows_not k names d ms o e = rw (sym o) (rw e refl)
 pub returns-then-has_only : goal.returns-then-has_only
 returns-then-has_only c =
     let s = c.args.self.now in
-    knows_all _ _ _ _ c.in-Some.ensures (sym (knows_keys c.args.names.now c.in-Some.object.now.entries) ∙ sym c.has_only.ensures ∙ c.if-has_only.true)
+    knows_all _ _ _ _ c.in-Some.ensures (sym (knows_keys c.args.names.now c.in-Some.members.now) ∙ sym c.has_only.ensures ∙ c.if-has_only.true)
 
 pub returns-else-has_only : goal.returns-else-has_only
 returns-else-has_only c =
     let s = c.args.self.now in
-    ap Err c.fault-else-has_only.ensures ∙ knows_not _ _ _ _ c.in-Some.ensures (sym (knows_keys c.args.names.now c.in-Some.object.now.entries) ∙ sym c.has_only.ensures ∙ c.if-has_only.false)
+    ap Err c.fault-else-has_only.ensures ∙ knows_not _ _ _ _ c.in-Some.ensures (sym (knows_keys c.args.names.now c.in-Some.members.now) ∙ sym c.has_only.ensures ∙ c.if-has_only.false)
