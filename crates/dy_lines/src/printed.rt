@@ -1,4 +1,5 @@
-ghost use Rattle.std.specs.Prelude.{Some};
+ghost use Rattle.std.specs.Prelude.{◌≡◌, ◌<◌, Some, false};
+ghost use Rattle.std.specs.Fmt.{digits};
 ghost use Rattle.dy_lines.specs.Texts.{byte_text, hex_text, position_text, nodes_text};
 
 use dy_dots::NodeId;
@@ -27,9 +28,33 @@ impl fmt::Display for HexByte {
     ghost output = { λ byte. Some (byte_text byte.0) };
 
     fn fmt<W: fmt::Write>(&self, f: &mut fmt::Formatter<W>) -> fmt::Result {
-        let high = self.0 / 16;
-        let low = self.0 % 16;
-        write!(f, "{high:x}{low:x}")
+        f.write_str(digit(self.0 / 16))?;
+        f.write_str(digit(self.0 % 16))
+    }
+}
+
+/// The digit of a number below 16.
+fn digit(number: u8) -> &'static str
+    requires { number < 16 }
+    ensures { result.now ≡ digits 16 false number }
+{
+    match number {
+        0 => "0",
+        1 => "1",
+        2 => "2",
+        3 => "3",
+        4 => "4",
+        5 => "5",
+        6 => "6",
+        7 => "7",
+        8 => "8",
+        9 => "9",
+        10 => "a",
+        11 => "b",
+        12 => "c",
+        13 => "d",
+        14 => "e",
+        _ => "f",
     }
 }
 
