@@ -59,6 +59,6 @@ impl fmt::Display for NodeId {
     ghost output = { λ node. Some (decimal node) };
 
     fn fmt<W: fmt::Write>(&self, f: &mut fmt::Formatter<W>) -> fmt::Result {
-        write!(f, "{}", self.number)
+        fmt::Display::fmt(&self.number, f)
     }
 }
