@@ -20,6 +20,14 @@ or_false : (b : Bool) → b ≡ (b || false)
 or_false true = refl
 or_false false = refl
 
+-- a set with no more dots
+pub with_none : (s t : DotSet) → t ≡ set.empty → s ≡ set.union s t
+with_none s t none =
+    same_dots s (set.union s t) (λ d.
+    or_false (set.contains s d)
+    ∙ (ap (λ b. set.contains s d || b) (sym (ap (λ u. set.contains u d) none ∙ set.contains-empty dot_cmp d))
+    ∙ sym (in_union s t d)))
+
 pub in_history_set : (v : VersionParts) (d : DotNumbers) → set.contains (history_of v) d ≡ in_history v d
 in_history_set v d = in_insert v.past v.dot d
 

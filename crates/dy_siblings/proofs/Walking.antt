@@ -1,5 +1,5 @@
 -- One pass over two lists of versions in the order of their dots.
-use Rattle.std.proofs.Common.{◌≡◌, ℕ, Bool, true, false, not, List, [], ◌∷◌, ◌++◌, ◌||◌, ◌⊎◌, sym, ap, ◌∙◌, subst, inl, inr, ⊎_elim, append_assoc, append-nil}
+use Rattle.std.proofs.Common.{◌≡◌, ℕ, Bool, true, false, not, List, [], ◌∷◌, ◌++◌, ◌||◌, ◌⊎◌, ◌<◌, ◌+◌, length, arith, sym, ap, ◌∙◌, subst, inl, inr, ⊎_elim, append_assoc, append-nil}
 use Rattle.std.specs.List.{filter, Contains, All}
 use Rattle.std.specs.FinSet as set
 use Rattle.std.proofs.lemmas.Bool.{true≢false, not-true, not_from_false}
@@ -8,7 +8,7 @@ use Rattle.std.proofs.lemmas.List.Folds.{list_any-append}
 use Rattle.dy_dots.specs.Dots.{DotNumbers, DotSet, dot_cmp}
 use Rattle.dy_siblings.specs.Versions.{VersionParts, IsVersion}
 use Rattle.dy_siblings.specs.Siblings.{AreOneByDot, IsSameRow, IsSiblingSet, Rise, is_past}
-use Rattle.dy_siblings.specs.inside.Merging.{IsFirst, IsAlone, IsShared, IsMerge, IsNextVersion, IsUnionOutside, both_pasts, with_pasts}
+use Rattle.dy_siblings.specs.inside.Merging.{AreAmong, IsFirst, IsAlone, IsShared, IsMerge, IsNextVersion, IsUnionOutside, both_pasts, with_pasts}
 use Rattle.dy_siblings.proofs.Members.{not_in_nil, in_head, in_tail, in_cases, none_from, any_from, filter_in, filter_from}
 use Rattle.dy_siblings.proofs.Histories.{in_with_pasts}
 use Rattle.dy_siblings.proofs.Rising.{rise_skip, rise_put}
@@ -165,6 +165,12 @@ module _ (past : DotSet) (a b out left right : List VersionParts) (v : VersionPa
   walks_on one w (inr (inl next)) k = alone_right w next k
   walks_on one w (inr (inr next)) k = shared one w next k
 
+-- what is left of both is shorter by one at least
+pub next_shorter : (a b l r : List VersionParts) (v : VersionParts) → IsNextVersion a b v l r → length l + length r < length a + length b
+next_shorter a b l r v (inl next) = omega (arith, ap length next.0, ap length next.1)
+next_shorter a b l r v (inr (inl next)) = omega (arith, ap length next.0, ap length next.1)
+next_shorter a b l r v (inr (inr next)) = omega (arith, ap length next.0, ap length next.1.1)
+
 pub walks_end : (past : DotSet) (a b out left right : List VersionParts) → left ≡ [] → right ≡ [] → Walks past a b out left right → IsUnionOutside past a b out
 walks_end past a b out left right no_left no_right w = (
   subst Rise (append-nil out) (subst (λ l. Rise (out ++ l)) no_left w.rise_left),
@@ -182,6 +188,59 @@ walks_end past a b out left right no_left no_right w = (
         (w.complete v f.0 (not-true (set.contains past v.dot) f.1))),
   ),
 )
+
+-- how far a search has come for the dots of a among those of b, and what is left of both lists
+pub record Finds (a b left right : List VersionParts) : Type 0 where
+  pub found : (v : VersionParts) → Contains a v → Contains left v ⊎ ((w : VersionParts) × Contains b w × (w.dot ≡ v.dot))
+  pub from_right : (v : VersionParts) → Contains right v → Contains b v
+
+pub finds_first : (a b : List VersionParts) → Finds a b a b
+finds_first a b = record { found = λ v h. inl h; from_right = λ v h. h }
+
+-- the first of both is of one dot, or the first of b is passed over
+pub finds_one : (a b : List VersionParts) (v w : VersionParts) (left right l r : List VersionParts) → left ≡ v ∷ l → right ≡ w ∷ r → v.dot ≡ w.dot → Finds a b left right → Finds a b l r
+finds_one a b v w left right l r left_is right_is same f = record {
+  found = λ u h.
+      ⊎_elim
+      (λ still. ⊎_elim
+      (λ is. inr (w, f.from_right w (subst (λ x. Contains x w) (sym right_is) (in_head w r)), sym (ap (λ x. x.dot) is ∙ same)))
+      inl
+      (in_cases v u l (subst (λ x. Contains x u) left_is still)))
+      inr
+      (f.found u h);
+  from_right = λ u h. f.from_right u (subst (λ x. Contains x u) (sym right_is) (in_tail w u r h));
+}
+
+pub finds_on : (a b : List VersionParts) (w : VersionParts) (left right r : List VersionParts) → right ≡ w ∷ r → Finds a b left right → Finds a b left r
+finds_on a b w left right r right_is f = record {
+  found = f.found;
+  from_right = λ u h. f.from_right u (subst (λ x. Contains x u) (sym right_is) (in_tail w u r h));
+}
+
+pub finds_end : (a b left right : List VersionParts) → left ≡ [] → Finds a b left right → AreAmong a b
+finds_end a b left right none f v h =
+    ⊎_elim (λ still. absurd (not_in_nil v (subst (λ x. Contains x v) none still))) (λ found. found) (f.found v h)
+
+-- where the dots of a are among those of b, the merge of both is b
+pub among_is_merge : (a b : List VersionParts) → AreOneByDot (a ++ b) → Rise b → All (λ v. is_past b v.dot ≡ false) b → AreAmong a b → IsMerge a b b
+among_is_merge a b one rise none among = (
+  rise,
+  λ v. (
+    (λ h. filter_in (λ u. not (is_past (a ++ b) u.dot)) (a ++ b) v (Contains-append_right a b v h)
+        (not_from_false (is_past (a ++ b) v.dot) (none_from (λ u. set.contains u.past v.dot) (a ++ b) (λ u in_both below.
+        true≢false (sym (any_from (λ u. set.contains u.past v.dot) b u (in_b u in_both) below) ∙ All-contains (λ x. is_past b x.dot ≡ false) b v none h))))),
+    (λ h. in_b v (filter_from (λ u. not (is_past (a ++ b) u.dot)) (a ++ b) v h).0),
+  ),
+)
+  where
+    in_b : (u : VersionParts) → Contains (a ++ b) u → Contains b u
+    in_b u h =
+        ⊎_elim
+        (λ in_a.
+        let w = among u in_a in
+        subst (Contains b) (one w.0 u (Contains-append_right a b w.0 w.1) h w.2) w.1)
+        (λ there. there)
+        (Contains-append_cases a b u h)
 
 -- what the one list's pasts have, or the other's
 pub past_of_either : (a b : List VersionParts) (d : DotNumbers) → set.contains (both_pasts a b) d ≡ (is_past a d || is_past b d)

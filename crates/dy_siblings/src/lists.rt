@@ -1,10 +1,9 @@
-ghost use Rattle.std.specs.Prelude.{◌≡◌, ◌++◌, [], ◌∷◌, OnOk, IsOkUnless};
+ghost use Rattle.std.specs.Prelude.{◌≡◌};
 ghost use Rattle.dy_siblings.specs.Siblings.{without};
 ghost use Rattle.dy_siblings.specs.inside.Lists.{items_of};
 
 use crate::versions::Version;
-use dy_dots::{Dot, Fault};
-use std::alloc::Global;
+use dy_dots::Dot;
 
 // Versions in a list, which takes memory of its own from the second one on.
 #[derive(Debug, Drop)]
@@ -24,24 +23,14 @@ impl Versions {
         }
     }
 
-    /// Adds one at the end, with room for so many where it is the second.
-    pub(crate) fn push(&mut self, alloc: Global, room: usize, version: Version) -> Result<(), Fault>
-        ensures ok { OnOk result (items_of self.new ≡ items_of self.old ++ version ∷ []) }
-        ensures memory { IsOkUnless result Fault.OutOfMemory }
+    /// These versions. One takes no memory for a list.
+    pub(crate) fn of(mut many: Vec<Version>) -> Versions
+        ensures { items_of result ≡ many.items }
     {
-        match self {
-            Versions::Many(many) => many.push(version)?,
-            Versions::Few(one) => match one.take() {
-                None => *one = Some(version),
-                Some(first) => {
-                    let mut many = Vec::with_capacity(alloc, room)?;
-                    many.push(first)?;
-                    many.push(version)?;
-                    *self = Versions::Many(many);
-                }
-            },
+        if many.len() > 1 {
+            return Versions::Many(many);
         }
-        Ok(())
+        Versions::Few(many.pop())
     }
 
     /// Drops the version of the dot, where there is one. Takes no memory.

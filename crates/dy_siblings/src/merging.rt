@@ -1,10 +1,12 @@
 ghost use Rattle.std.specs.Prelude.{◌≡◌, ◌++◌, map, IfOk, IfSome, IfNone, IsOkUnless, [], ◌∷◌};
-ghost use Rattle.std.specs.Prelude.{◌↔◌, IsTrue};
+ghost use Rattle.std.specs.Prelude.{◌↔◌, IsTrue, false};
+ghost use Rattle.std.specs.List.{All};
 ghost use Rattle.std.specs.FinSet as set;
 ghost use Rattle.dy_siblings.specs.inside.Lists.{items_of};
-ghost use Rattle.dy_siblings.specs.inside.Merging.{do_lists_conflict, IsMerge, IsNextVersion};
-ghost use Rattle.dy_siblings.specs.inside.Merging.{IsUnionOutside, with_dots, with_histories};
-ghost use Rattle.dy_siblings.specs.Siblings.{AreOneByDot, Rise, present_values};
+ghost use Rattle.dy_siblings.specs.inside.Merging.{do_lists_conflict, AreAmong, IsMerge};
+ghost use Rattle.dy_siblings.specs.inside.Merging.{IsNextVersion, IsUnionOutside};
+ghost use Rattle.dy_siblings.specs.inside.Merging.{with_dots, with_histories};
+ghost use Rattle.dy_siblings.specs.Siblings.{AreOneByDot, Rise, is_past, present_values};
 
 use crate::lists::Versions;
 use crate::pasts::Pasts;
@@ -50,18 +52,20 @@ fn union_outside(
     ensures ok { IfOk result (λ kept. IsUnionOutside past.now a.now b.now (items_of kept)) }
     ensures memory { IsOkUnless result Fault.OutOfMemory }
 {
-    let room = a.len().max(b.len()).saturating_add(1);
-    let mut kept = Versions::Few(None);
+    let Some(room) = a.len().checked_add(b.len()) else {
+        return Err(Fault::OutOfMemory);
+    };
+    let mut kept = Vec::with_capacity(alloc, room)?;
     let mut left = a;
     let mut right = b;
     while let Some((next, left_rest, right_rest)) = split_next(left, right) {
         left = left_rest;
         right = right_rest;
         if !past.contains(next.dot()) {
-            kept.push(alloc, room, next.try_clone(alloc)?)?;
+            kept.push_reserved(next.try_clone(alloc)?);
         }
     }
-    Ok(kept)
+    Ok(Versions::of(kept))
 }
 
 /// Whether a version of the one list conflicts with one of the other, in one pass over both.
@@ -116,11 +120,33 @@ fn newer<'a>(mine: &'a Version, theirs: &'a Version) -> Option<&'a Version>
     }
 }
 
+/// Whether each version of the one list has its dot among those of the other, in one pass over
+/// both.
+fn are_among(a: &[Version], b: &[Version]) -> bool
+    ensures { IsTrue result → AreAmong a.now b.now }
+{
+    let mut left = a;
+    let mut right = b;
+    while let Some((mine, rest)) = left.split_first() {
+        let Some((theirs, others)) = right.split_first() else {
+            return false;
+        };
+        if mine.dot() == theirs.dot() {
+            left = rest;
+        } else if mine.comes_before(theirs) {
+            return false;
+        }
+        right = others;
+    }
+    true
+}
+
 /// Copies of the versions of both lists whose dot lies in the past of none, in the order of their
 /// dots.
 pub(crate) fn merged(alloc: Global, a: &[Version], b: &[Version]) -> Result<Versions, Fault>
     requires a_rises { Rise a.now }
     requires b_rises { Rise b.now }
+    requires b_siblings { All (λ v. is_past b.now v.dot ≡ false) b.now }
     requires agree { AreOneByDot (a.now ++ b.now) }
     ensures ok { IfOk result (λ kept. IsMerge a.now b.now (items_of kept)) }
     ensures memory { IsOkUnless result Fault.OutOfMemory }
@@ -129,6 +155,9 @@ pub(crate) fn merged(alloc: Global, a: &[Version], b: &[Version]) -> Result<Vers
         if let Some(version) = newer(mine, theirs) {
             return Ok(Versions::Few(Some(version.try_clone(alloc)?)));
         }
+    }
+    if a.len() <= b.len() && are_among(a, b) {
+        return copied(alloc, b);
     }
     let past = Pasts::of(alloc, a, b)?;
     union_outside(alloc, &past, a, b)
@@ -161,11 +190,14 @@ pub(crate) fn copied(alloc: Global, versions: &[Version]) -> Result<Versions, Fa
     ensures ok { IfOk result (λ copies. items_of copies ≡ versions.now) }
     ensures memory { IsOkUnless result Fault.OutOfMemory }
 {
-    let mut copies = Versions::Few(None);
-    for version in versions {
-        copies.push(alloc, versions.len(), version.try_clone(alloc)?)?;
+    if let Some(version) = only(versions) {
+        return Ok(Versions::Few(Some(version.try_clone(alloc)?)));
     }
-    Ok(copies)
+    let mut copies = Vec::with_capacity(alloc, versions.len())?;
+    for version in versions {
+        copies.push_reserved(version.try_clone(alloc)?);
+    }
+    Ok(Versions::of(copies))
 }
 
 /// The union of the versions' histories.

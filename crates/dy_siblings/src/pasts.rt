@@ -77,7 +77,19 @@ fn add_pasts(alloc: Global, past: &mut Context, versions: &[Version]) -> Result<
     ensures memory { IsOkUnless result Fault.OutOfMemory }
 {
     for version in versions {
-        past.union(alloc, version.past())?;
+        add_past(alloc, past, version)?;
     }
+    Ok(())
+}
+
+// Adds the version's past.
+fn add_past(alloc: Global, past: &mut Context, version: &Version) -> Result<(), Fault>
+    ensures ok { OnOk result (past.new ≡ set.union past.old version.now.past) }
+    ensures memory { IsOkUnless result Fault.OutOfMemory }
+{
+    if version.past().is_empty() {
+        return Ok(());
+    }
+    past.union(alloc, version.past())?;
     Ok(())
 }

@@ -1,6 +1,6 @@
 -- How two lists of versions in the order of their dots become one.
 use Rattle.std.specs.Prelude.{◌≡◌, ◌++◌, ◌⊎◌, not, Bool, List, [], ◌∷◌}
-use Rattle.std.specs.List.{filter, list_any}
+use Rattle.std.specs.List.{Contains, filter, list_any}
 use Rattle.std.specs.FinSet as set
 use Rattle.dy_dots.specs.Dots.{DotSet, DotNumbers, IsDotBefore}
 use Rattle.dy_siblings.specs.Versions.{VersionParts}
@@ -38,6 +38,11 @@ IsUnionOutside past a b vs = Rise vs × IsSameRow vs (outside past a b)
 -- the list rises, and is the merge of both
 abbrev pub IsMerge : List VersionParts → List VersionParts → List VersionParts → Type 0
 IsMerge a b vs = Rise vs × IsSameRow vs (merge a b)
+
+-- each version of the one list has its dot among those of the other
+abbrev pub AreAmong : List VersionParts → List VersionParts → Type 0
+AreAmong a b =
+    (v : VersionParts) → Contains a v → (w : VersionParts) × Contains b w × (w.dot ≡ v.dot)
 
 -- whether a version of the one list conflicts with one of the other
 abbrev pub do_lists_conflict : List VersionParts → List VersionParts → Bool
