@@ -1,6 +1,7 @@
 //! The custody book: the log of all steps, and what it says of each key, kept as indexes.
 use crate::contexts::{Context, Dot, MAX_COUNTER};
 use crate::faults::Fault;
+use crate::log::{Log, Step};
 use crate::rows::{Key, Parts, Row, Value, Version};
 use std::collections::HashMap;
 
@@ -12,36 +13,6 @@ pub const MAX_STEPS: usize = 1_000_000;
 pub struct Place {
     pub holder: u8,
     pub home: u8,
-}
-
-/// The log is there to be kept: nothing that runs reads what its entries say, but for the acks.
-#[allow(dead_code)]
-pub enum Step {
-    Issue {
-        node: u8,
-        key: Key,
-        context: Context,
-        value: Option<Value>,
-    },
-    Hold {
-        place: Place,
-        key: Key,
-        row: Row,
-    },
-    Release {
-        place: Place,
-        key: Key,
-        dot: Dot,
-    },
-    Fetch {
-        place: Place,
-        key: Key,
-    },
-    Ack {
-        key: Key,
-        dot: Dot,
-        w: u8,
-    },
 }
 
 #[derive(Clone, Copy)]
@@ -107,7 +78,7 @@ impl Part {
 
 pub struct Book {
     options: Options,
-    steps: Vec<Step>,
+    log: Log,
     versions: usize,
     keys: HashMap<Key, Part>,
 }
@@ -127,7 +98,7 @@ impl Book {
     pub fn new(options: Options) -> Book {
         Book {
             options,
-            steps: Vec::new(),
+            log: Log::new(),
             versions: 0,
             keys: HashMap::new(),
         }
@@ -138,7 +109,7 @@ impl Book {
     }
 
     fn need(&self, steps: usize) -> Result<(), Fault> {
-        if self.options.steps_limit - self.steps.len() < steps {
+        if self.options.steps_limit - self.log.len() < steps {
             return Err(Fault::StepsFull);
         }
         Ok(())
@@ -221,14 +192,13 @@ impl Book {
         let part = self.part(key);
         part.add(version.clone());
         part.hold(place, &row);
-        let (context, value) = (version.past.clone(), version.value.clone());
-        self.steps.push(Step::Issue {
+        self.log.add(|| Step::Issue {
             node,
             key: key.clone(),
-            context,
-            value,
+            context: version.past.clone(),
+            value: version.value.clone(),
         });
-        self.steps.push(Step::Hold {
+        self.log.add(|| Step::Hold {
             place,
             key: key.clone(),
             row,
@@ -248,7 +218,7 @@ impl Book {
         }
         self.need(1)?;
         self.part(key).hold(place, row);
-        self.steps.push(Step::Hold {
+        self.log.add(|| Step::Hold {
             place,
             key: key.clone(),
             row: row.clone(),
@@ -259,12 +229,13 @@ impl Book {
     /// The dots are no longer held at the place, all or none.
     pub fn release(&mut self, place: Place, key: &Key, dots: &[Dot]) -> Result<(), Fault> {
         self.need(dots.len())?;
-        let release = |dot: &Dot| Step::Release {
-            place,
-            key: key.clone(),
-            dot: *dot,
-        };
-        self.steps.extend(dots.iter().map(release));
+        for dot in dots {
+            self.log.add(|| Step::Release {
+                place,
+                key: key.clone(),
+                dot: *dot,
+            });
+        }
         if let Some((_, row)) = self.part(key).held.iter_mut().find(|it| it.0 == place) {
             dots.iter().for_each(|dot| row.remove(*dot));
         }
@@ -274,22 +245,18 @@ impl Book {
     /// The number of the step at which the place was looked at.
     pub fn fetch(&mut self, place: Place, key: &Key) -> Result<usize, Fault> {
         self.need(1)?;
-        self.steps.push(Step::Fetch {
+        self.log.add(|| Step::Fetch {
             place,
             key: key.clone(),
         });
-        Ok(self.steps.len())
+        Ok(self.log.len())
     }
 
     /// The number of the step at which the put was acknowledged.
     pub fn ack(&mut self, key: &Key, dot: Dot, w: u8) -> Result<usize, Fault> {
         self.need(1)?;
-        self.steps.push(Step::Ack {
-            key: key.clone(),
-            dot,
-            w,
-        });
-        Ok(self.steps.len())
+        self.log.add_ack(key.clone(), dot, w);
+        Ok(self.log.len())
     }
 
     fn covering(&self, key: &Key, dot: Dot) -> Vec<Place> {
@@ -310,12 +277,7 @@ impl Book {
             held.extend(has_some.map(|(place, row)| (*place, key, row)));
         }
         held.sort_unstable_by_key(|(place, key, _)| (*place, *key));
-        let mut acks: Vec<(&Key, Dot, u8)> = Vec::new();
-        for step in &self.steps {
-            if let Step::Ack { key, dot, w } = step {
-                acks.push((key, *dot, *w));
-            }
-        }
+        let mut acks: Vec<(&Key, Dot, u8)> = self.log.acks().collect();
         acks.sort_unstable();
         acks.dedup();
         let places = |(key, dot, w)| (key, dot, w, self.covering(key, dot));
@@ -327,7 +289,7 @@ impl Book {
             held,
             acked,
             settled,
-            steps: self.steps.len(),
+            steps: self.log.len(),
         }
     }
 }

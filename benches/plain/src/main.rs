@@ -6,6 +6,7 @@ mod contexts;
 mod faults;
 mod json;
 mod lines;
+mod log;
 mod md5;
 mod nodes;
 mod ring;

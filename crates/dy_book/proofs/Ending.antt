@@ -1,6 +1,6 @@
 -- What an audit's lists say of the world.
-use Rattle.std.proofs.Common.{◌≡◌, ℕ, ◌↔◌, List, [], ◌∷◌, ◌++◌, map, fold, Option, refl, sym, ap}
-use Rattle.std.proofs.Common.{◌∙◌, subst, ◌⊎◌, inl, ⊎_elim}
+use Rattle.std.proofs.Common.{◌≡◌, ℕ, ◌↔◌, List, [], ◌∷◌, ◌++◌, map, Option, refl, sym, ap}
+use Rattle.std.proofs.Common.{◌∙◌, subst, ◌⊎◌, inl, inr, ⊎_elim}
 use Rattle.std.specs.Prelude.{Result, Ok, Err, IfErr}
 use Rattle.std.specs.List.{All, Contains}
 use Rattle.std.proofs.lemmas.Bool.{and_parts, and_from}
@@ -27,52 +27,40 @@ use Rattle.dy_core.proofs.Held.{acks_tie}
 use Rattle.dy_core.proofs.Listed.{covers_same}
 use Rattle.dy_core.proofs.Keeping.{all_from}
 use Rattle.std.proofs.lemmas.List.Elements.{All-contains, Contains-append_cases}
-use Rattle.std.proofs.lemmas.List.Elements.{Contains-append_left, Contains-append_right}
-use Rattle.dy_book.specs.inside.Lists.{IsInOrder, ack_added}
-use Rattle.dy_shares.specs.Shares.{HasAll, IsMissing, NodePart, SessionPart}
+use Rattle.dy_book.specs.inside.Lists.{IsInOrder}
+use Rattle.dy_shares.specs.Shares.{acks_of, HasAll, IsMissing, NodePart, SessionPart}
 use Rattle.dy_dots.specs.declared.faults.Fault.{Fault}
 use Rattle.dy_book.specs.inside.Indexes.{IsPart, places_in}
 use Rattle.dy_book.specs.declared.parts.KeyPart.{KeyPart}
 use Rattle.dy_book.specs.declared.audits.AckedAt.{AckedAt}
 
--- an ack more is listed at the end
-ack_more : (xs ys : List Acked) → ((a : Acked) → Contains ys a ↔ Contains xs a) →
-    (x a : Acked) → Contains (ys ++ x ∷ []) a ↔ Contains (x ∷ xs) a
-ack_more xs ys same x a = (
-  (λ h.
-      ⊎_elim
-      (λ older. in_tail x a xs ((same a).0 older))
-      (λ last. ⊎_elim (λ is. subst (Contains (x ∷ xs)) (sym is) (in_head x xs))
-      (λ none. absurd (not_in_nil a none)) (in_cases x a [] last))
-      (Contains-append_cases ys (x ∷ []) a h)),
-  (λ h.
-      ⊎_elim
-      (λ is. Contains-append_right ys (x ∷ []) a
-      (subst (Contains (x ∷ [])) (sym is) (in_head x [])))
-      (λ older. Contains-append_left ys (x ∷ []) a ((same a).1 older))
-      (in_cases x a xs h)),
-)
-
-step_listed : (w : World) (ys : List Acked) → ((a : Acked) → Contains ys a ↔ Contains w.acks a) →
-    (s : Step) (a : Acked) →
-    Contains (ack_added ys s) a ↔ Contains (world_after_step w s).acks a
-step_listed w ys same (Issue node key context value) a = same a
-step_listed w ys same (Hold p row) a = same a
-step_listed w ys same (Release p key d) a = same a
-step_listed w ys same (Fetch p key) a = same a
-step_listed w ys same (Ack key d n) a =
-    ack_more w.acks ys same (record { key = key; dot = d; w = n }) a
-
-steps_listed : (w : World) (ys : List Acked) → ((a : Acked) → Contains ys a ↔ Contains w.acks a) →
-    (ss : List Step) (a : Acked) →
-    Contains (fold ack_added ys ss) a ↔ Contains (world_from w ss).acks a
-steps_listed w ys same [] a = same a
-steps_listed w ys same (s ∷ ss) a =
-    steps_listed (world_after_step w s) (ack_added ys s) (step_listed w ys same s) ss a
+-- the acks after some steps are those among them, and those before
+steps_listed : (w : World) (ss : List Step) (a : Acked) →
+    (Contains (acks_of ss) a ⊎ Contains w.acks a) ↔ Contains (world_from w ss).acks a
+steps_listed w [] a = ((λ h. ⊎_elim (λ none. absurd (not_in_nil a none)) (λ old. old) h), inr)
+steps_listed w (Issue node key context value ∷ ss) a =
+    steps_listed (world_after_step w (Issue node key context value)) ss a
+steps_listed w (Hold p row ∷ ss) a = steps_listed (world_after_step w (Hold p row)) ss a
+steps_listed w (Release p key d ∷ ss) a = steps_listed (world_after_step w (Release p key d)) ss a
+steps_listed w (Fetch p key ∷ ss) a = steps_listed (world_after_step w (Fetch p key)) ss a
+steps_listed w (Ack key d n ∷ ss) a =
+    let x : Acked = record { key = key; dot = d; w = n } in
+    let rest = steps_listed (world_after_step w (Ack key d n)) ss a in (
+      (λ h. rest.0 (⊎_elim
+          (λ listed. ⊎_elim (λ is. inr (subst (Contains (x ∷ w.acks)) (sym is) (in_head x w.acks))) inl
+          (in_cases x a (acks_of ss) listed))
+          (λ old. inr (in_tail x a w.acks old)) h)),
+      (λ h. ⊎_elim
+          (λ listed. inl (in_tail x a (acks_of ss) listed))
+          (λ old. ⊎_elim
+          (λ is. inl (subst (Contains (x ∷ acks_of ss)) (sym is) (in_head x (acks_of ss)))) inr
+          (in_cases x a w.acks old))
+          (rest.1 h)),
+    )
 
 -- the acks of the steps, in order
 pub acks_listed : (ss : List Step) (acks : List Acked) →
-    IsInOrder ack_cmp (fold ack_added [] ss) acks → ListsAcks (world_after ss) acks
+    IsInOrder ack_cmp (acks_of ss) acks → ListsAcks (world_after ss) acks
 acks_listed ss acks order =
     record {
       same = λ a. (
@@ -83,8 +71,12 @@ acks_listed ss acks order =
       in_order = order.in_order;
     }
   where
-    told : (a : Acked) → Contains (fold ack_added [] ss) a ↔ Contains (world_after ss).acks a
-    told a = steps_listed empty_world [] (λ b. ((λ h. h), (λ h. h))) ss a
+    told : (a : Acked) → Contains (acks_of ss) a ↔ Contains (world_after ss).acks a
+    told a =
+        let listed = steps_listed empty_world ss a in (
+          (λ h. listed.0 (inl h)),
+          (λ h. ⊎_elim (λ some. some) (λ none. absurd (not_in_nil a none)) (listed.1 h)),
+        )
 
 -- what covers a dot of a key is among what is held of the key
 pub covers_listed : (w : World) (key : List ℕ) (o : Option KeyPart) → IsPart w key o → (d : Dot) →

@@ -10,7 +10,6 @@ ghost use Rattle.dy_shares.specs.Shares.{since_of, steps_of, told_to, with_ack};
 ghost use Rattle.dy_book.specs.Books.{AreOf, LacksRoom, with_entries};
 
 use crate::books::Book;
-use dy_core::Step;
 use dy_dots::Fault;
 use dy_shares::{Naming, Receipt, SessionShare};
 
@@ -52,11 +51,9 @@ impl<J: Naming> Book<J> {
         let Some(first) = receipts.first() else {
             unreachable!()
         };
-        let dot = first.dot();
-        let key = first.key().try_clone(self.alloc)?;
         self.ledger.learn_receipts(receipts.as_slice());
         self.ledger
-            .ack_step(share, Step::Ack { key, dot, w }, receipts)?;
+            .ack_step(share, first.key(), first.dot(), w, receipts)?;
         Ok(())
     }
 }

@@ -237,7 +237,7 @@ impl<J: Naming> Book<J> {
     pub(crate) fn steps_left(&self) -> usize
         ensures { result + length self.now.log ≡ self.now.options.steps_limit }
     {
-        self.options.steps_limit - self.ledger.steps().len()
+        self.options.steps_limit - self.ledger.steps()
     }
 
     /// Ends the book with whatever shares are there, and tells nothing. Takes no memory.

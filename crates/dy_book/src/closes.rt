@@ -2,7 +2,6 @@
 ghost use Rattle.std.specs.Prelude.{◌≡◌, ◌↔◌, ◌⊎◌, ◌∷◌, [], ℕ, length, map, fold, Some, IfOk};
 ghost use Rattle.std.specs.Prelude.{IfErr, IsErr, OnOk, IsOkUnless};
 ghost use Rattle.std.specs.List.{All};
-ghost use Rattle.dy_book.specs.inside.Lists.{ack_added};
 ghost use Rattle.dy_book.specs.inside.Indexes.{held_in_all, part_at, settled_keys};
 ghost use Rattle.std.specs.BTreeMap.{IsOrdered};
 ghost use Rattle.dy_core.specs.Orders.{key_cmp};
@@ -15,7 +14,7 @@ use crate::audits::{AckedAt, Audit};
 use crate::books::Book;
 use crate::parts::KeyPart;
 use crate::{custodies, lists};
-use dy_core::{Acked, Holding, Place, Step};
+use dy_core::{Acked, Holding, Place};
 use dy_dots::{Dot, Fault};
 use dy_shares::laws::shares_say_all;
 use dy_shares::{EndRefused, Naming, NodeShare, SessionShare};
@@ -44,39 +43,20 @@ impl<J: Naming> CloseRefused<J> {
     }
 }
 
-// Lists the step, where it is an ack.
-fn add_ack(alloc: Global, acks: &mut Vec<Acked>, step: &Step) -> Result<(), Fault>
-    ensures ok { OnOk result (acks.new.items ≡ ack_added acks.old.items step.now) }
+// Copies of the acks.
+fn copied(alloc: Global, acks: &[Acked]) -> Result<Vec<Acked>, Fault>
+    ensures ok { IfOk result (λ copies. copies.items ≡ acks.now) }
     ensures memory { IsOkUnless result Fault.OutOfMemory }
 {
-    match step {
-        Step::Ack { key, dot, w } => {
-            let key = key.try_clone(alloc)?;
-            let ack = Acked {
-                key,
-                dot: *dot,
-                w: *w,
-            };
-            acks.push(ack)?;
-            Ok(())
-        }
-        Step::Issue { .. } => Ok(()),
-        Step::Hold { .. } => Ok(()),
-        Step::Release { .. } => Ok(()),
-        Step::Fetch { .. } => Ok(()),
+    let mut copies = Vec::with_capacity(alloc, acks.len())?;
+    for ack in acks {
+        copies.push(Acked {
+            key: ack.key.try_clone(alloc)?,
+            dot: ack.dot,
+            w: ack.w,
+        })?;
     }
-}
-
-// The acks of the steps, the oldest first.
-fn acks_of(alloc: Global, steps: &[Step]) -> Result<Vec<Acked>, Fault>
-    ensures ok { IfOk result (λ acks. acks.items ≡ fold ack_added [] steps.now) }
-    ensures memory { IsOkUnless result Fault.OutOfMemory }
-{
-    let mut acks = Vec::new(alloc);
-    for step in steps {
-        add_ack(alloc, &mut acks, step)?;
-    }
-    Ok(acks)
+    Ok(copies)
 }
 
 // What the index has, key by key.
@@ -179,7 +159,7 @@ impl<J: Naming> Book<J> {
         ensures ok { IfOk result (λ acked. ListsCovered (world_of self.now) acked.items) }
         ensures memory { IsOkUnless result Fault.OutOfMemory }
     {
-        let told = acks_of(self.alloc, self.ledger.steps())?;
+        let told = copied(self.alloc, self.ledger.acked())?;
         let acks = lists::ordered(told)?;
         let acked = self.with_places(acks)?;
         Ok(acked)
@@ -204,7 +184,7 @@ impl<J: Naming> Book<J> {
         let settled = self.settled()?;
         let acks = acks_told(sessions);
         let gets = gets_of(sessions);
-        let steps = self.ledger.steps().len();
+        let steps = self.ledger.steps();
         Ok(Audit {
             held,
             acked,
@@ -277,7 +257,7 @@ impl<J: Naming> Book<J> {
             keys,
         } = self;
         match ledger.end(nodes, sessions) {
-            Ok(_steps) => {
+            Ok(()) => {
                 shares_say_all();
                 Ok(audit)
             }

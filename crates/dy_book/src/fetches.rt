@@ -10,7 +10,7 @@ ghost use Rattle.dy_book.specs.Books.{HasRoom, LacksRoom, ListsDots, with_untold
 
 use crate::books::Book;
 use crate::custodies;
-use dy_core::{Place, Step};
+use dy_core::Place;
 use dy_dots::{Dot, Fault, NodeId};
 use dy_shares::{Naming, NodeShare, Seen, Since};
 use dy_siblings::{Key, Row};
@@ -90,15 +90,11 @@ impl<J: Naming> Book<J> {
         ensures nodes { (node : ℕ) → NodeStays self.old.log self.new.log node }
         ensures sessions { (session : ℕ) → SessionStays self.old.log self.new.log session }
     {
-        let place = Place { holder, home };
         let row = self.row_copy(holder, home, key)?;
         let of_seen = key.try_clone(self.alloc)?;
-        let step = Step::Fetch {
-            place,
-            key: key.try_clone(self.alloc)?,
-        };
-        self.ledger.fetch_step(step)?;
-        let at = self.ledger.steps().len();
+        self.ledger.fetch_step(Place { holder, home }, key)?;
+        let at = self.ledger.steps();
+        let place = Place { holder, home };
         Ok(self.ledger.seen(at, place, of_seen, row))
     }
 

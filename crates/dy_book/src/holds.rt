@@ -21,55 +21,29 @@ ghost use Rattle.dy_book.specs.inside.Indexes.{IsIndex, IsPart, part_at};
 use crate::books::Book;
 use crate::custodies::{self, Custody};
 use crate::parts::KeyPart;
-use dy_core::{Place, Step};
+use dy_core::Place;
 use dy_dots::{Dot, Fault, NodeId};
-use dy_shares::{Ledger, Naming, NodeShare, Receipt};
+use dy_shares::{Ledger, Naming, NodeShare, Receipt, StepRef};
 use dy_siblings::{Key, Row, Version};
 use std::alloc::Global;
 use std::collections::BTreeMap;
 
-// The issue of the version, which names its whole past, and the hold of it alone.
-fn steps_of_issue(
-    alloc: Global,
+// The issue of the version, which names its whole past, and the hold of it alone, which this row
+// is.
+fn steps_of_issue<'a>(
     node: NodeId,
     home: NodeId,
-    version: &Version,
-) -> Result<Vec<Step>, Fault>
-    ensures ok { IfOk result (λ steps. steps.items ≡ issue_steps node home version.now) }
-    ensures memory { IsOkUnless result Fault.OutOfMemory }
+    version: &'a Version,
+    row: &'a Row,
+) -> [StepRef<'a>; 2]
+    requires { row.now ≡ row_alone version.now }
+    ensures { result ≡ issue_steps node home version.now }
 {
-    let value = match version.value() {
-        Some(value) => Some(value.try_clone(alloc)?),
-        None => None,
-    };
-    let issue = Step::Issue {
-        node,
-        key: version.key().try_clone(alloc)?,
-        context: version.past().try_clone(alloc)?,
-        value,
-    };
-    let hold = Step::Hold {
-        place: Place { holder: node, home },
-        row: Row::of(alloc, version.try_clone(alloc)?)?,
-    };
-    let mut steps = Vec::with_capacity(alloc, 2)?;
-    steps.push_reserved(issue);
-    steps.push_reserved(hold);
-    Ok(steps)
-}
-
-// The hold of the row.
-fn steps_of_hold(alloc: Global, holder: NodeId, home: NodeId, row: &Row) -> Result<Vec<Step>, Fault>
-    ensures ok { IfOk result (λ steps. steps.items ≡ Hold (place_for holder home) row.now ∷ []) }
-    ensures memory { IsOkUnless result Fault.OutOfMemory }
-{
-    let hold = Step::Hold {
-        place: Place { holder, home },
-        row: row.try_clone(alloc)?,
-    };
-    let mut steps = Vec::with_capacity(alloc, 1)?;
-    steps.push_reserved(hold);
-    Ok(steps)
+    let place = Place { holder: node, home };
+    [
+        StepRef::issue(node, version.key(), version.past(), version.value()),
+        StepRef::hold(place, row),
+    ]
 }
 
 // Makes a part for the key, where there is none yet.
@@ -130,7 +104,7 @@ fn hold_in<J: Naming>(
     share: &mut NodeShare<J>,
     home: NodeId,
     row: &Row,
-    steps: Vec<Step>,
+    steps: &[StepRef<'_>],
 ) -> Result<(), Fault>
     requires legal { IsLegal (layout_of J.ring J.n) (steps_of ledger.old.log) }
     requires part { IsPart (world_after (steps_of ledger.old.log)) row.now.key (Some part.old) }
@@ -138,9 +112,9 @@ fn hold_in<J: Naming>(
         (may_hold (homes_of J.ring J.n row.now.key) share.old.node home) }
     requires made { AreMadeOf (world_after (steps_of ledger.old.log)) row.now.key
         row.now.versions }
-    requires steps { steps.items ≡ Hold (place_for share.old.node home) row.now ∷ [] }
-    ensures log { OnOk result (ledger.new ≡ with_entries ledger.old (map untold steps.items)) }
-    ensures share { OnOk result (share.new ≡ with_steps share.old steps.items) }
+    requires steps { steps.now ≡ Hold (place_for share.old.node home) row.now ∷ [] }
+    ensures log { OnOk result (ledger.new ≡ with_entries ledger.old (map untold steps.now)) }
+    ensures share { OnOk result (share.new ≡ with_steps share.old steps.now) }
     ensures err { OnErr result ((ledger.new ≡ ledger.old) × (share.new ≡ share.old)) }
     ensures memory { IsOkUnless result Fault.OutOfMemory }
     ensures part { IsPart (world_after (steps_of ledger.new.log)) row.now.key (Some part.new) }
@@ -164,7 +138,7 @@ fn issue_in<J: Naming>(
     home: NodeId,
     version: Version,
     row: &Row,
-    steps: Vec<Step>,
+    steps: &[StepRef<'_>],
 ) -> Result<(), Fault>
     requires legal { IsLegal (layout_of J.ring J.n) (steps_of ledger.old.log) }
     requires part { IsPart (world_after (steps_of ledger.old.log)) version.key (Some part.old) }
@@ -173,9 +147,9 @@ fn issue_in<J: Naming>(
     requires room { (world_after (steps_of ledger.old.log)).counters share.old.node version.key
         < MAX_COUNTER }
     requires row { row.now ≡ row_alone version }
-    requires steps { steps.items ≡ issue_steps share.old.node home version }
-    ensures log { OnOk result (ledger.new ≡ with_entries ledger.old (map untold steps.items)) }
-    ensures share { OnOk result (share.new ≡ with_steps share.old steps.items) }
+    requires steps { steps.now ≡ issue_steps share.old.node home version }
+    ensures log { OnOk result (ledger.new ≡ with_entries ledger.old (map untold steps.now)) }
+    ensures share { OnOk result (share.new ≡ with_steps share.old steps.now) }
     ensures err { OnErr result ((ledger.new ≡ ledger.old) × (share.new ≡ share.old)) }
     ensures memory { IsOkUnless result Fault.OutOfMemory }
     ensures part { IsPart (world_after (steps_of ledger.new.log)) version.key (Some part.new) }
@@ -223,11 +197,11 @@ impl<J: Naming> Book<J> {
     {
         self.ledger.agree(share);
         let node = share.node();
-        let steps = steps_of_issue(self.alloc, node, home, version)?;
         let key = version.key().try_clone(self.alloc)?;
         let row = Row::of(self.alloc, version.try_clone(self.alloc)?)?;
         let copy = version.try_clone(self.alloc)?;
         let of_part = key.try_clone(self.alloc)?;
+        let steps = steps_of_issue(node, home, version, &row);
         let entry = self.keys.entry(of_part)?;
         let part = entry.or_insert(KeyPart::new(self.alloc));
         issue_in(
@@ -238,7 +212,7 @@ impl<J: Naming> Book<J> {
             home,
             copy,
             &row,
-            steps,
+            &steps,
         )?;
         self.versions += 1;
         let place = Place { holder: node, home };
@@ -318,7 +292,8 @@ impl<J: Naming> Book<J> {
             NodeStays self.old.log self.new.log node }
         ensures sessions { (session : ℕ) → SessionStays self.old.log self.new.log session }
     {
-        let steps = steps_of_hold(self.alloc, holder, home, incoming)?;
+        let place = Place { holder, home };
+        let steps = [StepRef::hold(place, incoming)];
         let first = incoming.key().try_clone(self.alloc)?;
         let mut keys = more_keys(self.alloc, incoming)?;
         let mut receipts = Vec::with_capacity(self.alloc, incoming.versions().len())?;
@@ -332,12 +307,11 @@ impl<J: Naming> Book<J> {
                     share,
                     home,
                     incoming,
-                    steps,
+                    &steps,
                 )?;
             }
             None => unreachable!(),
         }
-        let place = Place { holder, home };
         give_receipts(
             &self.ledger,
             &mut receipts,

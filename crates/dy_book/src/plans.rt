@@ -174,6 +174,17 @@ impl<J: Naming> Book<J> {
         Ok(past)
     }
 
+    // A copy of the key, which shares what the index has of it.
+    fn own_copy(&self, key: &Key) -> Result<Key, Fault>
+        ensures value { IfOk result (λ copy. copy ≡ key.now) }
+        ensures memory { IsOkUnless result Fault.OutOfMemory }
+    {
+        match self.keys.get_key_value(key) {
+            Some((own, _part)) => own.try_clone(self.alloc),
+            None => key.try_clone(self.alloc),
+        }
+    }
+
     /// The version that an issue would add now for the share's node: the dot is the node's last
     /// counter of the key plus one, and the past is the histories, together, of the versions that
     /// the context names. It makes no step.
@@ -219,7 +230,7 @@ impl<J: Naming> Book<J> {
             Ok(past) => past,
             Err(fault) => return Err(fault),
         };
-        let key = match key.try_clone(self.alloc) {
+        let key = match self.own_copy(key) {
             Ok(key) => key,
             Err(fault) => return Err(fault),
         };

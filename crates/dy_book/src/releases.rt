@@ -13,31 +13,27 @@ ghost use Rattle.dy_book.specs.inside.Indexes.{IsIndex};
 use crate::books::Book;
 use crate::custodies;
 use crate::parts::KeyPart;
-use dy_core::{Place, Step};
+use dy_core::Place;
 use dy_dots::{Fault, NodeId};
-use dy_shares::{Naming, NodeShare, Receipt};
+use dy_shares::{Naming, NodeShare, Receipt, StepRef};
 use dy_siblings::Key;
 use std::alloc::Global;
 use std::collections::BTreeMap;
 
 // A release of each receipt's dot.
-fn steps_of_release<J: Naming>(
+fn steps_of_release<'a, J: Naming>(
     alloc: Global,
     holder: NodeId,
-    receipts: &[Receipt<J>],
-) -> Result<Vec<Step>, Fault>
+    receipts: &'a [Receipt<J>],
+) -> Result<Vec<StepRef<'a>>, Fault>
     ensures ok { IfOk result (λ steps. steps.items ≡ release_steps holder receipts.now) }
     ensures memory { IsOkUnless result Fault.OutOfMemory }
 {
     let mut steps = Vec::with_capacity(alloc, receipts.len())?;
     for receipt in receipts {
-        let key = receipt.key().try_clone(alloc)?;
         let home = receipt.home();
-        steps.push(Step::Release {
-            place: Place { holder, home },
-            key,
-            dot: receipt.dot(),
-        })?;
+        let place = Place { holder, home };
+        steps.push(StepRef::release(place, receipt.key(), receipt.dot()))?;
     }
     Ok(steps)
 }
@@ -137,7 +133,7 @@ impl<J: Naming> Book<J> {
         }
         let steps = steps_of_release(self.alloc, holder, receipts)?;
         self.ledger.learn_receipts(receipts);
-        self.ledger.node_steps(share, steps)?;
+        self.ledger.node_steps(share, steps.as_slice())?;
         give_up_all(&mut self.keys, holder, receipts);
         Ok(())
     }

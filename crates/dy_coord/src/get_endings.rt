@@ -1,22 +1,49 @@
-ghost use Rattle.std.specs.Prelude.{◌≡◌, ◌<◌, ◌≤◌, ℕ, List, length, map};
+ghost use Rattle.std.specs.Prelude.{◌≡◌, ◌<◌, ◌≤◌, ℕ, List, length, map, nat_eq};
 ghost use Rattle.std.specs.Prelude.{IfOk, IfErr, OnOk, OnErr, IsOkUnless};
-ghost use Rattle.std.specs.List.{All};
+ghost use Rattle.std.specs.List.{All, IsDistinct};
 ghost use Rattle.dy_siblings.specs.Siblings.{IsSameRow, context_of, newest};
 ghost use Rattle.dy_core.specs.Logs.{rows_of};
 ghost use Rattle.dy_shares.specs.Shares.{since_of, with_get};
-ghost use Rattle.dy_quorum.specs.Gatherings.{first_answers};
+ghost use Rattle.dy_quorum.specs.Gatherings.{answer_homes, first_answers};
 ghost use Rattle.dy_coord.specs.inside.GetParts.{Finishes};
 
 use crate::get_dones::GetDone;
 use crate::get_faults::GetFault;
 use dy_dots::{Context, Fault};
 use dy_quorum::{Gathering, merge_all};
-use dy_shares::{Naming, SessionShare};
+use dy_shares::{Naming, Seen, SessionShare};
 use dy_siblings::Row;
 use dy_transport::AnswerRead;
 use std::alloc::Global;
 
-// Merges the rows of the first answer of each home, and tells the session of these.
+// Merges the rows of these answers, and tells the session of them.
+fn tell_of<J: Naming>(
+    alloc: Global,
+    used: &Vec<Seen<J>>,
+    session: &mut SessionShare<J>,
+) -> Result<(Row, Context), Fault>
+    requires some { 1 ≤ J.r }
+    requires count { length used.now.items ≡ J.r }
+    requires one_key { (key : List ℕ) × All (λ a. a.key ≡ key) used.now.items }
+    requires homes { IsDistinct nat_eq (answer_homes used.now.items) }
+    requires later { All (λ a. since_of session.old < a.at) used.now.items }
+    ensures row { IfOk result (λ p. IsSameRow p.0.versions (newest (rows_of used.now.items))) }
+    ensures key { (key : List ℕ) → All (λ a. a.key ≡ key) used.now.items →
+        IfOk result (λ p. p.0.key ≡ key) }
+    ensures context { IfOk result (λ p. p.1 ≡ context_of p.0.versions) }
+    ensures told { OnOk result
+        (session.new ≡ with_get session.old (since_of session.old) used.now.items) }
+    ensures err { OnErr result (session.new ≡ session.old) }
+    ensures memory { IsOkUnless result Fault.OutOfMemory }
+{
+    let row = merge_all(alloc, used.as_slice())?;
+    let context = row.context(alloc)?;
+    session.note_get(used)?;
+    Ok((row, context))
+}
+
+// Merges the rows of the first answer of each home, and tells the session of these. Where no home
+// answered twice, no answer is copied.
 fn tell<J: Naming>(
     alloc: Global,
     gathering: &Gathering<J>,
@@ -36,11 +63,13 @@ fn tell<J: Naming>(
     ensures err { OnErr result (session.new ≡ session.old) }
     ensures memory { IsOkUnless result Fault.OutOfMemory }
 {
+    if let Some(all) = gathering.if_distinct() {
+        let told = tell_of(alloc, all, session)?;
+        return Ok(told);
+    }
     let chosen = gathering.chosen(alloc)?;
-    let row = merge_all(alloc, chosen.as_slice())?;
-    let context = row.context(alloc)?;
-    session.note_get(chosen)?;
-    Ok((row, context))
+    let told = tell_of(alloc, &chosen, session)?;
+    Ok(told)
 }
 
 /// Ends a get that r homes answered.

@@ -14,7 +14,7 @@ use Rattle.std.proofs.lemmas.Map.Keys.{any_passes_from_place}
 use Rattle.std.proofs.lemmas.Map.Made.{AllPairs-from_IsDistinct, IsDistinct-from_AllPairs}
 use Rattle.std.proofs.lemmas.Option.{slice_get-get_or}
 use Rattle.std.specs.Cmp.{nat_eq_equiv}
-use Rattle.std.specs.List.{All, AllPairs, Contains, list_any, IsDistinct}
+use Rattle.std.specs.List.{All, AllPairs, Contains, fold, list_any, IsDistinct}
 use Rattle.dy_siblings.proofs.Members.{Mapped, map_from}
 use Rattle.dy_quorum.specs.Firsts.{with_first, firsts_by, AreFirstsBy}
 
@@ -264,3 +264,37 @@ module _ {A : Type 0} where
       let few : length (firsts_by home (xs ++ x ∷ [])) ≤ length (firsts_by home xs) + 1 =
       few_push home xs x in
       let l : length (xs ++ x ∷ []) ≡ length xs + 1 = length-append xs (x ∷ []) in omega arith
+
+  -- of so many elements as many are first at most, and where as many are, each is
+  pub firsts_few : (home : A → ℕ) (fs xs : List A) →
+      length (fold (with_first home) fs xs) ≤ length fs + length xs
+  firsts_few home fs [] = omega arith
+  firsts_few home fs (x ∷ xs) = elim (cases_Bool (home_in (map home fs) (home x))) [
+    | inl has ↦ rw has (let l = firsts_few home fs xs in omega arith)
+    | inr lacks ↦ rw lacks (let l = firsts_few home (fs ++ x ∷ []) xs in
+        omega (arith, length-append fs (x ∷ [])))
+  ]
+
+  pub firsts_all : (home : A → ℕ) (fs xs : List A) →
+      length fs + length xs ≤ length (fold (with_first home) fs xs) →
+      fold (with_first home) fs xs ≡ fs ++ xs
+  firsts_all home fs [] many = sym (append-nil fs)
+  firsts_all home fs (x ∷ xs) many =
+      by_test (home_in (map home fs) (home x)) refl (firsts_all home (fs ++ x ∷ []) xs) many
+    where
+      by_test : (b : Bool) → home_in (map home fs) (home x) ≡ b →
+          (length (fs ++ x ∷ []) + length xs ≤ length (fold (with_first home) (fs ++ x ∷ []) xs) →
+          fold (with_first home) (fs ++ x ∷ []) xs ≡ (fs ++ x ∷ []) ++ xs) →
+          length fs + length (x ∷ xs) ≤ length (fold (with_first home) (with_first home fs x) xs) →
+          fold (with_first home) (with_first home fs x) xs ≡ fs ++ x ∷ xs
+      by_test true has rest many =
+          let same : with_first home fs x ≡ fs = rw has refl in
+          let few = firsts_few home fs xs in
+          let long = subst (λ l. length fs + length (x ∷ xs) ≤ length (fold (with_first home) l xs)) same many in
+          absurd (omega arith)
+      by_test false lacks rest many =
+          let more : with_first home fs x ≡ fs ++ x ∷ [] = rw lacks refl in
+          let long = subst (λ l. length fs + length (x ∷ xs) ≤ length (fold (with_first home) l xs)) more many in
+          ap (λ l. fold (with_first home) l xs) more
+          ∙ (rest (omega (arith, long, length-append fs (x ∷ [])))
+          ∙ append_assoc fs (x ∷ []) xs)

@@ -1,30 +1,70 @@
 -- A ledger stays one, and each share that agrees with its roll belongs to its log.
-use Rattle.std.proofs.Common.{◌≡◌, ℕ, suc, ◌+◌, ◌<◌, List, [], ◌∷◌, ◌++◌, length, set, Option, None, Some, slice_index_or, refl, sym, ap, ◌∙◌, subst, arith}
-use Rattle.std.specs.List.{All}
-use Rattle.std.proofs.lemmas.List.Elements.{All-append, All-weaker, All-cons, All-nil}
+use Rattle.std.proofs.Common.{◌≡◌, ℕ, suc, ◌+◌, ◌<◌, List, [], ◌∷◌, ◌++◌, length, length-append, drop, set, Option, None, Some, slice_index_or, refl, sym, ap, ◌∙◌, subst, arith}
+use Rattle.std.specs.Prelude.{MatchOption}
+use Rattle.std.specs.List.{All, AllByRecursion as ByRecursion, cons_option}
+use Rattle.std.proofs.lemmas.List.Elements.{All-append, All-weaker, All-cons, All-nil, recursion_from_All}
+use Rattle.std.proofs.Math.Seq.{drop-append_seam}
 use mathlib.Core.Option.{some}
 use lib.ListN.{get_elem?}
 use Rattle.dy_core.specs.Worlds.{Layout, empty_world}
 use Rattle.dy_core.specs.Logs.{world_after, IsLegal, IsLegalFrom}
+use Rattle.dy_core.specs.declared.acks.Acked.{Acked}
 use Rattle.dy_core.specs.declared.steps.Step.{Step}
 use Rattle.dy_core.specs.declared.steps.Step.TheVariants.{Issue, Hold, Release, Fetch, Ack}
 use Rattle.dy_core.proofs.OverLogs.{legal_join}
 use Rattle.dy_shares.specs.declared.entries.Entry.{Entry}
 use Rattle.dy_shares.specs.declared.entries.Done.{Done}
-use Rattle.dy_shares.specs.Shares.{ack_at, first_parts, with_steps, steps_of, IsOwnedStep, AreOwned, BelongsTo, SessionBelongsTo, NodePart, SessionPart, AreAll, Account, HasNode, HasSession}
+use Rattle.dy_shares.specs.Shares.{ack_at, ack_of, acks_of, node_of, first_parts, with_steps, steps_of, IsOwnedStep, AreOwned, BelongsTo, SessionBelongsTo, NodePart, SessionPart, AreAll, Account, HasNode, HasSession}
 use Rattle.dy_shares.specs.inside.Parts.{entries_of, numbered, done_steps, done_acks, AreOf, IsPartOf, IsRollOf, IsLedger, Held, held, done_from, AgreesAsNode, AgreesAsSession}
 use Rattle.dy_shares.proofs.Rolls.{roll_free, roll_opened, roll_means, roll_grown}
 use Rattle.std.proofs.lemmas.List.{append-nil}
-use Rattle.dy_shares.proofs.Owners.{place_of_node, place_of_session, steps_of-append, steps_of-entries, done_steps-append, done_steps-numbered, done_acks-append}
+use Rattle.dy_shares.proofs.Owners.{place_of_node, place_of_session, steps_of-append, steps_of-entries, steps_of-length, done_steps-append, done_steps-numbered, done_acks-append}
 use Rattle.dy_shares.proofs.Showing.{part_belongs}
 
+-- the acks of more steps
+acks_of-append : (xs ys : List Step) → acks_of (xs ++ ys) ≡ acks_of xs ++ acks_of ys
+acks_of-append [] ys = refl
+acks_of-append (x ∷ xs) ys = ap (cons_option (ack_of x)) (acks_of-append xs ys) ∙ one_more (ack_of x)
+  where
+    one_more : (o : Option Acked) → cons_option o (acks_of xs ++ acks_of ys) ≡ cons_option o (acks_of xs) ++ acks_of ys
+    one_more None = refl
+    one_more (Some a) = refl
+
+no_ack : (node : ℕ) (s : Step) → node_of s ≡ Some node → ack_of s ≡ None
+no_ack node (Issue n key context value) is = refl
+no_ack node (Hold p row) is = refl
+no_ack node (Release p key d) is = refl
+no_ack node (Fetch p key) is = refl
+no_ack node (Ack key d w) is = absurd (cc is)
+
+-- a node's steps are no acks
+pub no_acks : (node : ℕ) (ss : List Step) → All (λ s. node_of s ≡ Some node) ss → acks_of ss ≡ []
+no_acks node ss all = by_recursion ss (recursion_from_All (λ s. node_of s ≡ Some node) ss all)
+  where
+    by_recursion : (ss : List Step) → ByRecursion (λ s. node_of s ≡ Some node) ss → acks_of ss ≡ []
+    by_recursion [] a = refl
+    by_recursion (s ∷ ss) a = rw (no_ack node s a.0) (by_recursion ss a.1)
+
+-- where no ack is given, none is among the steps
+pub without_ack : (o : Option Acked) (acks : List Acked) → MatchOption o (acks ≡ []) (λ a. acks ≡ a ∷ []) → ((a : Acked) → o ≡ Some a → ⊥) → acks ≡ []
+without_ack None acks m not_some = m
+without_ack (Some a) acks m not_some = absurd (not_some a refl)
+
 module _ (nodes : ℕ) (layout : Layout) where
-  -- the stored steps and the legal log, with more steps
-  stored_more : (steps : List Step) (log : List Entry) (told : Option ℕ) (ss : List Step) → steps ≡ steps_of log → steps ++ ss ≡ steps_of (log ++ entries_of told ss)
-  stored_more steps log told ss is = ap (λ xs. xs ++ ss) is ∙ (ap (λ xs. steps_of log ++ xs) (sym (steps_of-entries told ss)) ∙ sym (steps_of-append log (entries_of told ss)))
+  -- the steps of the log, their number, their acks, and that they are legal, with more steps
+  steps_more : (log : List Entry) (told : Option ℕ) (ss : List Step) → steps_of log ++ ss ≡ steps_of (log ++ entries_of told ss)
+  steps_more log told ss = ap (λ xs. steps_of log ++ xs) (sym (steps_of-entries told ss)) ∙ sym (steps_of-append log (entries_of told ss))
+
+  counted_more : (steps : ℕ) (log : List Entry) (told : Option ℕ) (ss : List Step) → steps ≡ length log → steps + length ss ≡ length (log ++ entries_of told ss)
+  counted_more steps log told ss is =
+      omega (arith, is, length-append log (entries_of told ss), steps_of-length (entries_of told ss), ap length (steps_of-entries told ss))
+
+  acked_more : (acks new : List Acked) (log : List Entry) (told : Option ℕ) (ss : List Step) → acks ≡ acks_of (steps_of log) → acks ++ acks_of ss ≡ new → new ≡ acks_of (steps_of (log ++ entries_of told ss))
+  acked_more acks new log told ss is new_is =
+      sym new_is ∙ (ap (λ xs. xs ++ acks_of ss) is ∙ (sym (acks_of-append (steps_of log) ss) ∙ ap acks_of (steps_more log told ss)))
 
   legal_more : (log : List Entry) (told : Option ℕ) (ss : List Step) → IsLegal layout (steps_of log) → IsLegalFrom layout (world_after (steps_of log)) ss → IsLegal layout (steps_of (log ++ entries_of told ss))
-  legal_more log told ss legal allowed = subst (IsLegal layout) (stored_more (steps_of log) log told ss refl) (legal_join layout empty_world (steps_of log) ss legal allowed)
+  legal_more log told ss legal allowed = subst (IsLegal layout) (steps_more log told ss) (legal_join layout empty_world (steps_of log) ss legal allowed)
 
   owned_on : (sessions : ℕ) (told : Option ℕ) (s : Step) → IsOwnedStep nodes sessions told s → IsOwnedStep nodes (sessions + 1) told s
   owned_on sessions told (Issue node key context value) o = o
@@ -33,31 +73,34 @@ module _ (nodes : ℕ) (layout : Layout) where
   owned_on sessions told (Fetch p key) o = o
   owned_on sessions told (Ack key d w) o = (o.0, o.1, omega (arith, o.2))
 
-  module _ (steps : List Step) (sessions : ℕ) (log : List Entry) (roll : List (List Done)) (is : IsLedger nodes layout steps sessions log roll) where
-    pub ledger_opened : IsLedger nodes layout steps (sessions + 1) log (roll ++ [] ∷ [])
+  module _ (steps : ℕ) (acks : List Acked) (sessions : ℕ) (log : List Entry) (roll : List (List Done)) (is : IsLedger nodes layout steps acks sessions log roll) where
+    pub ledger_opened : IsLedger nodes layout steps acks (sessions + 1) log (roll ++ [] ∷ [])
     ledger_opened =
         record {
-          stored = is.stored;
+          counted = is.counted;
+          acked = is.acked;
           roll_is = subst (λ n. IsRollOf nodes log n (roll ++ [] ∷ [])) (omega arith) (roll_opened nodes log (nodes + sessions) roll is.roll_is);
           owned = All-weaker (λ e. IsOwnedStep nodes sessions e.told e.step) (λ e. IsOwnedStep nodes (sessions + 1) e.told e.step) (λ e. owned_on sessions e.told e.step) log is.owned;
           legal = is.legal;
         }
 
     pub ledger_free : (told : Option ℕ) (ss : List Step) → AreOf nodes None (entries_of told ss) → AreOwned nodes sessions (entries_of told ss) → IsLegalFrom layout (world_after (steps_of log)) ss
-        → IsLedger nodes layout (steps ++ ss) sessions (log ++ entries_of told ss) roll
-    ledger_free told ss free owned allowed =
+        → acks_of ss ≡ [] → IsLedger nodes layout (steps + length ss) acks sessions (log ++ entries_of told ss) roll
+    ledger_free told ss free owned allowed none =
         record {
-          stored = stored_more steps log told ss is.stored;
+          counted = counted_more steps log told ss is.counted;
+          acked = acked_more acks acks log told ss is.acked (ap (λ xs. acks ++ xs) none ∙ append-nil acks);
           roll_is = roll_free nodes log (entries_of told ss) (nodes + sessions) roll free is.roll_is;
           owned = All-append (λ e. IsOwnedStep nodes sessions e.told e.step) log (entries_of told ss) is.owned owned;
           legal = legal_more log told ss is.legal allowed;
         }
 
-    pub ledger_grown : (told : Option ℕ) (ss : List Step) (k : ℕ) (own : List Done) → get_elem? roll k ≡ some own → AreOf nodes (Some k) (entries_of told ss) → AreOwned nodes sessions (entries_of told ss) → IsLegalFrom layout (world_after (steps_of log)) ss
-        → IsLedger nodes layout (steps ++ ss) sessions (log ++ entries_of told ss) (set roll k (own ++ numbered (length log + 1) ss))
-    ledger_grown told ss k own at place owned allowed =
+    pub ledger_grown : (told : Option ℕ) (ss : List Step) (new : List Acked) (k : ℕ) (own : List Done) → acks ++ acks_of ss ≡ new → get_elem? roll k ≡ some own → AreOf nodes (Some k) (entries_of told ss) → AreOwned nodes sessions (entries_of told ss) → IsLegalFrom layout (world_after (steps_of log)) ss
+        → IsLedger nodes layout (steps + length ss) new sessions (log ++ entries_of told ss) (set roll k (own ++ numbered (length log + 1) ss))
+    ledger_grown told ss new k own acked at place owned allowed =
         record {
-          stored = stored_more steps log told ss is.stored;
+          counted = counted_more steps log told ss is.counted;
+          acked = acked_more acks new log told ss is.acked acked;
           roll_is = roll_grown nodes log told ss (nodes + sessions) roll k own place is.roll_is at;
           owned = All-append (λ e. IsOwnedStep nodes sessions e.told e.step) log (entries_of told ss) is.owned owned;
           legal = legal_more log told ss is.legal allowed;
@@ -92,6 +135,12 @@ module _ (nodes : ℕ) (layout : Layout) where
           each_session = each_session;
           each_entry = is.owned;
         }
+
+-- what the log has behind the steps that it had are those that were added
+pub added_are : (log : List Entry) (told : Option ℕ) (ss : List Step) (steps : ℕ) → steps ≡ length log → numbered (steps + 1) (steps_of (drop steps (log ++ entries_of told ss))) ≡ numbered (length log + 1) ss
+added_are log told ss steps is =
+    ap (λ n. numbered (n + 1) (steps_of (drop n (log ++ entries_of told ss)))) is
+    ∙ ap (numbered (length log + 1)) (ap steps_of (drop-append_seam log (entries_of told ss)) ∙ steps_of-entries told ss)
 
 -- what all have that are left, and the one that was taken from the end, all had
 pub all_back : {X : Type 0} (P : X → Type 0) (xs rest : List X) (x : X) → xs ≡ rest ++ x ∷ [] → P x → All P rest → All P xs

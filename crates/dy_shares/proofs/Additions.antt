@@ -3,13 +3,12 @@ use Rattle.std.proofs.Common.{◌≡◌, ◌≢◌, ℕ, ◌+◌, ◌<◌, Bool,
 use Rattle.std.specs.List.{All, AllByRecursion as ByRecursion}
 use Rattle.std.proofs.lemmas.List.{append-nil, append_assoc}
 use Rattle.std.proofs.lemmas.List.Elements.{recursion_from_All, filter-append, All-map, All-cons, All-nil, All-weaker}
-use Rattle.dy_core.specs.Worlds.{Layout, World}
-use Rattle.dy_core.specs.Steps.{IsAllowed}
-use Rattle.dy_core.specs.Logs.{IsLegalFrom}
+use Rattle.dy_dots.specs.declared.dots.Dot.{Dot}
+use Rattle.dy_core.specs.declared.places.Place.{Place}
 use Rattle.dy_core.specs.declared.steps.Step.{Step}
 use Rattle.dy_core.specs.declared.steps.Step.TheVariants.{Issue, Hold, Release, Fetch, Ack}
 use Rattle.dy_shares.specs.declared.entries.Entry.{Entry}
-use Rattle.dy_shares.specs.Shares.{names, node_of, steps_of, ack_at, acks_from, session_acks, IsOwnedStep, AreOwned, IsFetch, NodeStays, SessionStays, untold}
+use Rattle.dy_shares.specs.Shares.{names, node_of, steps_of, ack_at, acks_from, session_acks, IsOwnedStep, AreOwned, NodeStays, SessionStays, told_to, untold}
 use Rattle.dy_shares.specs.inside.Parts.{seat_of, entries_of, AreOf}
 use Rattle.dy_shares.proofs.Rolls.{names_not}
 use Rattle.dy_shares.proofs.Owners.{steps_of-append, steps_of-entries}
@@ -38,35 +37,16 @@ node_owned nodes sessions node ss low all =
     (All-weaker (λ s. node_of s ≡ Some node) (IsOwnedStep nodes sessions None) (λ s is. owned_step nodes sessions node s low is) ss all)
 
 -- a fetch is nobody's
-fetch_is_nobodys : (s : Step) → IsFetch s → node_of s ≡ None
-fetch_is_nobodys (Issue n key context value) is = absurd is
-fetch_is_nobodys (Hold p row) is = absurd is
-fetch_is_nobodys (Release p key d) is = absurd is
-fetch_is_nobodys (Fetch p key) is = refl
-fetch_is_nobodys (Ack key d w) is = absurd is
+pub fetch_seat : (nodes : ℕ) (p : Place) (key : List ℕ) → AreOf nodes None (entries_of None (Fetch p key ∷ []))
+fetch_seat nodes p key = alone (λ e. seat_of nodes e ≡ None) (untold (Fetch p key)) refl
 
-pub fetch_seat : (nodes : ℕ) (s : Step) → IsFetch s → AreOf nodes None (entries_of None (s ∷ []))
-fetch_seat nodes s is = alone (λ e. seat_of nodes e ≡ None) (untold s) (fetch_is_nobodys s is)
+pub fetch_owned : (nodes sessions : ℕ) (p : Place) (key : List ℕ) → AreOwned nodes sessions (entries_of None (Fetch p key ∷ []))
+fetch_owned nodes sessions p key = alone (λ e. IsOwnedStep nodes sessions e.told e.step) (untold (Fetch p key)) refl
 
-fetch_is_owned : (nodes sessions : ℕ) (s : Step) → IsFetch s → IsOwnedStep nodes sessions None s
-fetch_is_owned nodes sessions (Issue n key context value) is = absurd is
-fetch_is_owned nodes sessions (Hold p row) is = absurd is
-fetch_is_owned nodes sessions (Release p key d) is = absurd is
-fetch_is_owned nodes sessions (Fetch p key) is = refl
-fetch_is_owned nodes sessions (Ack key d w) is = absurd is
-
-pub fetch_owned : (nodes sessions : ℕ) (s : Step) → IsFetch s → AreOwned nodes sessions (entries_of None (s ∷ []))
-fetch_owned nodes sessions s is = alone (λ e. IsOwnedStep nodes sessions e.told e.step) (untold s) (fetch_is_owned nodes sessions s is)
-
-fetch_is_allowed : (layout : Layout) (w : World) (s : Step) → IsFetch s → IsAllowed layout w s
-fetch_is_allowed layout w (Issue n key context value) is = absurd is
-fetch_is_allowed layout w (Hold p row) is = absurd is
-fetch_is_allowed layout w (Release p key d) is = absurd is
-fetch_is_allowed layout w (Fetch p key) is = tt
-fetch_is_allowed layout w (Ack key d n) is = absurd is
-
-pub fetch_allowed : (layout : Layout) (w : World) (s : Step) → IsFetch s → IsLegalFrom layout w (s ∷ [])
-fetch_allowed layout w s is = (fetch_is_allowed layout w s is, tt)
+-- an ack is a session's, whose seat is open
+pub ack_owned : (nodes sessions session index : ℕ) (key : List ℕ) (d : Dot) (w : ℕ) → index ≡ nodes + session → index < nodes + sessions → AreOwned nodes sessions (entries_of (Some session) (Ack key d w ∷ []))
+ack_owned nodes sessions session index key d w is within =
+    alone (λ e. IsOwnedStep nodes sessions e.told e.step) (told_to session (Ack key d w)) (session, refl, omega (arith, is, within))
 
 filter_none : {X : Type 0} (test : X → Bool) (xs : List X) → ByRecursion (λ x. test x ≡ false) xs → filter test xs ≡ []
 filter_none test [] a = refl

@@ -168,19 +168,19 @@ module _ {S : Type 0} where
       let known : get_elem? parts index ≡ some own = subst (λ p. get_elem? p index ≡ some own) (sym (mine.0 refl).1) (mine.1 refl).1 in
       (knower_with parts index own, keeps, tt, subst Agree (sym (set_again s.views id (knower_with parts index own) at)) h, (refl, known)))
 
-  pub grows_as : (id slots index : ℕ) (v : View) (parts : List (List Done)) (own : List Done) (read : S → List Done) (x : S) (f : ℕ → ℕ) → v ≡ knower_with parts index own
-      → Allows Rule slots id (v, []) 0 f (Grows read (step slots 0 0 0 (some x)) (v, []))
-  grows_as id slots index v parts own read x f is = subst (λ (u : View). Allows Rule slots id (u, []) 0 f (Grows read (step slots 0 0 0 (some x)) (u, []))) (sym is)
-      (λ s h len at fits.
-      let mine = h.3 id (knower_with parts index own) at in
-      let more = own ++ read x in (
-        grown (knower_with parts index own) (read x),
-        keeps,
-        tt,
-        subst (λ p. get_elem? s.views id ≡ some (knower_with p index own) → Agree (set s.views id (knower_with (set p index more) index more))) (sym (mine.0 refl).1)
-            (λ there. grows h.0 h.1 h.2 s.views id index own more there h.3) at,
-        λ y same. ap (λ (z : S). (grown (knower_with parts index own) (read z), [])) (some-injective x y same),
-      ))
+pub grows_as : (id slots index : ℕ) (v : View) (parts : List (List Done)) (own xs : List Done) (f : ℕ → ℕ) → v ≡ knower_with parts index own
+    → Allows Rule slots id (v, []) 0 f (Grows (step slots 0 0 0 (some xs)) (v, []))
+grows_as id slots index v parts own xs f is = subst (λ (u : View). Allows Rule slots id (u, []) 0 f (Grows (step slots 0 0 0 (some xs)) (u, []))) (sym is)
+    (λ s h len at fits.
+    let mine = h.3 id (knower_with parts index own) at in
+    let more = own ++ xs in (
+      grown (knower_with parts index own) xs,
+      keeps,
+      tt,
+      subst (λ p. get_elem? s.views id ≡ some (knower_with p index own) → Agree (set s.views id (knower_with (set p index more) index more))) (sym (mine.0 refl).1)
+          (λ there. grows h.0 h.1 h.2 s.views id index own more there h.3) at,
+      λ ys same. ap (λ (zs : List Done). (grown (knower_with parts index own) zs, [])) (some-injective xs ys same),
+    ))
 
 pub begins : Agree (knower [] ∷ [])
 begins = (0, [], (λ n. n), one)

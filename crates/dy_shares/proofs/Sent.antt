@@ -10,7 +10,6 @@ use Rattle.dy_shares.specs.contracts.session_shares.SessionShare as SessionShare
 use Rattle.dy_shares.specs.contracts.session_shares.Spent as Spent
 use Rattle.dy_shares.proofs.chronicles.Front.TheSendSync as front
 use Rattle.dy_shares.proofs.parts.Share.TheSendSync as share
-use Rattle.dy_shares.proofs.session_shares.Get.TheSendSync as get
 
 pub session_share_goes : (J : RattleType) (name : Ghosts J.Denot) → IsSend (SessionShare.the_row J name)
 session_share_goes J name =
@@ -18,5 +17,6 @@ session_share_goes J name =
     let log = front.the_send J name in
     let one : IsSend (Spent.the_row J name) = search (sendable, crosses) depth 20 in
     let spent = Vec-send (Spent.the_row J name) one in
-    let gets = Vec-send (Get.the_row J name) (get.the_send J name) in
+    let told : IsSend (Get.the_row J name) = search (sendable, crosses) depth 20 in
+    let gets = Vec-send (Get.the_row J name) told in
     search sendable depth 20

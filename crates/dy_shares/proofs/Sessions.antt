@@ -6,11 +6,12 @@ use Rattle.std.proofs.lemmas.List.Elements.{All-append, All-cons, All-nil}
 use mathlib.Core.List.{IsPrefix}
 use mathlib.Core.Logic.{dite}
 use native.Mathlib.Decide.{ℕ_discrete}
+use Rattle.dy_dots.specs.declared.dots.Dot.{Dot}
 use Rattle.dy_core.specs.Logs.{Answer, IsAnswer}
 use Rattle.dy_core.specs.declared.steps.Step.{Step}
-use Rattle.dy_core.specs.declared.steps.Step.TheVariants.{Issue, Hold, Release, Fetch, Ack}
+use Rattle.dy_core.specs.declared.steps.Step.TheVariants.{Ack}
 use Rattle.dy_shares.specs.declared.entries.Entry.{Entry}
-use Rattle.dy_shares.specs.Shares.{steps_of, greatest, answer_numbers, latest_of, since_of, ack_at, AckTold, GetTold, ReceiptParts, SessionPart, GetMatches, IsInTurn, AreInTurn, IsAck, IsAckBy, IsReceipt, AreSpentFor, AreSpent, with_get, with_ack}
+use Rattle.dy_shares.specs.Shares.{steps_of, greatest, answer_numbers, latest_of, since_of, ack_at, AckTold, GetTold, ReceiptParts, SessionPart, GetMatches, IsInTurn, AreInTurn, IsReceipt, AreSpendable, AreSpentFor, AreSpent, with_get, with_ack}
 use Rattle.dy_shares.specs.inside.Parts.{IsSessionShare}
 use Rattle.dy_shares.proofs.Later.{answer_later, gets_later, spents_later}
 use Rattle.dy_shares.proofs.Owners.{steps_of-append, steps_of-length}
@@ -28,18 +29,12 @@ numbers-append (g ∷ gs) hs =
 numbers_one : (g : GetTold) → greatest (answer_numbers (g ∷ [])) ≡ greatest (map (λ a. a.at) g.answers)
 numbers_one g = ap greatest (append-nil (map (λ a. a.at) g.answers))
 
-ack_number : (at : ℕ) (s : Step) → IsAck s → greatest (map (λ a. a.at) (ack_at at s)) ≡ at
-ack_number at (Issue n key context value) is = absurd is
-ack_number at (Hold p row) is = absurd is
-ack_number at (Release p key d) is = absurd is
-ack_number at (Fetch p key) is = absurd is
-ack_number at (Ack key d w) is = omega arith
-
 -- the since after an ack, and after a get
-since_ack : (s : SessionPart) (at : ℕ) (step : Step) (receipts : List ReceiptParts) → IsAck step → since_of (with_ack s at step receipts) ≡ max (since_of s) at
-since_ack s at step receipts is =
-    let both = ap greatest (map-append (λ (a : AckTold). a.at) s.acks (ack_at at step)) ∙ greatest-append (map (λ a. a.at) s.acks) (map (λ a. a.at) (ack_at at step)) in
-    omega (arith, both, ack_number at step is)
+since_ack : (s : SessionPart) (at : ℕ) (key : List ℕ) (d : Dot) (w : ℕ) (receipts : List ReceiptParts) → since_of (with_ack s at (Ack key d w) receipts) ≡ max (since_of s) at
+since_ack s at key d w receipts =
+    let acks = ack_at at (Ack key d w) in
+    let both = ap greatest (map-append (λ (a : AckTold). a.at) s.acks acks) ∙ greatest-append (map (λ a. a.at) s.acks) (map (λ a. a.at) acks) in
+    omega (arith, both)
 
 since_get : (s : SessionPart) (since : ℕ) (answers : List Answer) → since_of (with_get s since answers) ≡ max (since_of s) (greatest (map (λ a. a.at) answers))
 since_get s since answers =
@@ -78,21 +73,6 @@ turn_ack acks a before (g ∷ gs) low all =
       turn_ack acks a (before ++ g ∷ []) gs (omega (arith, low, both)) all.1,
     )
 
-turn_step : (acks : List AckTold) (gs : List GetTold) (at : ℕ) (s : Step) → IsAck s → greatest (answer_numbers gs) < at → AreInTurn acks [] gs → AreInTurn (acks ++ ack_at at s) [] gs
-turn_step acks gs at (Issue n key context value) is low all = absurd is
-turn_step acks gs at (Hold p row) is low all = absurd is
-turn_step acks gs at (Release p key d) is low all = absurd is
-turn_step acks gs at (Fetch p key) is low all = absurd is
-turn_step acks gs at (Ack key d w) is low all = turn_ack acks (record { at = at; key = key; dot = d; w = w }) [] gs low all
-
--- what receipts make is an ack
-pub made_ack : (receipts : List ReceiptParts) (s : Step) → IsAckBy receipts s → IsAck s
-made_ack receipts (Issue n key context value) is = absurd is
-made_ack receipts (Hold p row) is = absurd is
-made_ack receipts (Release p key d) is = absurd is
-made_ack receipts (Fetch p key) is = absurd is
-made_ack receipts (Ack key d w) is = tt
-
 -- receipts for one ack more
 spent_push : (steps : List Step) (acks : List AckTold) (spent : List (List ReceiptParts)) (t : AckTold) (receipts : List ReceiptParts) → AreSpent steps acks spent → AreSpentFor steps t receipts
     → AreSpent steps (acks ++ t ∷ []) (spent ++ receipts ∷ [])
@@ -101,13 +81,9 @@ spent_push steps [] (rs ∷ spent) t receipts all is = absurd all
 spent_push steps (a ∷ acks) [] t receipts all is = absurd all
 spent_push steps (a ∷ acks) (rs ∷ spent) t receipts all is = (all.0, spent_push steps acks spent t receipts all.1 is)
 
-spent_step : (log rest : List Step) (acks : List AckTold) (spent : List (List ReceiptParts)) (s : Step) (receipts : List ReceiptParts) → IsAckBy receipts s → 0 < length rest
-    → All (IsReceipt log) receipts → AreSpent (log ++ rest) acks spent → AreSpent (log ++ rest) (acks ++ ack_at (length log + 1) s) (spent ++ receipts ∷ [])
-spent_step log rest acks spent (Issue n key context value) receipts is some hold all = absurd is
-spent_step log rest acks spent (Hold p row) receipts is some hold all = absurd is
-spent_step log rest acks spent (Release p key d) receipts is some hold all = absurd is
-spent_step log rest acks spent (Fetch p key) receipts is some hold all = absurd is
-spent_step log rest acks spent (Ack key d w) receipts is some hold all =
+spent_step : (log rest : List Step) (acks : List AckTold) (spent : List (List ReceiptParts)) (key : List ℕ) (d : Dot) (w : ℕ) (receipts : List ReceiptParts) → AreSpendable key d w receipts → 0 < length rest
+    → All (IsReceipt log) receipts → AreSpent (log ++ rest) acks spent → AreSpent (log ++ rest) (acks ++ ack_at (length log + 1) (Ack key d w)) (spent ++ receipts ∷ [])
+spent_step log rest acks spent key d w receipts is some hold all =
     let t : AckTold = record { at = length log + 1; key = key; dot = d; w = w } in
     let before : take (t.at - 1) (log ++ rest) ≡ log =
     ap (λ k. take k (log ++ rest)) (omega arith) ∙ (take-append-le (length log) log rest (omega arith) ∙ take_all (length log) log (omega arith)) in
@@ -125,24 +101,24 @@ spent_each steps (a ∷ acks) [] all = absurd all
 spent_each steps (a ∷ acks) (rs ∷ spent) all = ap suc (spent_each steps acks spent all.1)
 
 -- a session's share that is told an ack, or a get
-pub session_acked : (nodes r index since since_new : ℕ) (front log rest : List Entry) (s : SessionPart) (step : Step) (receipts : List ReceiptParts) → IsSessionShare nodes r index since front s → IsAckBy receipts step
+pub session_acked : (nodes r index since since_new : ℕ) (front log rest : List Entry) (s : SessionPart) (key : List ℕ) (d : Dot) (w : ℕ) (receipts : List ReceiptParts) → IsSessionShare nodes r index since front s → AreSpendable key d w receipts
     → since_new ≡ max since (length log + 1) → IsPrefix front (log ++ rest) → 0 < length rest → since ≤ length log → All (IsReceipt (steps_of log)) receipts
-    → IsSessionShare nodes r index since_new (log ++ rest) (with_ack s (length log + 1) step receipts)
-session_acked nodes r index since since_new front log rest s step receipts is by new p some before hold =
-    let ack = made_ack receipts step by in
+    → IsSessionShare nodes r index since_new (log ++ rest) (with_ack s (length log + 1) (Ack key d w) receipts)
+session_acked nodes r index since since_new front log rest s key d w receipts is by new p some before hold =
+    let step = Ack key d w in
     let at : ℕ = length log + 1 in
     let joined = steps_of-append log rest in
     let count = steps_of-length log in
     record {
       seat_is = is.seat_is;
-      since_is = new ∙ (ap (λ n. max n at) is.since_is ∙ sym (since_ack s at step receipts ack));
+      since_is = new ∙ (ap (λ n. max n at) is.since_is ∙ sym (since_ack s at key d w receipts));
       reached = omega (arith, new, before, some, length-append log rest);
       spent_are = subst (λ ss. AreSpent ss (s.acks ++ ack_at at step) (s.spent ++ receipts ∷ [])) (sym joined)
           (subst (λ n. AreSpent (steps_of log ++ steps_of rest) (s.acks ++ ack_at (n + 1) step) (s.spent ++ receipts ∷ [])) count
-          (spent_step (steps_of log) (steps_of rest) s.acks s.spent step receipts by (omega (arith, some, steps_of-length rest)) hold
+          (spent_step (steps_of log) (steps_of rest) s.acks s.spent key d w receipts by (omega (arith, some, steps_of-length rest)) hold
           (subst (λ ss. AreSpent ss s.acks s.spent) joined (spents_later front (log ++ rest) s.acks s.spent p is.spent_are))));
       gets_match = gets_later front (log ++ rest) r s.gets p is.gets_match;
-      in_turn = turn_step s.acks s.gets at step ack (omega (arith, before, is.since_is)) is.in_turn;
+      in_turn = turn_ack s.acks (record { at = at; key = key; dot = d; w = w }) [] s.gets (omega (arith, before, is.since_is)) is.in_turn;
     }
 
 pub session_got : (nodes r index since since_new : ℕ) (front front_new : List Entry) (s : SessionPart) (answers : List Answer) → IsSessionShare nodes r index since front s

@@ -12,6 +12,9 @@ use Rattle.dy_shares.specs.Shares.{Account, AckTold, GetTold, NodePart, ReceiptP
 use Rattle.dy_shares.specs.contracts.entries.Entry as entry
 use Rattle.dy_shares.specs.declared.entries.Entry.{Entry}
 
+abbrev pub step_code : Coded Step
+step_code = step.the_row.coded
+
 abbrev pub entries_code : Coded (List Entry)
 entries_code = coded_list entry.the_row.coded
 
@@ -22,7 +25,7 @@ account_code =
 
 abbrev pub node_part_code : Coded NodePart
 node_part_code =
-    code_by (ℕ × List Step) (coded× coded_ℕ (coded_list step.the_row.coded))
+    code_by (ℕ × List Step) (coded× coded_ℕ (coded_list step_code))
     (λ p. (p.node, p.steps)) (λ p. record { node = p.0; steps = p.1 }) (λ _. refl)
 
 abbrev pub receipt_parts_code : Coded ReceiptParts

@@ -2,7 +2,7 @@
 use Rattle.std.specs.Prelude.{◌≡◌, ℕ, zero, suc, ◌+◌, ◌-◌, ◌<◌, ◌≤◌, ◌⊎◌, ◌==◌, max, Bool, false}
 use Rattle.std.specs.Prelude.{Option, None, Some, List, [], ◌∷◌, ◌++◌, map, filter, take, drop}
 use Rattle.std.specs.Prelude.{length, nat_eq, slice_get, if◌then◌else◌}
-use Rattle.std.specs.List.{All, Any, IsDistinct}
+use Rattle.std.specs.List.{All, Any, IsDistinct, filter_map}
 use Rattle.logbook.specs.Pages.{Book}
 use Rattle.atomic_table.specs.Seated.{TableId}
 use Rattle.dy_dots.specs.declared.dots.Dot.{Dot}
@@ -65,22 +65,6 @@ node_of (Hold p row) = Some p.holder
 node_of (Release p key d) = Some p.holder
 node_of (Fetch p key) = None
 node_of (Ack key d w) = None
-
--- the step is a fetch
-abbrev pub IsFetch : Step → Type 0
-IsFetch (Issue node key context value) = ⊥
-IsFetch (Hold p row) = ⊥
-IsFetch (Release p key d) = ⊥
-IsFetch (Fetch p key) = Unit {0}
-IsFetch (Ack key d w) = ⊥
-
--- the step is an ack
-abbrev pub IsAck : Step → Type 0
-IsAck (Issue node key context value) = ⊥
-IsAck (Hold p row) = ⊥
-IsAck (Release p key d) = ⊥
-IsAck (Fetch p key) = ⊥
-IsAck (Ack key d w) = Unit {0}
 
 -- whether the one named, if any, is this one
 abbrev pub names : ℕ → Option ℕ → Bool
@@ -203,6 +187,18 @@ ack_at at (Release p key d) = []
 ack_at at (Fetch p key) = []
 ack_at at (Ack key d w) = record { at = at; key = key; dot = d; w = w } ∷ []
 
+-- the step as an ack, where it is one
+abbrev pub ack_of : Step → Option Acked
+ack_of (Issue node key context value) = None
+ack_of (Hold p row) = None
+ack_of (Release p key d) = None
+ack_of (Fetch p key) = None
+ack_of (Ack key d w) = Some (record { key = key; dot = d; w = w })
+
+-- the acks among these steps, in their order
+abbrev pub acks_of : List Step → List Acked
+acks_of steps = filter_map ack_of steps
+
 -- the acks that a session was told by these entries, which are numbered from `at`
 abbrev pub acks_from : ℕ → ℕ → List Entry → List AckTold
 acks_from at session [] = []
@@ -251,14 +247,6 @@ pub record AreSpendable (key : List ℕ) (dot : Dot) (w : ℕ) (receipts : List 
     pub of_dot : All (λ r. (r.key ≡ key) × (r.dot ≡ dot)) receipts
     pub homes_distinct : IsDistinct nat_eq (map (λ r. r.home) receipts)
     pub holders_distinct : IsDistinct nat_eq (map (λ r. r.holder) receipts)
-
--- the step is an ack, which these receipts make
-abbrev pub IsAckBy : List ReceiptParts → Step → Type 0
-IsAckBy receipts (Issue node key context value) = ⊥
-IsAckBy receipts (Hold p row) = ⊥
-IsAckBy receipts (Release p key d) = ⊥
-IsAckBy receipts (Fetch p key) = ⊥
-IsAckBy receipts (Ack key d w) = AreSpendable key d w receipts
 
 -- the receipts were spent for the ack that was told: they make it, and each held where it was made
 pub record AreSpentFor (steps : List Step) (t : AckTold) (receipts : List ReceiptParts) : Type 0

@@ -2,3 +2,4 @@
 pub mod Agreeing
 pub mod Growth
 pub mod Parts
+pub mod Said

@@ -1,10 +1,11 @@
 // A log that one owner extends, and fronts of it that anybody may copy.
-ghost use Rattle.std.specs.Prelude.{◌≡◌, ℕ, zero, suc, ◌+◌, ◌<◌, ◌^◌, ◌++◌, ◌∷◌, [], length};
+ghost use Rattle.std.specs.Prelude.{◌≡◌, ℕ, zero, suc, ◌+◌, ◌<◌, ◌^◌, ◌++◌, ◌∷◌, [], length, drop};
 ghost use Rattle.std.specs.Prelude.{IfSome, MatchBool};
 ghost use mathlib.Core.List.{IsPrefix};
 ghost use Rattle.logbook.specs.Pages.{nib, may_write};
 ghost use Rattle.dy_shares.specs.inside.Growth.{head_of};
-ghost use Rattle.dy_shares.specs.inside.Parts.{entries_of};
+ghost use Rattle.dy_shares.specs.inside.Parts.{entries_of, numbered};
+ghost use Rattle.dy_shares.specs.Shares.{steps_of};
 
 use crate::entries::{Batch, Entry};
 use crate::names::Naming;
@@ -74,11 +75,11 @@ impl Play<Entries, u64> for Append {
 }
 
 /// What a step asks for: the entries.
-impl Plain<Batch, Entries, u64> for Append {
+impl<'a> Plain<Batch<'a>, Entries, u64> for Append {
     ghost use Rattle.std.specs.Prelude.{None};
     ghost use Rattle.dy_shares.specs.inside.Parts.{entries_of};
 
-    ghost ask = { λ batch. entries_of batch.told batch.steps.items };
+    ghost ask = { λ batch. entries_of batch.told batch.steps.now };
 
     ghost state = { λ batch. None };
 }
@@ -208,6 +209,27 @@ impl<J: Naming> Model for Front<J> {
     ghost invariant = { λ f. f.seen.book ≡ J.book };
 }
 
+// What the log has behind so many steps, each with its number. It has no bytes but that number.
+#[derive(Drop)]
+pub struct Added {
+    after: usize,
+    seen: Seen<Entries, u64, Law>,
+}
+
+impl Model for Added {
+    ghost use Rattle.std.specs.Prelude.{◌+◌, List, drop};
+    ghost use Rattle.dy_shares.specs.inside.Growth.{joined};
+    ghost use Rattle.dy_shares.specs.Shares.{steps_of};
+    ghost use Rattle.dy_shares.specs.inside.Parts.{numbered, part_code};
+    ghost use Rattle.dy_shares.specs.declared.entries.Done.{Done};
+
+    ghost Value = { List Done };
+
+    ghost coded = { part_code };
+
+    ghost view = { λ a. numbered (a.after + 1) (steps_of (drop a.after (joined a.seen.log))) };
+}
+
 impl<J: Naming> Front<J> {
     /// The same front once more. Takes no memory.
     pub fn copied(&self) -> Front<J>
@@ -239,6 +261,16 @@ impl<J: Naming> Chronicle<J> {
         }
     }
 
+    // What the log has behind so many steps.
+    pub(crate) fn added(&self, after: usize) -> Added
+        ensures { result ≡ numbered (after + 1) (steps_of (drop after self.now)) }
+    {
+        Added {
+            after,
+            seen: self.seen.again(),
+        }
+    }
+
     // The log begins with the front, whatever came between.
     pub(crate) fn learn(&mut self, front: &Front<J>)
         ensures same { self.new ≡ self.old }
@@ -252,9 +284,9 @@ impl<J: Naming> Chronicle<J> {
     }
 
     // Appends the entries, all or none, and says whether it did.
-    pub(crate) fn append(&mut self, batch: &Batch) -> bool
+    pub(crate) fn append(&mut self, batch: &Batch<'_>) -> bool
         ensures { MatchBool result
-            (self.new ≡ self.old ++ entries_of batch.now.told batch.now.steps.items)
+            (self.new ≡ self.old ++ entries_of batch.now.told batch.now.steps.now)
             (self.new ≡ self.old) }
     {
         if self.batches >= 1 << 40 {
@@ -265,7 +297,7 @@ impl<J: Naming> Chronicle<J> {
         };
         let mut offer: Offer<Entries, u64, Law, Nothing> = self
             .seen
-            .plain::<Nothing, Batch, Append>(batch);
+            .plain::<Nothing, Batch<'_>, Append>(batch);
         self.head
             .compare_exchange::<Append, Nothing>(0, 0, &mut self.seen, &mut offer, &mut self.baton);
         self.baton = next;

@@ -1,35 +1,36 @@
 ghost use Rattle.std.specs.Prelude.{◌≡◌, ◌≢◌, ℕ, ◌+◌, ◌<◌, ◌≤◌, ◌∷◌, ◌↔◌, Option, Some, None, []};
 ghost use Rattle.std.specs.Prelude.{map, length, IfOk, IfErr, OnOk, OnErr, IsErrOf, IsOkUnless};
-ghost use Rattle.std.specs.Prelude.{MatchBool};
+ghost use Rattle.std.specs.Prelude.{MatchBool, MatchOption};
 ghost use Rattle.std.specs.List.{All};
 ghost use mathlib.Core.List.{IsPrefix};
 ghost use Rattle.dy_dots.specs.declared.nodes.TheConstants.{MAX_NODES};
 ghost use Rattle.dy_core.specs.Worlds.{layout_of};
 ghost use Rattle.dy_core.specs.Logs.{IsAnswer, IsLegal};
+ghost use Rattle.dy_core.specs.declared.steps.Step.TheVariants.{Ack, Fetch};
 ghost use Rattle.dy_shares.specs.inside.Parts.{AreOf, IsPartOf, entries_of, with_done};
-ghost use Rattle.dy_shares.specs.Shares.{AreAll, HasAll, AreOwned, BelongsTo, IsAckBy, IsFetch};
+ghost use Rattle.dy_shares.specs.Shares.{AreAll, AreOwned, AreSpendable, BelongsTo, HasAll};
 ghost use Rattle.dy_shares.specs.Shares.{IsMissing, IsReceipt, MayFollow, NodeStays};
-ghost use Rattle.dy_shares.specs.Shares.{SessionBelongsTo, SessionStays, answer_of, empty_account};
+ghost use Rattle.dy_shares.specs.Shares.{SessionBelongsTo, SessionStays, acks_of, answer_of};
+ghost use Rattle.dy_shares.specs.Shares.{empty_account};
 ghost use Rattle.dy_shares.specs.Shares.{first_parts, first_session, node_of, receipt_parts};
 ghost use Rattle.dy_shares.specs.Shares.{steps_of, told_to, untold, with_ack, with_entries};
 ghost use Rattle.dy_shares.specs.Shares.{with_session, with_steps};
 ghost use Rattle.dy_shares.specs.declared.ledgers.TheConstants.{MAX_SESSIONS};
 
-use crate::chronicles::{Chronicle, Front};
+use crate::chronicles::Chronicle;
 use crate::endings::{
     EndRefused, drop_nodes, drop_sessions, end_nodes, end_sessions, missing_node, missing_session,
 };
-use crate::entries::{Batch, alone, move_all};
+use crate::entries::Batch;
 use crate::names::{Blank, Naming};
 use crate::node_shares::{NodeShare, open_nodes};
 use crate::parts::{Roll, Share};
 use crate::receipts::Receipt;
-use crate::seens::Seen;
 use crate::session_shares::{SessionShare, Spent};
-use crate::sinces::Since;
-use dy_core::{Place, Step};
+use crate::step_refs::StepRef;
+use dy_core::{Acked, Place};
 use dy_dots::{Dot, Fault, NodeId};
-use dy_siblings::{Key, Row};
+use dy_siblings::Key;
 use std::alloc::Global;
 use std::marker::Model;
 
@@ -42,8 +43,10 @@ pub struct Ledger<J: Naming> {
     alloc: Global,
     nodes: u8,
     sessions: usize,
-    steps: Vec<Step>,
-    chronicle: Chronicle<J>,
+    // How many steps the log has, and its acks: the steps themselves are there for contracts alone.
+    pub(crate) steps: usize,
+    pub(crate) acks: Vec<Acked>,
+    pub(crate) chronicle: Chronicle<J>,
     roll: Roll<J>,
 }
 
@@ -62,7 +65,7 @@ impl<J: Naming> Model for Ledger<J> {
 
     ghost invariant = { λ l.
         (l.nodes ≡ J.ring.nodes)
-        × IsLedger J.ring.nodes (layout_of J.ring J.n) l.steps.items l.sessions l.chronicle
+        × IsLedger J.ring.nodes (layout_of J.ring J.n) l.steps l.acks.items l.sessions l.chronicle
         l.roll };
 }
 
@@ -88,7 +91,8 @@ impl<J: Naming> Ledger<J> {
             alloc,
             nodes,
             sessions: 0,
-            steps: Vec::new(alloc),
+            steps: 0,
+            acks: Vec::new(alloc),
             chronicle: chronicle.named(),
             roll,
         };
@@ -119,14 +123,6 @@ impl<J: Naming> Ledger<J> {
         self.sessions
     }
 
-    /// The steps of the log, in their order. Takes no memory.
-    pub fn steps(&self) -> &[Step]
-        ensures value { result.now ≡ steps_of self.now.log }
-        ensures legal { IsLegal (layout_of J.ring J.n) (steps_of self.now.log) }
-    {
-        self.steps.as_slice()
-    }
-
     /// The share lent is the node's part of the log. Takes no memory.
     pub fn agree(&mut self, share: &mut NodeShare<J>)
         ensures log { self.new ≡ self.old }
@@ -146,12 +142,16 @@ impl<J: Naming> Ledger<J> {
         self.roll.compare(&mut share.share);
     }
 
-    /// Adds steps of one node to the log, all or none, and to the node's share.
-    pub fn node_steps(&mut self, share: &mut NodeShare<J>, steps: Vec<Step>) -> Result<(), Fault>
-        requires own { All (λ s. node_of s ≡ Some share.old.node) steps.items }
-        requires allowed { MayFollow J.ring J.n self.old.log steps.items }
-        ensures log { OnOk result (self.new ≡ with_entries self.old (map untold steps.items)) }
-        ensures share { OnOk result (share.new ≡ with_steps share.old steps.items) }
+    /// Adds steps of one node to the log, all or none, and to the node's share. Takes no memory.
+    pub fn node_steps(
+        &mut self,
+        share: &mut NodeShare<J>,
+        steps: &[StepRef<'_>],
+    ) -> Result<(), Fault>
+        requires own { All (λ s. node_of s ≡ Some share.old.node) steps.now }
+        requires allowed { MayFollow J.ring J.n self.old.log steps.now }
+        ensures log { OnOk result (self.new ≡ with_entries self.old (map untold steps.now)) }
+        ensures share { OnOk result (share.new ≡ with_steps share.old steps.now) }
         ensures err { OnErr result ((self.new ≡ self.old) × (share.new ≡ share.old)) }
         ensures memory { IsOkUnless result Fault.OutOfMemory }
         ensures belongs { BelongsTo (steps_of self.old.log) share.old }
@@ -159,7 +159,7 @@ impl<J: Naming> Ledger<J> {
             NodeStays self.old.log self.new.log node }
         ensures sessions { (session : ℕ) → SessionStays self.old.log self.new.log session }
     {
-        self.append(&mut share.share, None, steps)?;
+        self.append(&mut share.share, None, steps, None)?;
         Ok(())
     }
 
@@ -168,16 +168,18 @@ impl<J: Naming> Ledger<J> {
     pub fn ack_step(
         &mut self,
         share: &mut SessionShare<J>,
-        step: Step,
+        key: &Key,
+        dot: Dot,
+        w: u8,
         receipts: &Vec<Receipt<J>>,
     ) -> Result<(), Fault>
-        requires ack { IsAckBy receipts.now.items step }
+        requires ack { AreSpendable key.now dot w receipts.now.items }
         requires hold { All (IsReceipt (steps_of self.old.log)) receipts.now.items }
-        requires allowed { MayFollow J.ring J.n self.old.log (step ∷ []) }
-        ensures log { OnOk result
-            (self.new ≡ with_entries self.old (told_to share.old.session step ∷ [])) }
-        ensures share { OnOk result
-            (share.new ≡ with_ack share.old (length self.old.log + 1) step receipts.now.items) }
+        requires allowed { MayFollow J.ring J.n self.old.log (Ack key.now dot w ∷ []) }
+        ensures log { OnOk result (self.new ≡
+            with_entries self.old (told_to share.old.session (Ack key.now dot w) ∷ [])) }
+        ensures share { OnOk result (share.new ≡
+            with_ack share.old (length self.old.log + 1) (Ack key.now dot w) receipts.now.items) }
         ensures err { OnErr result ((self.new ≡ self.old) × (share.new ≡ share.old)) }
         ensures memory { IsOkUnless result Fault.OutOfMemory }
         ensures belongs { SessionBelongsTo self.old.log J.r share.old }
@@ -188,143 +190,80 @@ impl<J: Naming> Ledger<J> {
         self.agree_session(share);
         self.chronicle.learn(&share.front);
         share.spent.reserve(1)?;
-        let steps = alone(self.alloc, step)?;
-        let number = self.steps.len() + 1;
+        let ack = Acked {
+            key: key.try_clone(self.alloc)?,
+            dot,
+            w,
+        };
+        let steps = [StepRef::ack(key, dot, w)];
         let session = share.number;
-        self.append(&mut share.share, Some(session), steps)?;
+        self.append(&mut share.share, Some(session), &steps, Some(ack))?;
         share.spent.push_reserved(Spent::of(receipts));
-        share.since = share.since.max(number);
+        share.since = share.since.max(self.steps);
         share.front.join(&self.chronicle.front());
         Ok(())
     }
 
-    /// Adds a fetch to the log, which changes no share.
-    pub fn fetch_step(&mut self, step: Step) -> Result<(), Fault>
-        requires { IsFetch step }
-        ensures log { OnOk result (self.new ≡ with_entries self.old (untold step ∷ [])) }
+    /// Adds a fetch to the log, which changes no share. Takes no memory.
+    pub fn fetch_step(&mut self, place: Place, key: &Key) -> Result<(), Fault>
+        ensures log { OnOk result
+            (self.new ≡ with_entries self.old (untold (Fetch place key.now) ∷ [])) }
         ensures err { OnErr result (self.new ≡ self.old) }
         ensures memory { IsOkUnless result Fault.OutOfMemory }
         ensures nodes { (node : ℕ) → NodeStays self.old.log self.new.log node }
         ensures sessions { (session : ℕ) → SessionStays self.old.log self.new.log session }
     {
-        let steps = alone(self.alloc, step)?;
-        self.steps.reserve(1)?;
-        let first = self.steps.len() + 1;
+        let Some(count) = self.steps.checked_add(1) else {
+            return Err(Fault::OutOfMemory);
+        };
+        let steps = [StepRef::fetch(place, key)];
         let batch = Batch {
             told: None,
-            first,
-            steps,
+            steps: &steps,
         };
         if !self.chronicle.append(&batch) {
             return Err(Fault::OutOfMemory);
         }
-        move_all(&mut self.steps, batch.steps);
+        self.steps = count;
         Ok(())
     }
 
-    // Adds steps of one seat of the roll to the log, all or none, and to its share.
+    // Adds steps of one seat of the roll to the log, all or none, and to its share. The ack is the
+    // one among them, where there is one.
     fn append(
         &mut self,
         share: &mut Share<J>,
         told: Option<usize>,
-        steps: Vec<Step>,
+        steps: &[StepRef<'_>],
+        ack: Option<Acked>,
     ) -> Result<(), Fault>
-        requires seat { AreOf J.ring.nodes (Some share.old.index) (entries_of told steps.items) }
+        requires ack { MatchOption ack (acks_of steps.now ≡ []) (λ a. acks_of steps.now ≡ a ∷ []) }
+        requires seat { AreOf J.ring.nodes (Some share.old.index) (entries_of told steps.now) }
         requires owned { share.old.index < J.ring.nodes + self.old.sessions →
-            AreOwned J.ring.nodes self.old.sessions (entries_of told steps.items) }
-        requires allowed { MayFollow J.ring J.n self.old.log steps.items }
-        ensures log { OnOk result (self.new ≡ with_entries self.old (entries_of told steps.items)) }
+            AreOwned J.ring.nodes self.old.sessions (entries_of told steps.now) }
+        requires allowed { MayFollow J.ring J.n self.old.log steps.now }
+        ensures log { OnOk result (self.new ≡ with_entries self.old (entries_of told steps.now)) }
         ensures share { OnOk result
-            (share.new ≡ with_done share.old (length self.old.log + 1) steps.items) }
+            (share.new ≡ with_done share.old (length self.old.log + 1) steps.now) }
         ensures err { OnErr result ((self.new ≡ self.old) × (share.new ≡ share.old)) }
         ensures memory { IsOkUnless result Fault.OutOfMemory }
         ensures belongs { IsPartOf J.ring.nodes (layout_of J.ring J.n) self.old share.old }
     {
         self.roll.compare(share);
-        self.steps.reserve(steps.len())?;
-        let first = self.steps.len() + 1;
-        let batch = Batch { told, first, steps };
-        if !self.chronicle.append(&batch) {
+        let Some(total) = self.steps.checked_add(steps.len()) else {
+            return Err(Fault::OutOfMemory);
+        };
+        self.acks.reserve(ack.is_some() as usize)?;
+        if !self.chronicle.append(&Batch { told, steps }) {
             return Err(Fault::OutOfMemory);
         }
-        self.roll.grow(share, &batch);
-        move_all(&mut self.steps, batch.steps);
-        Ok(())
-    }
-
-    /// A receipt of what is covered as the log stands. Takes no memory.
-    pub fn receipt(&self, key: Key, dot: Dot, place: Place) -> Receipt<J>
-        requires { IsReceipt (steps_of self.now.log)
-            (receipt_parts key dot place.holder place.home) }
-        ensures { result ≡ receipt_parts key dot place.holder place.home }
-    {
-        Receipt::new(key, dot, place, self.chronicle.front())
-    }
-
-    /// An answer that the log has. Takes no memory.
-    pub fn seen(&self, at: usize, place: Place, key: Key, row: Row) -> Seen<J>
-        requires is { IsAnswer (steps_of self.now.log)
-            (answer_of at place.holder place.home key row) }
-        requires of_key { row.key ≡ key }
-        ensures { result ≡ answer_of at place.holder place.home key row }
-    {
-        Seen::new(at, place, key, row, self.chronicle.front())
-    }
-
-    /// How many steps the log has. Takes no memory.
-    pub fn since(&self) -> Since<J>
-        ensures { result ≡ length self.now.log }
-    {
-        Since::new(self.steps.len(), self.chronicle.front())
-    }
-
-    /// The log as it stands. Takes no memory.
-    pub fn front(&self) -> Front<J>
-        ensures { result ≡ self.now.log }
-    {
-        self.chronicle.front()
-    }
-
-    /// The log begins with the front, whatever came between. Takes no memory.
-    pub fn learn(&mut self, front: &Front<J>)
-        ensures log { self.new ≡ self.old }
-        ensures begins { IsPrefix front.now self.old.log }
-    {
-        self.chronicle.learn(front);
-    }
-
-    /// The receipt holds as the log stands now, whatever came between. Takes no memory.
-    pub fn learn_receipt(&mut self, receipt: &Receipt<J>)
-        ensures log { self.new ≡ self.old }
-        ensures holds { IsReceipt (steps_of self.old.log) receipt.now }
-    {
-        self.chronicle.learn(receipt.front());
-    }
-
-    /// Each of the receipts holds as the log stands now, whatever came between. Takes no memory.
-    pub fn learn_receipts(&mut self, receipts: &[Receipt<J>])
-        ensures log { self.new ≡ self.old }
-        ensures hold { All (IsReceipt (steps_of self.old.log)) receipts.now }
-    {
-        for receipt in receipts {
-            self.learn_receipt(receipt);
+        let added = self.chronicle.added(self.steps);
+        self.roll.grow(share, &added);
+        if let Some(ack) = ack {
+            self.acks.push_reserved(ack);
         }
-    }
-
-    /// The log has the answer at its number, whatever came between. Takes no memory.
-    pub fn learn_seen(&mut self, seen: &Seen<J>)
-        ensures log { self.new ≡ self.old }
-        ensures is { IsAnswer (steps_of self.old.log) seen.now }
-    {
-        self.chronicle.learn(seen.front());
-    }
-
-    /// The log has at least so many steps. Takes no memory.
-    pub fn learn_since(&mut self, since: &Since<J>)
-        ensures log { self.new ≡ self.old }
-        ensures reached { since.now ≤ length self.old.log }
-    {
-        self.chronicle.learn(since.front());
+        self.steps = total;
+        Ok(())
     }
 
     /// Whether the share of a node or of a session is missing among these. Takes no memory.
@@ -342,14 +281,13 @@ impl<J: Naming> Ledger<J> {
         false
     }
 
-    /// Ends the ledger and gives its steps, where each of its shares is handed in; otherwise the
-    /// ledger and the shares come back, each list in its order. Takes no memory.
+    /// Ends the ledger, where each of its shares is handed in; otherwise the ledger and the shares
+    /// come back, each list in its order. Takes no memory.
     pub fn end(
         self,
         nodes: Vec<NodeShare<J>>,
         sessions: Vec<SessionShare<J>>,
-    ) -> Result<Vec<Step>, EndRefused<J>>
-        ensures log { IfOk result (λ steps. steps.items ≡ steps_of self.log) }
+    ) -> Result<(), EndRefused<J>>
         ensures exact { IfOk result (λ _. AreAll J.ring.nodes J.r self nodes.items sessions.items) }
         ensures shares_missing { IfErr result (λ _.
             IsMissing J.ring.nodes self.sessions nodes.items sessions.items) }
@@ -375,13 +313,14 @@ impl<J: Naming> Ledger<J> {
             alloc: _,
             nodes: _,
             sessions: _,
-            steps,
+            steps: _,
+            acks: _,
             mut chronicle,
             mut roll,
         } = self;
         end_nodes(&mut roll, nodes);
         end_sessions(&mut roll, &mut chronicle, sessions);
-        Ok(steps)
+        Ok(())
     }
 
     /// Ends the ledger with whatever shares are there, and gives nothing.
@@ -391,6 +330,7 @@ impl<J: Naming> Ledger<J> {
             nodes: _,
             sessions: _,
             steps: _,
+            acks: _,
             chronicle: _,
             roll: _,
         } = self;

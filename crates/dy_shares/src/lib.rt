@@ -12,9 +12,12 @@ mod names;
 mod node_shares;
 mod parts;
 mod receipts;
+mod said;
 mod seens;
 mod session_shares;
 mod sinces;
+mod step_refs;
+mod witnesses;
 
 pub use chronicles::Front;
 pub use endings::EndRefused;
@@ -27,3 +30,4 @@ pub use receipts::Receipt;
 pub use seens::Seen;
 pub use session_shares::SessionShare;
 pub use sinces::Since;
+pub use step_refs::StepRef;

@@ -3,9 +3,10 @@ ghost use Rattle.std.specs.Prelude.{◌≡◌, ◌<◌, ◌++◌, ◌∷◌, [],
 ghost use mathlib.Core.Option.{some};
 ghost use lib.ListN.{get_elem?};
 ghost use Rattle.dy_shares.specs.inside.Agreeing.{knower};
-ghost use Rattle.dy_shares.specs.inside.Parts.{held, with_done};
+ghost use Rattle.dy_shares.specs.inside.Parts.{held};
 
-use crate::entries::{Batch, Done};
+use crate::chronicles::Added;
+use crate::entries::Done;
 use crate::names::Naming;
 use atomic_table::{Badge, Join, Play, Seat as Party, Split, Table, TableRule};
 use std::alloc::{AllocError, Global};
@@ -26,7 +27,7 @@ pub struct View {
 /// The rule of the roll.
 pub struct Agreement;
 
-impl TableRule<Batch, View, ()> for Agreement {
+impl TableRule<Added, View, ()> for Agreement {
     ghost use Rattle.std.specs.Prelude.{[]};
     ghost use Rattle.dy_shares.specs.inside.Agreeing.{Agree, knower};
 
@@ -38,7 +39,7 @@ impl TableRule<Batch, View, ()> for Agreement {
 /// The keeper compares the share that it holds.
 pub struct Compare;
 
-impl Play<Batch, View> for Compare {
+impl Play<Added, View> for Compare {
     ghost use Rattle.dy_shares.specs.inside.Agreeing.{Compares};
 
     ghost then = { Compares };
@@ -47,11 +48,10 @@ impl Play<Batch, View> for Compare {
 /// The keeper changes the share that it holds, and its seat in the roll.
 pub struct Grow;
 
-impl Play<Batch, View> for Grow {
+impl Play<Added, View> for Grow {
     ghost use Rattle.dy_shares.specs.inside.Agreeing.{Grows};
-    ghost use Rattle.dy_shares.specs.inside.Parts.{numbered};
 
-    ghost then = { Grows (λ batch. numbered batch.first batch.steps.items) };
+    ghost then = { Grows };
 }
 
 /// A new seat, and its share.
@@ -84,13 +84,13 @@ impl Join<View> for Lends {
     ghost spent = { nobody };
 }
 
-type Desk = Table<Batch, View, (), Agreement, Global>;
+type Desk = Table<Added, View, (), Agreement, Global>;
 
 /// A roll with no seat, not named yet.
 #[derive(Drop)]
 pub struct BlankRoll {
     pub table: Desk,
-    keeper: Party<Batch, View>,
+    keeper: Party<Added, View>,
     pub ghost words: { 0 < table.shared.table_id.words },
     pub ghost fits: { keeper.table_id ≡ table.shared.table_id },
     pub ghost empty: { keeper.me ≡ (knower [], []) },
@@ -100,7 +100,7 @@ pub struct BlankRoll {
 #[derive(Drop)]
 pub struct Roll<J: Naming> {
     table: Desk,
-    keeper: Party<Batch, View>,
+    keeper: Party<Added, View>,
     of: PhantomData<J>,
 }
 
@@ -200,7 +200,7 @@ impl<J: Naming> Roll<J> {
         ensures same { (self.new ≡ self.old) × (share.new ≡ share.old) }
         ensures agree { get_elem? self.old share.old.index ≡ some share.old.part }
     {
-        let party = mem::replace(&mut share.badge, Badge::blank()).into_seat::<Batch>();
+        let party = mem::replace(&mut share.badge, Badge::blank()).into_seat::<Added>();
         let table = &self.table;
         table.shared.join_seat::<Lends>(&mut self.keeper, party);
         table.shared.load::<Compare>(&mut self.keeper, 0);
@@ -208,18 +208,18 @@ impl<J: Naming> Roll<J> {
         share.badge = party.into_badge();
     }
 
-    // The steps go to the share and to its seat.
-    pub(crate) fn grow(&mut self, share: &mut Share<J>, batch: &Batch)
-        ensures roll { self.new ≡ slice_set self.old share.old.index
-            (with_done share.old batch.now.first batch.now.steps.items).part }
-        ensures share { share.new ≡ with_done share.old batch.now.first batch.now.steps.items }
+    // What came to the log goes to the share and to its seat.
+    pub(crate) fn grow(&mut self, share: &mut Share<J>, added: &Added)
+        ensures roll { self.new ≡
+            slice_set self.old share.old.index (share.old.part ++ added.now) }
+        ensures share { share.new ≡ held share.old.index (share.old.part ++ added.now) }
     {
-        let party = mem::replace(&mut share.badge, Badge::blank()).into_seat::<Batch>();
+        let party = mem::replace(&mut share.badge, Badge::blank()).into_seat::<Added>();
         let table = &self.table;
         table.shared.join_seat::<Lends>(&mut self.keeper, party);
         table
             .shared
-            .compare_exchange_with::<Grow>(&mut self.keeper, 0, 0, 0, batch);
+            .compare_exchange_with::<Grow>(&mut self.keeper, 0, 0, 0, added);
         let party = table.shared.split_seat::<Lends>(&mut self.keeper);
         share.badge = party.into_badge();
     }

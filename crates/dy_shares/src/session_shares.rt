@@ -46,12 +46,12 @@ impl<J: Naming> Spent<J> {
     }
 }
 
-// A get as the session was told it, behind so many acks.
+// A get as the session was told it, behind so many acks. It has no bytes.
 #[derive(Drop)]
 pub struct Get<J: Naming> {
-    since: usize,
-    seens: Vec<Seen<J>>,
-    acks: usize,
+    since: Snapshot<usize>,
+    seens: Snapshot<Vec<Seen<J>>>,
+    acks: Snapshot<usize>,
 }
 
 impl<J: Naming> Model for Get<J> {
@@ -62,7 +62,21 @@ impl<J: Naming> Model for Get<J> {
 
     ghost coded = { get_told_code };
 
-    ghost view = { λ g. record { since = g.since; answers = g.seens.items; acks = g.acks } };
+    ghost view = { λ g.
+        record { since = g.since.value; answers = g.seens.value.items; acks = g.acks.value } };
+}
+
+impl<J: Naming> Get<J> {
+    // Just these answers.
+    fn of(since: usize, seens: &Vec<Seen<J>>, acks: usize) -> Get<J>
+        ensures { result ≡ record { since = since; answers = seens.now.items; acks = acks } }
+    {
+        Get {
+            since: Snapshot::of(&since),
+            seens: Snapshot::of(seens),
+            acks: Snapshot::of(&acks),
+        }
+    }
 }
 
 /// A session's share of a book: the acks and the gets that the session was told, each with its step
@@ -146,12 +160,13 @@ impl<J: Naming> SessionShare<J> {
 
     /// Tells the session a get: its answers, as many as a get needs, of one key and distinct homes,
     /// each later than what the session was told before.
-    pub fn note_get(&mut self, seens: Vec<Seen<J>>) -> Result<(), Fault>
-        requires count { length seens.items ≡ J.r }
-        requires one_key { (key : List ℕ) × All (λ a. a.key ≡ key) seens.items }
-        requires homes { IsDistinct nat_eq (map (λ a. a.home) seens.items) }
-        requires later { All (λ a. since_of self.old < a.at) seens.items }
-        ensures ok { OnOk result (self.new ≡ with_get self.old (since_of self.old) seens.items) }
+    pub fn note_get(&mut self, seens: &Vec<Seen<J>>) -> Result<(), Fault>
+        requires count { length seens.now.items ≡ J.r }
+        requires one_key { (key : List ℕ) × All (λ a. a.key ≡ key) seens.now.items }
+        requires homes { IsDistinct nat_eq (map (λ a. a.home) seens.now.items) }
+        requires later { All (λ a. since_of self.old < a.at) seens.now.items }
+        ensures ok { OnOk result
+            (self.new ≡ with_get self.old (since_of self.old) seens.now.items) }
         ensures err { OnErr result (self.new ≡ self.old) }
         ensures memory { IsOkUnless result Fault.OutOfMemory }
     {
@@ -159,7 +174,7 @@ impl<J: Naming> SessionShare<J> {
         let since = self.since;
         self.since = learn_all(&mut self.front, since, seens.as_slice());
         let acks = self.spent.len();
-        self.gets.push_reserved(Get { since, seens, acks });
+        self.gets.push_reserved(Get::of(since, seens, acks));
         Ok(())
     }
 

@@ -12,9 +12,6 @@ use Rattle.dy_siblings.specs.declared.versions.Version.{Version}
 use Rattle.dy_core.specs.inside.Meanings.{is_at, is_by, is_nothing}
 use Rattle.dy_core.specs.contracts.holdings.Holding as holding
 use Rattle.dy_core.specs.declared.holdings.Holding.{Holding}
-use Rattle.dy_core.specs.declared.acks.Acked.{Acked}
-use Rattle.dy_core.specs.declared.steps.Step.{Step}
-use Rattle.dy_core.specs.declared.steps.Step.TheVariants.{Issue, Hold, Release, Fetch, Ack}
 
 -- a holding as plain data
 abbrev pub holding_code : Coded Holding
@@ -62,14 +59,6 @@ pub record IsInOrder {X : Type 0} (cmp : X → X → Ordering) (items list : Lis
   pub in_order : IsStrictlySortedBy cmp list
   pub is_item : (x : X) → Contains list x → Contains items x
   pub tied : (x : X) → Contains items x → (y : X) × Contains list y × (cmp x y ≡ Equal)
-
--- the list with the step at its end, where it is an ack
-abbrev pub ack_added : List Acked → Step → List Acked
-ack_added acks (Issue node key context value) = acks
-ack_added acks (Hold p row) = acks
-ack_added acks (Release p key d) = acks
-ack_added acks (Fetch p key) = acks
-ack_added acks (Ack key d w) = acks ++ record { key = key; dot = d; w = w } ∷ []
 
 -- whether there is a version
 abbrev pub has_some : List Version → Bool

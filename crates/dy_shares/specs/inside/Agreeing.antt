@@ -74,8 +74,9 @@ abbrev pub grown : View → List Done → View
 grown v xs = knower_with (slice_set v.parts v.index (v.own ++ xs)) v.index (v.own ++ xs)
 
 -- the steps that were said go to both
-abbrev pub Grows : {S : Type 0} → (S → List Done) → Step S → Me S View → ℕ → Me S View → Type 0
-Grows {S} read s me found after = (x : S) → s.said ≡ some x → after ≡ (grown me.0 (read x), me.1)
+abbrev pub Grows :
+    Step (List Done) → Me (List Done) View → ℕ → Me (List Done) View → Type 0
+Grows s me found after = (xs : List Done) → s.said ≡ some xs → after ≡ (grown me.0 xs, me.1)
 
 -- the part that the first party has for its own
 abbrev pub part_of : List View → List Done

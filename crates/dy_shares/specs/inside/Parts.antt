@@ -5,11 +5,13 @@ use Rattle.std.specs.List.{All}
 use Rattle.std.specs.Coded.{Coded, code_by, coded×, coded_ℕ, coded_list}
 use mathlib.Core.Option.{some}
 use lib.ListN.{get_elem?}
+use Rattle.dy_core.specs.declared.acks.Acked.{Acked}
 use Rattle.dy_core.specs.declared.steps.Step.{Step}
 use Rattle.dy_shares.specs.declared.entries.Entry.{Entry}
 use Rattle.dy_shares.specs.contracts.entries.Done as done
 use Rattle.dy_shares.specs.declared.entries.Done.{Done}
-use Rattle.dy_shares.specs.Shares.{names, node_of, ack_at, steps_of, since_of, Account, AckTold}
+use Rattle.dy_shares.specs.Shares.{names, node_of, ack_at, acks_of, steps_of, since_of}
+use Rattle.dy_shares.specs.Shares.{Account, AckTold}
 use Rattle.dy_shares.specs.Shares.{GetTold, NodePart, ReceiptParts, SessionPart, GetMatches}
 use Rattle.dy_shares.specs.Shares.{AreInTurn, AreOwned, AreSpent}
 use Rattle.dy_core.specs.Worlds.{Layout}
@@ -119,11 +121,12 @@ pub record IsSessionShare (nodes r index since : ℕ) (front : List Entry) (s : 
   pub gets_match : All (GetMatches (steps_of front) r) s.gets
   pub in_turn : AreInTurn s.acks [] s.gets
 
--- a ledger as it is kept: its stored steps are those of the log, its roll has the log's parts, each
--- entry is somebody's, and the log is legal
-pub record IsLedger (nodes : ℕ) (layout : Layout) (steps : List Step) (sessions : ℕ)
+-- a ledger as it is kept: it counts the steps of the log, has its acks, its roll has the log's
+-- parts, each entry is somebody's, and the log is legal
+pub record IsLedger (nodes : ℕ) (layout : Layout) (steps : ℕ) (acks : List Acked) (sessions : ℕ)
     (log : List Entry) (roll : List (List Done)) : Type 0 where
-  pub stored : steps ≡ steps_of log
+  pub counted : steps ≡ length log
+  pub acked : acks ≡ acks_of (steps_of log)
   pub roll_is : IsRollOf nodes log (nodes + sessions) roll
   pub owned : AreOwned nodes sessions log
   pub legal : IsLegal layout (steps_of log)

@@ -1,5 +1,4 @@
--- What is merged and told is the first answers of each home, and what holds of all answers holds of
--- these.
+-- What holds of all answers holds of the first of each home, whether they are all or copies.
 use Rattle.std.proofs.Common.{◌≡◌, ◌<◌, ◌∙◌, List, ℕ, nat_eq, sym, subst}
 use Rattle.std.specs.List.{All, IsDistinct}
 use Rattle.dy_siblings.specs.Siblings.{IsSameRow, newest}
@@ -9,34 +8,34 @@ use Rattle.dy_quorum.specs.Gatherings.{answer_homes}
 use Rattle.dy_coord.proofs.Getting.{all_firsts, firsts_apart}
 use Rattle.dy_coord.proofs.get_endings.tell.Goals as goal
 
-pub merge_all-requires-clause-one_key : goal.merge_all-requires-clause-one_key
-merge_all-requires-clause-one_key g c =
-    let ss : List Answer = c.args.gathering.now.seens in
-    let one = c.requires.one_key in
-    let P : List Answer → Type 0 = λ xs. All (λ a. a.key ≡ one.0) xs in (
-      one.0,
-      subst P (sym (c.as_slice.ensures.value ∙ c.in_ok-chosen.ensures.value))
-          (all_firsts (λ a. a.key ≡ one.0) ss one.1),
-    )
-
-pub note_get-requires-clause-one_key : goal.note_get-requires-clause-one_key
-note_get-requires-clause-one_key g c =
-    let ss : List Answer = c.args.gathering.now.seens in
-    let one = c.requires.one_key in
-    let P : List Answer → Type 0 = λ xs. All (λ a. a.key ≡ one.0) xs in (
-      one.0,
-      subst P (sym c.in_ok-chosen.ensures.value)
-          (all_firsts (λ a. a.key ≡ one.0) ss one.1),
-    )
-
-pub note_get-requires-clause-homes : goal.note_get-requires-clause-homes
-note_get-requires-clause-homes g c =
-    let ss : List Answer = c.args.gathering.now.seens in
+pub tell_of-requires-clause-homes : goal.tell_of-requires-clause-homes
+tell_of-requires-clause-homes g c =
     let P : List Answer → Type 0 = λ xs. IsDistinct nat_eq (answer_homes xs) in
-    subst P (sym c.in_ok-chosen.ensures.value) (firsts_apart ss)
+    subst P (c.in-Some.ensures.some.1 ∙ sym c.in-Some.ensures.some.0)
+    (firsts_apart c.args.gathering.now.seens)
 
-pub note_get-requires-clause-later : goal.note_get-requires-clause-later
-note_get-requires-clause-later g c =
+pub returns-in-Some-clause-row : goal.returns-in-Some-clause-row
+returns-in-Some-clause-row g c =
+    let P : List Answer → Type 0 =
+    λ xs. IsSameRow c.in_ok-told.told.0.versions (newest (rows_of xs)) in
+    subst P (c.in-Some.ensures.some.0 ∙ sym c.in-Some.ensures.some.1) c.in_ok-told.ensures.row
+
+pub tell_of-requires-2-clause-one_key : goal.tell_of-requires-2-clause-one_key
+tell_of-requires-2-clause-one_key g c =
+    let ss : List Answer = c.args.gathering.now.seens in
+    let one = c.requires.one_key in
+    let P : List Answer → Type 0 = λ xs. All (λ a. a.key ≡ one.0) xs in (
+      one.0,
+      subst P (sym c.in_ok-chosen.ensures.value) (all_firsts (λ a. a.key ≡ one.0) ss one.1),
+    )
+
+pub tell_of-requires-2-clause-homes : goal.tell_of-requires-2-clause-homes
+tell_of-requires-2-clause-homes g c =
+    let P : List Answer → Type 0 = λ xs. IsDistinct nat_eq (answer_homes xs) in
+    subst P (sym c.in_ok-chosen.ensures.value) (firsts_apart c.args.gathering.now.seens)
+
+pub tell_of-requires-2-clause-later : goal.tell_of-requires-2-clause-later
+tell_of-requires-2-clause-later g c =
     let ss : List Answer = c.args.gathering.now.seens in
     let since : ℕ = since_of c.args.session.now in
     let P : List Answer → Type 0 = λ xs. All (λ a. since < a.at) xs in
@@ -45,16 +44,12 @@ note_get-requires-clause-later g c =
 pub returns-clause-row : goal.returns-clause-row
 returns-clause-row g c =
     let P : List Answer → Type 0 =
-    λ xs. IsSameRow c.in_ok-row.row.versions (newest (rows_of xs)) in
-    subst P (c.as_slice.ensures.value ∙ c.in_ok-chosen.ensures.value) c.in_ok-row.ensures.merged
+    λ xs. IsSameRow c.in_ok-told-2.told.0.versions (newest (rows_of xs)) in
+    subst P c.in_ok-chosen.ensures.value c.in_ok-told-2.ensures.row
 
 pub returns-clause-key : goal.returns-clause-key
 returns-clause-key g c key all =
     let ss : List Answer = c.args.gathering.now.seens in
     let P : List Answer → Type 0 = λ xs. All (λ a. a.key ≡ key) xs in
-    c.in_ok-row.ensures.key key
-    (subst P (sym (c.as_slice.ensures.value ∙ c.in_ok-chosen.ensures.value))
-    (all_firsts (λ a. a.key ≡ key) ss all))
-
-pub returns-clause-context : goal.returns-clause-context
-returns-clause-context g c = c.in_ok-context.ensures.ok
+    c.in_ok-told-2.ensures.key key
+    (subst P (sym c.in_ok-chosen.ensures.value) (all_firsts (λ a. a.key ≡ key) ss all))

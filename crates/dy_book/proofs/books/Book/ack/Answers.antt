@@ -29,9 +29,9 @@ ack_step-requires-clause-ack g c =
     let own = c.requires.one_dot in
     let p = All-contains (λ (r : ReceiptParts). (r.key ≡ own.0) × (r.dot ≡ own.1)) rs
     c.in-Some.first.now own.2 inside in
-    let of = subst (λ k. AreOf k c.dot-dot.result rs)
-    (sym (c.in_ok-key.ensures.value ∙ (c.key.ensures ∙ p.0)))
-    (subst (λ (d : Dot). AreOf own.0 d rs) (sym (c.dot-dot.ensures ∙ p.1)) own.2) in
+    let of = subst (λ k. AreOf k c.dot.result rs)
+    (sym (c.key.ensures ∙ p.0))
+    (subst (λ (d : Dot). AreOf own.0 d rs) (sym (c.dot.ensures ∙ p.1)) own.2) in
     record {
       count_is = c.requires.count;
       of_dot = of;
@@ -52,16 +52,16 @@ ack_step-requires-clause-allowed g c =
     let layout = layout_of g.J.Naming.ring g.J.Naming.n in
     let log = c.self.inside.ledger.log in
     let rs = c.args.receipts.now.items in
-    let K = c.in_ok-key.key in
-    let D = c.dot-dot.result in
+    let K = c.key.result.now in
+    let D = c.dot.result in
     let inside = first_of rs c.in-Some.first.now
     (subst (λ xs. slice_get xs 0 ≡ Some c.in-Some.first.now) c.deref.ensures.value
     (sym c.first.ensures.value ∙ ap option_copied c.in-Some.is)) in
     let own = c.requires.one_dot in
     let p = All-contains (λ (r : ReceiptParts). (r.key ≡ own.0) × (r.dot ≡ own.1)) rs
     c.in-Some.first.now own.2 inside in
-    let of = subst (λ k. AreOf k D rs) (sym (c.in_ok-key.ensures.value ∙ (c.key.ensures ∙ p.0)))
-    (subst (λ (d : Dot). AreOf own.0 d rs) (sym (c.dot-dot.ensures ∙ p.1)) own.2) in
+    let of = subst (λ k. AreOf k D rs) (sym (c.key.ensures ∙ p.0))
+    (subst (λ (d : Dot). AreOf own.0 d rs) (sym (c.dot.ensures ∙ p.1)) own.2) in
     let hold = subst (λ (a : Account). All (IsReceipt (steps_of a.log)) rs)
     c.agree_session.ensures.log (subst (λ xs. All (IsReceipt (steps_of c.agree_session.new.self.log)) xs) c.as_slice.ensures.value c.learn_receipts.ensures.hold) in
     let cover = subst (HasCover layout (world_after (steps_of log)) K D) c.requires.count
@@ -83,8 +83,8 @@ pub invariant_of-self-2 : goal.invariant_of-self-2
 invariant_of-self-2 g c =
     let b = c.self.inside in
     let rs = c.args.receipts.now.items in
-    let K = c.in_ok-key.key in
-    let D = c.dot-dot.result in
+    let K = c.key.result.now in
+    let D = c.dot.result in
     let same = c.learn_receipts.ensures.log ∙ c.agree_session.ensures.log in
     let inside = first_of rs c.in-Some.first.now
     (subst (λ xs. slice_get xs 0 ≡ Some c.in-Some.first.now) c.deref.ensures.value
@@ -92,8 +92,8 @@ invariant_of-self-2 g c =
     let own = c.requires.one_dot in
     let p = All-contains (λ (r : ReceiptParts). (r.key ≡ own.0) × (r.dot ≡ own.1)) rs
     c.in-Some.first.now own.2 inside in
-    let of = subst (λ k. AreOf k D rs) (sym (c.in_ok-key.ensures.value ∙ (c.key.ensures ∙ p.0)))
-    (subst (λ (d : Dot). AreOf own.0 d rs) (sym (c.dot-dot.ensures ∙ p.1)) own.2) in
+    let of = subst (λ k. AreOf k D rs) (sym (c.key.ensures ∙ p.0))
+    (subst (λ (d : Dot). AreOf own.0 d rs) (sym (c.dot.ensures ∙ p.1)) own.2) in
     let hold = subst (λ (a : Account). All (IsReceipt (steps_of a.log)) rs)
     c.agree_session.ensures.log (subst (λ xs. All (IsReceipt (steps_of c.agree_session.new.self.log)) xs) c.as_slice.ensures.value c.learn_receipts.ensures.hold) in
     let layout = layout_of g.J.Naming.ring g.J.Naming.n in
@@ -122,8 +122,8 @@ returns-clause-log g c = λ key d of.
     (sym c.first.ensures.value ∙ ap option_copied c.in-Some.is)) in
     let p = All-contains (λ (r : ReceiptParts). (r.key ≡ key) × (r.dot ≡ d)) rs c.in-Some.first.now
     of inside in
-    let key_is = c.in_ok-key.ensures.value ∙ (c.key.ensures ∙ p.0) in
-    let dot_is = c.dot-dot.ensures ∙ p.1 in
+    let key_is = c.key.ensures ∙ p.0 in
+    let dot_is = c.dot.ensures ∙ p.1 in
     let full : c.ack_step.new.self ≡ account_with b.ledger
     (told_to c.args.share.now.session (Ack key d c.args.w) ∷ []) =
     c.in_ok-ack_step.ensures.log
@@ -143,8 +143,8 @@ returns-clause-share g c = λ key d of.
     (sym c.first.ensures.value ∙ ap option_copied c.in-Some.is)) in
     let p = All-contains (λ (r : ReceiptParts). (r.key ≡ key) × (r.dot ≡ d)) rs c.in-Some.first.now
     of inside in
-    let key_is = c.in_ok-key.ensures.value ∙ (c.key.ensures ∙ p.0) in
-    let dot_is = c.dot-dot.ensures ∙ p.1 in
+    let key_is = c.key.ensures ∙ p.0 in
+    let dot_is = c.dot.ensures ∙ p.1 in
     c.in_ok-ack_step.ensures.share
     ∙ ((λ i. with_ack (c.agree_session.ensures.share i) (length (same i).log + 1)
     (Ack (key_is i) (dot_is i) c.args.w) rs)
@@ -159,11 +159,6 @@ returns-clause-later g c =
 
 pub returns-then-steps_left-lt1-clause-later : goal.returns-then-steps_left-lt1-clause-later
 returns-then-steps_left-lt1-clause-later g c =
-    subst (λ (b : BookParts). since_of c.args.share.now ≤ length b.log) c.self.view_is
-    (since_within c.self.inside.ledger.log g.J.Naming.r c.args.share.now c.agree_session.ensures.belongs)
-
-pub returns-in_err-key-clause-later : goal.returns-in_err-key-clause-later
-returns-in_err-key-clause-later g c =
     subst (λ (b : BookParts). since_of c.args.share.now ≤ length b.log) c.self.view_is
     (since_within c.self.inside.ledger.log g.J.Naming.r c.args.share.now c.agree_session.ensures.belongs)
 

@@ -1,6 +1,6 @@
-use Rattle.std.proofs.Common.{sym, ap, ◌∙◌, subst}
+use Rattle.std.proofs.Common.{sym, ◌∙◌, subst}
 use Rattle.dy_core.specs.Listings.{ListsAcks}
-use Rattle.dy_core.specs.Logs.{world_after}
+use Rattle.dy_shares.specs.Shares.{steps_of}
 use Rattle.dy_book.specs.Books.{world_of}
 use Rattle.dy_core.specs.Orders.{ack_cmp}
 use Rattle.dy_core.proofs.Held.{ack_cmp_total}
@@ -16,10 +16,9 @@ returns-clause-ok g c =
     record {
       acks =
           subst (ListsAcks (world_of c.args.self.now)) (sym c.in_ok-acked.ensures.acks)
-          (subst (λ w. ListsAcks w c.in_ok-acks.acks.items)
-          (ap world_after c.steps.ensures.value ∙ ap world_of c.self.view_is)
-          (acks_listed c.steps.result.now c.in_ok-acks.acks.items
-          (subst (λ xs. IsInOrder ack_cmp xs c.in_ok-acks.acks.items) c.in_ok-told.ensures.ok
-          c.in_ok-acks.ensures.ok)));
+          (subst (λ s. ListsAcks (world_of s) c.in_ok-acks.acks.items) c.self.view_is
+          (acks_listed (steps_of c.self.inside.ledger.log) c.in_ok-acks.acks.items
+          (subst (λ xs. IsInOrder ack_cmp xs c.in_ok-acks.acks.items)
+          (c.in_ok-told.ensures.ok ∙ c.acked.ensures) c.in_ok-acks.ensures.ok)));
       places = c.in_ok-acked.ensures.places;
     }

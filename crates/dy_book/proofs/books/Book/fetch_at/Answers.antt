@@ -8,7 +8,6 @@ use Rattle.dy_core.specs.Logs.{Answer, IsAnswer}
 use Rattle.dy_core.specs.declared.steps.Step.TheVariants.{Fetch}
 use Rattle.dy_shares.specs.declared.entries.Entry.{Entry}
 use Rattle.dy_shares.specs.Shares.{Account, answer_of, steps_of, untold}
-use Rattle.dy_shares.proofs.Owners.{steps_of-length}
 use Rattle.dy_shares.proofs.Scenes.{answers_last}
 use Rattle.dy_book.specs.Books.{HasRoom, world_of}
 use Rattle.dy_book.specs.inside.Kept.{IsBook}
@@ -27,9 +26,7 @@ invariant_of-self-2 g c =
     let b = c.self.inside in
     let log_is : c.fetch_step.new.self.log ≡ b.ledger.log ++ untold
     (Fetch (place_for c.args.holder c.args.home) c.args.key.now) ∷ [] =
-    ap (λ a. a.log) c.in_ok-fetch_step.ensures.log
-    ∙ ap (λ k. b.ledger.log ++ untold (Fetch (place_for c.args.holder c.args.home) k) ∷ [])
-    c.in_ok-try_clone.ensures.value in
+    ap (λ a. a.log) c.in_ok-fetch_step.ensures.log in
     let room = subst (λ s. HasRoom s 1) (sym c.self.view_is) c.requires in
     fetch_book g.J.Naming.ring g.J.Naming.n g.J.Naming.r b.ring b.ledger.log b.options b.versions
     b.keys.entries c.self.invariant
@@ -45,18 +42,14 @@ seen-requires-clause-is g c =
     let row = c.in_ok-row.row in
     let e = untold (Fetch (place_for holder home) key) in
     let log_is : c.fetch_step.new.self.log ≡ log ++ e ∷ [] =
-    ap (λ a. a.log) c.in_ok-fetch_step.ensures.log
-    ∙ ap (λ k. log ++ untold (Fetch (place_for holder home) k) ∷ [])
-    c.in_ok-try_clone.ensures.value in
+    ap (λ a. a.log) c.in_ok-fetch_step.ensures.log in
     let is = subst (λ s. IsSameRow row.versions (row_at (world_of s) holder home key))
     (sym c.self.view_is) c.in_ok-row.ensures.row in
     let here = answers_last log holder home key row.versions is in
-    let at : length log + 1 ≡ length c.steps-at.result.now =
-    sym (ap length c.steps-at.ensures.value
-    ∙ (steps_of-length c.fetch_step.new.self.log
-    ∙ (ap length log_is ∙ length-append log (e ∷ [])))) in
+    let at : length log + 1 ≡ c.steps-at.result =
+    sym (c.steps-at.ensures.value ∙ (ap length log_is ∙ length-append log (e ∷ []))) in
     subst (λ (xs : List Entry). IsAnswer (steps_of xs)
-    (answer_of (length c.steps-at.result.now) holder home c.in_ok-of_seen.of_seen row))
+    (answer_of c.steps-at.result holder home c.in_ok-of_seen.of_seen row))
     (sym log_is)
     (subst (λ n. IsAnswer (steps_of (log ++ e ∷ []))
     (record {

@@ -41,7 +41,7 @@ hold_in-requires-clause-made g c =
 
 pub hold_in-requires-clause-steps : goal.hold_in-requires-clause-steps
 hold_in-requires-clause-steps g c =
-    c.in_ok-steps.ensures.ok
+    ap (λ x. x ∷ []) c.hold.ensures
     ∙ ap (λ m. Hold (place_for m c.args.home) c.args.incoming.now ∷ []) c.requires.holder
 
 pub invariant_of-self-in_err-hold_in-in-Some : goal.invariant_of-self-in_err-hold_in-in-Some
@@ -66,7 +66,7 @@ give_receipts-requires-clause-held g c =
     let row = c.args.incoming.now in
     let made = subst (λ s. AreMadeOf (world_of s) row.key row.versions)
     (sym c.self.view_is) c.requires.made in
-    let steps_are = c.in_ok-steps.ensures.ok
+    let steps_are = ap (λ x. x ∷ []) c.hold.ensures
     ∙ ap (λ m. Hold (place_for m c.args.home) row ∷ []) c.requires.holder in
     let log_is = ap (λ a. a.log) c.in_ok-hold_in-in-Some.ensures.log
     ∙ (λ i. b.ledger.log ++ map untold (steps_are i)) in
@@ -85,7 +85,7 @@ invariant_of-self-2 g c =
     let made = subst (λ s. AreMadeOf (world_of s) row.key row.versions)
     (sym c.self.view_is) c.requires.made in
     let room = subst (λ s. HasRoom s 1) (sym c.self.view_is) c.requires.room in
-    let steps_are = c.in_ok-steps.ensures.ok
+    let steps_are = ap (λ x. x ∷ []) c.hold.ensures
     ∙ ap (λ m. Hold (place_for m c.args.home) row ∷ []) c.requires.holder in
     let log_is = ap (λ a. a.log) c.in_ok-hold_in-in-Some.ensures.log
     ∙ (λ i. b.ledger.log ++ map untold (steps_are i)) in

@@ -73,7 +73,7 @@ receipt-requires g c =
     let node = c.args.share.now.node in
     let may = subst (λ s. MayIssue s node v) (sym c.self.view_is) c.requires.may in
     let node_is = c.node-node.ensures.value ∙ ap (λ p. p.node) c.agree.ensures.share in
-    let steps_are = c.in_ok-steps.ensures.ok ∙ ap (λ m. issue_steps m c.args.home v) node_is in
+    let steps_are = c.steps_of_issue-steps.ensures ∙ ap (λ m. issue_steps m c.args.home v) node_is in
     let log_is = ap (λ a. a.log) c.in_ok-issue_in.ensures.log
     ∙ (λ i. (c.agree.ensures.log i).log ++ map untold (steps_are i)) in
     issue_receipt g.J.Naming.ring g.J.Naming.n g.J.Naming.r b.ring b.ledger.log b.options b.versions
@@ -90,7 +90,7 @@ invariant_of-self-2 g c =
     let node = c.args.share.now.node in
     let may = subst (λ s. MayIssue s node v) (sym c.self.view_is) c.requires.may in
     let node_is = c.node-node.ensures.value ∙ ap (λ p. p.node) c.agree.ensures.share in
-    let steps_are = c.in_ok-steps.ensures.ok ∙ ap (λ m. issue_steps m c.args.home v) node_is in
+    let steps_are = c.steps_of_issue-steps.ensures ∙ ap (λ m. issue_steps m c.args.home v) node_is in
     let log_is = ap (λ a. a.log) c.in_ok-issue_in.ensures.log
     ∙ (λ i. (c.agree.ensures.log i).log ++ map untold (steps_are i)) in
     let keys = map_with_value c.in_ok-entry.entry c.issue_in.new.part in

@@ -47,7 +47,7 @@ returns-in-Ok-new-clause-may g c =
     c.args.context.now c.args.value =
     c.in-Ok-new.ensures.value
     ∙ (λ i. record {
-      key = c.in-Ok-try_clone.ensures.value i;
+      key = c.in-Ok-own_copy.ensures.value i;
       dot = dot_is i;
       past = c.in-Ok.ensures.ok i;
       value = c.args.value;

@@ -18,8 +18,9 @@ pub node_steps-requires-clause-own : goal.node_steps-requires-clause-own
 node_steps-requires-clause-own g c =
     let node = c.args.share.now.node in
     let rs = c.args.receipts.now in
-    let steps_are : c.in_ok-steps.steps.items ≡ release_steps node rs =
-    c.in_ok-steps.ensures.ok ∙ ap (λ m. release_steps m rs) c.requires.holder in
+    let steps_are : c.as_slice.result.now ≡ release_steps node rs =
+    c.as_slice.ensures.value
+    ∙ (c.in_ok-steps.ensures.ok ∙ ap (λ m. release_steps m rs) c.requires.holder) in
     subst (λ (ss : List Step). All (λ s. node_of s ≡ Some node) ss) (sym steps_are)
     (of_node node rs)
 
@@ -30,8 +31,9 @@ node_steps-requires-clause-allowed g c =
     let rs = c.args.receipts.now in
     let ring = g.J.Naming.ring in
     let n = g.J.Naming.n in
-    let steps_are : c.in_ok-steps.steps.items ≡ release_steps node rs =
-    c.in_ok-steps.ensures.ok ∙ ap (λ m. release_steps m rs) c.requires.holder in
+    let steps_are : c.as_slice.result.now ≡ release_steps node rs =
+    c.as_slice.ensures.value
+    ∙ (c.in_ok-steps.ensures.ok ∙ ap (λ m. release_steps m rs) c.requires.holder) in
     let each = subst (λ s. All (MayRelease (world_of s) node) rs)
     (sym c.self.view_is) c.requires.each in
     let follow = releases_follow (layout_of ring n)
@@ -46,8 +48,9 @@ returns-clause-log g c =
     let b = c.self.inside in
     let node = c.args.share.now.node in
     let rs = c.args.receipts.now in
-    let steps_are : c.in_ok-steps.steps.items ≡ release_steps node rs =
-    c.in_ok-steps.ensures.ok ∙ ap (λ m. release_steps m rs) c.requires.holder in
+    let steps_are : c.as_slice.result.now ≡ release_steps node rs =
+    c.as_slice.ensures.value
+    ∙ (c.in_ok-steps.ensures.ok ∙ ap (λ m. release_steps m rs) c.requires.holder) in
     let full : c.node_steps.new.self ≡ account_with b.ledger (map untold (release_steps node rs)) =
     c.in_ok-node_steps.ensures.log
     ∙ (λ i. account_with (c.learn_receipts.ensures.log i) (map untold (steps_are i))) in
@@ -58,8 +61,9 @@ pub returns-clause-share : goal.returns-clause-share
 returns-clause-share g c =
     let node = c.args.share.now.node in
     let rs = c.args.receipts.now in
-    let steps_are : c.in_ok-steps.steps.items ≡ release_steps node rs =
-    c.in_ok-steps.ensures.ok ∙ ap (λ m. release_steps m rs) c.requires.holder in
+    let steps_are : c.as_slice.result.now ≡ release_steps node rs =
+    c.as_slice.ensures.value
+    ∙ (c.in_ok-steps.ensures.ok ∙ ap (λ m. release_steps m rs) c.requires.holder) in
     c.in_ok-node_steps.ensures.share ∙ ap (with_steps c.args.share.now) steps_are
 
 pub invariant_of-self : goal.invariant_of-self
@@ -76,8 +80,9 @@ invariant_of-self-2 g c =
     let rs = c.args.receipts.now in
     let ring = g.J.Naming.ring in
     let n = g.J.Naming.n in
-    let steps_are : c.in_ok-steps.steps.items ≡ release_steps node rs =
-    c.in_ok-steps.ensures.ok ∙ ap (λ m. release_steps m rs) c.requires.holder in
+    let steps_are : c.as_slice.result.now ≡ release_steps node rs =
+    c.as_slice.ensures.value
+    ∙ (c.in_ok-steps.ensures.ok ∙ ap (λ m. release_steps m rs) c.requires.holder) in
     let full : c.node_steps.new.self ≡ account_with b.ledger (map untold (release_steps node rs)) =
     c.in_ok-node_steps.ensures.log
     ∙ (λ i. account_with (c.learn_receipts.ensures.log i) (map untold (steps_are i))) in

@@ -14,13 +14,13 @@ compare_exchange-requires g c =
       i.0 ∙ sym here,
       i.2 ∙ sym here,
       offer.0,
-      rw (ap (λ w. w.key) i.1, i.3, offer.1, offer.3) (appends_moves c.self.inside.seen.log (entries_of c.args.batch.now.told c.args.batch.now.steps.items)),
+      rw (ap (λ w. w.key) i.1, i.3, offer.1, offer.3) (appends_moves c.self.inside.seen.log (entries_of c.args.batch.now.told c.args.batch.now.steps.now)),
     )
 
 pub returns : goal.returns
 returns g c =
     let log = c.self.inside.seen.log in
-    let xs = (entries_of c.args.batch.now.told c.args.batch.now.steps.items) in
+    let xs = (entries_of c.args.batch.now.told c.args.batch.now.steps.now) in
     let offer = c.plain-offer.ensures in
     let done = c.compare_exchange.ensures.7 in
     ap joined done ∙ (ap (λ a. joined (log ++ a ∷ [])) offer.1 ∙ (joined_more log xs ∙ ap (λ h. h ++ xs) c.self.view_is))

@@ -19,4 +19,4 @@ returns-clause-exact g c =
     let each_session = subst (λ xs. (session : ℕ) → session < l.sessions → HasSession session xs) c.as_slice-2.ensures.value c.in_default-missing_session.ensures.none in
     let as_sessions = subst (λ roll. All (AgreesAsSession nodes r roll l.chronicle) s_shares) c.end_nodes.ensures.same c.end_sessions.ensures.agree in
     subst (λ a. AreAll nodes r a n_shares s_shares) c.self.view_is
-    (all_are nodes (layout_of g.J.Naming.ring g.J.Naming.n) l.steps.items l.sessions l.chronicle l.roll i.1 r n_shares s_shares c.end_nodes.ensures.low c.end_nodes.ensures.agree as_sessions each_node each_session)
+    (all_are nodes (layout_of g.J.Naming.ring g.J.Naming.n) l.steps l.acks.items l.sessions l.chronicle l.roll i.1 r n_shares s_shares c.end_nodes.ensures.low c.end_nodes.ensures.agree as_sessions each_node each_session)

@@ -12,6 +12,6 @@ invariant_of-self g c =
     let i = c.self.invariant in
     let layout = layout_of g.J.Naming.ring g.J.Naming.n in (
       i.0,
-      subst (λ (roll : List (List Done)). IsLedger g.J.Naming.ring.nodes layout l.steps.items (l.sessions + 1) l.chronicle roll) (sym c.open-share.ensures.roll)
-          (ledger_opened g.J.Naming.ring.nodes layout l.steps.items l.sessions l.chronicle l.roll i.1),
+      subst (λ (roll : List (List Done)). IsLedger g.J.Naming.ring.nodes layout l.steps l.acks.items (l.sessions + 1) l.chronicle roll) (sym c.open-share.ensures.roll)
+          (ledger_opened g.J.Naming.ring.nodes layout l.steps l.acks.items l.sessions l.chronicle l.roll i.1),
     )

@@ -1,19 +1,13 @@
 -- The keeper takes the share in, changes it with its seat in one step, and gives it out again.
-use Rattle.std.proofs.Common.{◌≡◌, List, [], ◌∷◌, ◌++◌, set, refl, sym, ap, ◌∙◌, subst}
+use Rattle.std.proofs.Common.{◌≡◌, [], ◌∷◌, ◌++◌, set, refl, sym, ap, ◌∙◌, subst}
 use mathlib.Core.Option.{some}
 use prog.Atomic.{either}
 use Rattle.std.proofs.Common.{◌==◌}
 use Rattle.atomic_table.specs.Table.{Me, Allows, step}
-use Rattle.dy_shares.specs.declared.entries.Done.{Done}
 use Rattle.dy_shares.specs.declared.parts.View.{View}
 use Rattle.dy_shares.specs.inside.Agreeing.{knower, share_of, knower_with, holding, part_of, grown, alone, lent, Grows}
 use Rattle.dy_shares.proofs.Agreements.{Rule, takes_in_as, gives_out_as, grows_as, taken}
-use Rattle.dy_shares.specs.declared.entries.Batch.{Batch}
-use Rattle.dy_shares.specs.inside.Parts.{numbered}
 use Rattle.dy_shares.proofs.parts.Roll.grow.Goals as goal
-
-abbrev batch_part : Batch → List Done
-batch_part b = numbered b.first b.steps.items
 
 pub join_seat-requires : goal.join_seat-requires
 join_seat-requires g c =
@@ -39,8 +33,8 @@ compare_exchange_with-requires g c =
     let id = c.join_seat.new.seat.id in (
       j.0 ∙ i.1 ∙ sym i.0,
       i.2,
-      subst (λ (m : Me _ View). Allows Rule slots id m 0 (λ n. either (n == 0) 0 n) (Grows batch_part (step slots 0 0 0 (some c.args.batch.now)) m)) (sym held)
-          (grows_as id slots index (knower_with parts index own) parts own batch_part c.args.batch.now (λ n. either (n == 0) 0 n) refl),
+      subst (λ (m : Me _ View). Allows Rule slots id m 0 (λ n. either (n == 0) 0 n) (Grows (step slots 0 0 0 (some c.args.added.now)) m)) (sym held)
+          (grows_as id slots index (knower_with parts index own) parts own c.args.added.now (λ n. either (n == 0) 0 n) refl),
     )
 
 pub split_seat-party-requires : goal.split_seat-party-requires
@@ -54,9 +48,9 @@ split_seat-party-requires g c =
     let own = part_of c.share.inside.badge.views in
     let parts = c.self.inside.keeper.me.0.parts in
     let index = c.share.inside.index in
-    let more = own ++ (batch_part c.args.batch.now) in
+    let more = own ++ c.args.added.now in
     let held : c.join_seat.new.seat.me ≡ (knower_with parts index own, []) = j.2 ∙ (λ k. (holding (i.3 k).0 (theirs k), (i.3 k).1)) in
-    let after : c.compare_exchange_with.new.seat.me ≡ (knower_with (set parts index more) index more, []) = x.2 c.args.batch.now refl ∙ ap (λ (m : Me _ View). (grown m.0 (batch_part c.args.batch.now), m.1)) held in
+    let after : c.compare_exchange_with.new.seat.me ≡ (knower_with (set parts index more) index more, []) = x.2 c.args.added.now refl ∙ ap (λ (m : Me _ View). (grown m.0 c.args.added.now, m.1)) held in
     (x.0 ∙ j.0 ∙ i.1 ∙ sym i.0, i.2, gives_out_as c.compare_exchange_with.new.seat.id index c.compare_exchange_with.new.seat.me.0 (set parts index more) more (ap (λ m. m.0) after))
 
 pub invariant_of-self : goal.invariant_of-self
@@ -71,9 +65,9 @@ invariant_of-self g c =
     let own = part_of c.share.inside.badge.views in
     let parts = c.self.inside.keeper.me.0.parts in
     let index = c.share.inside.index in
-    let more = own ++ (batch_part c.args.batch.now) in
+    let more = own ++ c.args.added.now in
     let held : c.join_seat.new.seat.me ≡ (knower_with parts index own, []) = j.2 ∙ (λ k. (holding (i.3 k).0 (theirs k), (i.3 k).1)) in
-    let after : c.compare_exchange_with.new.seat.me ≡ (knower_with (set parts index more) index more, []) = x.2 c.args.batch.now refl ∙ ap (λ (m : Me _ View). (grown m.0 (batch_part c.args.batch.now), m.1)) held in
+    let after : c.compare_exchange_with.new.seat.me ≡ (knower_with (set parts index more) index more, []) = x.2 c.args.added.now refl ∙ ap (λ (m : Me _ View). (grown m.0 c.args.added.now, m.1)) held in
     let back : c.split_seat-party.new.seat.me ≡ (knower (set parts index more), []) = l.2 ∙ ap (λ (m : Me _ View). (alone m.0, m.1)) after in
     (i.0, l.0 ∙ x.0 ∙ j.0 ∙ i.1, i.2, back ∙ ap (λ (m : Me _ View). (knower m.0.parts, [])) (sym back))
 
@@ -90,8 +84,8 @@ invariant_of-share g c =
     let own = part_of c.share.inside.badge.views in
     let parts = c.self.inside.keeper.me.0.parts in
     let index = c.share.inside.index in
-    let more = own ++ (batch_part c.args.batch.now) in
+    let more = own ++ c.args.added.now in
     let held : c.join_seat.new.seat.me ≡ (knower_with parts index own, []) = j.2 ∙ (λ k. (holding (i.3 k).0 (theirs k), (i.3 k).1)) in
-    let after : c.compare_exchange_with.new.seat.me ≡ (knower_with (set parts index more) index more, []) = x.2 c.args.batch.now refl ∙ ap (λ (m : Me _ View). (grown m.0 (batch_part c.args.batch.now), m.1)) held in
+    let after : c.compare_exchange_with.new.seat.me ≡ (knower_with (set parts index more) index more, []) = x.2 c.args.added.now refl ∙ ap (λ (m : Me _ View). (grown m.0 c.args.added.now, m.1)) held in
     let out : c.into_badge.result.views ≡ share_of index more ∷ [] = b.2 ∙ ap (λ (m : Me _ View). m.0 ∷ []) l.4 ∙ ap (λ (m : Me _ View). lent m.0 ∷ []) after in
     (b.0 ∙ l.3 ∙ x.0 ∙ j.0 ∙ i.1, out ∙ ap (λ vs. share_of index (part_of vs) ∷ []) (sym out))

@@ -14,7 +14,7 @@ invariant_of-self-2 g c =
     let nodes = g.J.Naming.ring.nodes in
     let part : SessionPart = record { session = s.number; acks = done_acks s.share.part; spent = s.spent.items; gets = s.gets.items } in
     let acks : length s.spent.items ≡ length part.acks = spent_each (steps_of s.front) part.acks s.spent.items i.spent_are in
-    let seens = c.args.seens.items in
+    let seens = c.args.seens.now.items in
     let l = c.learn_all-self-inside in
     let lent = c.as_slice.ensures.value in
     let are = subst (All (IsAnswer (steps_of l.new.front))) lent l.ensures.are in
@@ -25,8 +25,9 @@ invariant_of-self-2 g c =
     let told : ℕ → ℕ → GetTold = λ since acks. record { since = since; answers = seens; acks = acks } in
     let pushed : c.push_reserved.new.self.items ≡ s.gets.items ++ told (since_of part) (length part.acks) ∷ [] =
     c.push_reserved.ensures.items
-    ∙ (ap (λ gs. gs ++ told s.since c.len-acks.result ∷ []) (search rules)
-    ∙ (ap (λ n. s.gets.items ++ told n c.len-acks.result ∷ []) i.since_is
+    ∙ (ap (λ gs. gs ++ c.of.result ∷ []) (search rules)
+    ∙ (ap (λ x. s.gets.items ++ x ∷ []) c.of.ensures
+    ∙ ap (λ n. s.gets.items ++ told n c.len-acks.result ∷ []) i.since_is
     ∙ ap (λ n. s.gets.items ++ told (since_of part) n ∷ []) (len ∙ acks))) in
     subst (λ (gs : List GetTold). IsSessionShare nodes g.J.Naming.r s.share.index l.result l.new.front (record { session = s.number; acks = done_acks s.share.part; spent = s.spent.items; gets = gs })) (sym pushed) got
 
@@ -37,13 +38,14 @@ returns-clause-ok g c =
     let i = c.self.invariant in
     let part : SessionPart = record { session = s.number; acks = done_acks s.share.part; spent = s.spent.items; gets = s.gets.items } in
     let acks : length s.spent.items ≡ length part.acks = spent_each (steps_of s.front) part.acks s.spent.items i.spent_are in
-    let seens = c.args.seens.items in
+    let seens = c.args.seens.now.items in
     let len : c.len-acks.result ≡ length s.spent.items = search rules in
     let told : ℕ → ℕ → GetTold = λ since acks. record { since = since; answers = seens; acks = acks } in
     let pushed : c.push_reserved.new.self.items ≡ s.gets.items ++ told (since_of part) (length part.acks) ∷ [] =
     c.push_reserved.ensures.items
-    ∙ (ap (λ gs. gs ++ told s.since c.len-acks.result ∷ []) (search rules)
-    ∙ (ap (λ n. s.gets.items ++ told n c.len-acks.result ∷ []) i.since_is
+    ∙ (ap (λ gs. gs ++ c.of.result ∷ []) (search rules)
+    ∙ (ap (λ x. s.gets.items ++ x ∷ []) c.of.ensures
+    ∙ ap (λ n. s.gets.items ++ told n c.len-acks.result ∷ []) i.since_is
     ∙ ap (λ n. s.gets.items ++ told (since_of part) n ∷ []) (len ∙ acks))) in
     let with_gets : List GetTold → SessionPart = λ gs. record { session = s.number; acks = done_acks s.share.part; spent = s.spent.items; gets = gs } in
     ap with_gets pushed ∙ ap (λ p. with_get p (since_of p) seens) c.self.view_is
