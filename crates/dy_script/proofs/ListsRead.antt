@@ -58,3 +58,31 @@ HasRead-end f vs i done h r =
 pub items_len_view : (vs : List (Value Global)) → items_len (items_view vs) ≡ length vs
 items_len_view [] = refl
 items_len_view (v ∷ vs) = omega (arith, items_len_view vs)
+
+-- the same of a list whose elements are taken out of it: what is left is read behind what was read
+pub record ReadsOn {A : Type 0} (f : ℕ → Data → Result A Fault) (vs rest : List (Value Global)) (i : ℕ) (done : List A) : Type 0 where
+  pub so_far : each_of f 0 (items_view vs) ≡ after done (each_of f i (items_view rest))
+
+pub ReadsOn-start : {A : Type 0} (f : ℕ → Data → Result A Fault) (vs rest : List (Value Global)) → rest ≡ vs → ReadsOn f vs rest 0 []
+ReadsOn-start f vs rest same = record { so_far = after-nil (each_of f 0 (items_view vs)) ∙ ap (λ xs. after [] (each_of f 0 (items_view xs))) (sym same) }
+
+taken-step : {A : Type 0} (f : ℕ → Data → Result A Fault) (rest left : List (Value Global)) (i : ℕ) (v : Value Global) → rest ≡ v ∷ left
+    → each_of f i (items_view rest) ≡ (f i (view v) >>= (λ x. each_of f (i + 1) (items_view left) >>= (λ xs. Ok (x ∷ xs))))
+taken-step f rest left i v same = ap (λ xs. each_of f i (items_view xs)) same ∙ rw add-one refl
+
+pub ReadsOn-more : {A : Type 0} (f : ℕ → Data → Result A Fault) (vs rest left : List (Value Global)) (i : ℕ) (done : List A) (v : Value Global) (x : A) → rest ≡ v ∷ left
+    → ReadsOn f vs rest i done → f i (view v) ≡ Ok x → ReadsOn f vs left (i + 1) (done ++ x ∷ [])
+ReadsOn-more f vs rest left i done v x same r e =
+    let later = each_of f (i + 1) (items_view left) in
+    record { so_far = r.so_far ∙ ap (after done) (taken-step f rest left i v same ∙ ap (λ y. y >>= (λ x. later >>= (λ xs. Ok (x ∷ xs)))) e) ∙ after-push done x later }
+
+pub ReadsOn-stop : {A : Type 0} (f : ℕ → Data → Result A Fault) (vs rest left : List (Value Global)) (i : ℕ) (done : List A) (v : Value Global) (e : Fault) → rest ≡ v ∷ left
+    → ReadsOn f vs rest i done → f i (view v) ≡ Err e → each_of f 0 (items_view vs) ≡ Err e
+ReadsOn-stop f vs rest left i done v e same r q =
+    let later = each_of f (i + 1) (items_view left) in
+    r.so_far ∙ ap (after done) (taken-step f rest left i v same ∙ ap (λ y. y >>= (λ x. later >>= (λ xs. Ok (x ∷ xs)))) q)
+
+pub ReadsOn-end : {A : Type 0} (f : ℕ → Data → Result A Fault) (vs rest : List (Value Global)) (i : ℕ) (done : List A) → rest ≡ []
+    → ReadsOn f vs rest i done → each_of f 0 (items_view vs) ≡ Ok done
+ReadsOn-end f vs rest i done none r =
+    r.so_far ∙ ap (λ xs. after done (each_of f i (items_view xs))) none ∙ ap Ok (append-nil done)

@@ -1,11 +1,13 @@
 -- What is looked up in a JSON value, beside its data.
-use Rattle.std.proofs.Common.{◌≡◌, ℕ, List, Bool, true, false, cond, ◌&&◌, Option, Some, None, option_map, option_and_then, is_some, bytes_eq, Bor, Global, refl, sym, ap, ◌∙◌}
+use Rattle.std.proofs.Common.{◌≡◌, ℕ, List, [], ◌∷◌, ◌++◌, Bool, true, false, cond, ◌&&◌, Option, Some, None, option_map, option_and_then, is_some, bytes_eq, Bor, Global, Vec, refl, sym, ap, ◌∙◌}
 use Rattle.std.proofs.lemmas.Slice.Eq.{bytes_eq-Decides}
 use Rattle.json.specs.Json as json
 use Rattle.json.specs.Find as find
 use Rattle.json.specs.Find.{later_or}
-use Rattle.json.specs.Value.{value_view}
+use Rattle.json.specs.Value.{value_view, members_view as members_of}
+use Rattle.json.proofs.Trees.{view-Object}
 use Rattle.json.specs.declared.value.Value.{Value}
+use Rattle.json.specs.declared.value.Value.TheVariants.{Object}
 use Rattle.serde_json.specs.Data.{Num, Data, number, array, object, item, Members, no_members, put}
 use Rattle.serde_json.specs.Find.{get as member_of, get_member, as_str, as_bool, as_number}
 use Rattle.serde_json.specs.Read.{number_of, of_json, of_items, of_members}
@@ -99,6 +101,31 @@ member_in name (json.number s) = number_has (member_of name) refl (λ n. refl) (
 member_in name (json.string s) = refl
 member_in name (json.array js) = refl
 member_in name (json.object ms) = members_found name ms no_members ∙ first_only _
+
+last_or : (b : Bool) (x : json.Json) (o p : Option json.Json) → later_or (cond b (Some x) o) p ≡ cond b (Some x) (later_or o p)
+last_or true x o p = refl
+last_or false x o p = refl
+
+-- a member more is found before those in front of it
+pub last_found : (name : List ℕ) (ms : List (Bor (List ℕ) × Value Global)) (k : Bor (List ℕ)) (v : Value Global)
+    → find.get_member name (members_of (ms ++ (k, v) ∷ [])) ≡ cond (bytes_eq k.now name) (Some (value_view v)) (find.get_member name (members_of ms))
+last_found name [] k v = refl
+last_found name (m ∷ ms) k v =
+    let here = cond (bytes_eq m.0.now name) (Some (value_view m.1)) None in
+    ap (λ o. later_or o here) (last_found name ms k v) ∙ last_or (bytes_eq k.now name) (value_view v) (find.get_member name (members_of ms)) here
+
+-- the members of an object are looked up
+pub object_found : (name : List ℕ) (ms : Vec (Bor (List ℕ) × Value Global) Global) → find.get name (value_view (Object ms)) ≡ find.get_member name (members_of ms.items)
+object_found name ms = ap (find.get name) (view-Object ms)
+
+seen_both : (o : Option (Value Global)) → option_map view o ≡ option_map data_in (option_map value_view o)
+seen_both None = refl
+seen_both (Some v) = refl
+
+-- what was taken out of the tree is what the data has
+pub member_taken : (o : Option (Value Global)) (name : List ℕ) (j : json.Json) → option_map value_view o ≡ find.get name j
+    → option_map view o ≡ member_of name (data_in j)
+member_taken o name j e = seen_both o ∙ ap (option_map data_in) e ∙ sym (member_in name j)
 
 seen_twice : (r : Option (Bor (Value Global))) → option_map (λ v. view v.now) r ≡ option_map data_in (option_map (λ v. value_view v.now) r)
 seen_twice None = refl

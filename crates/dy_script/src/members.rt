@@ -7,6 +7,7 @@ ghost use Rattle.dy_script.specs.Members.{seen, allow_only, text, small, flag};
 ghost use Rattle.dy_script.specs.Members.{optional_text, optional_list, optional_whole};
 ghost use Rattle.dy_script.specs.Members.{optional_small, as_whole, as_small};
 
+use crate::documents::WRONG_SCRIPT;
 use crate::numbers::number_of;
 use dy_dots::Fault;
 use json::Value;
@@ -173,6 +174,35 @@ pub(crate) fn list_of<'v, 'a>(value: &'v Value<'a>) -> Option<&'v [Value<'a>]>
         Value::Array(items) => Some(items.as_slice()),
         _ => None,
     }
+}
+
+/// The elements of the list of this name, taken out of a script, where it is there.
+#[tactic(auto, unfolding(crate::specs::Members::optional_list))]
+pub(crate) fn taken_list<'a>(value: Value<'a>, name: &str) -> Result<Option<Vec<Value<'a>>>, Fault>
+    ensures { seen (option_map (λ vs. items_view vs.items)) result
+        ≡ optional_list 0 name.now (view value.entry) }
+{
+    match taken(value, name) {
+        Some(Value::Array(items)) => Ok(Some(items)),
+        Some(_) => Err(WRONG_SCRIPT),
+        None => Ok(None),
+    }
+}
+
+/// The last member of this name, taken out of the value, where it is there.
+fn taken<'a>(value: Value<'a>, name: &str) -> Option<Value<'a>>
+    ensures { option_map view result ≡ member_of name.now (view value.entry) }
+{
+    let Value::Object(members) = value else {
+        return None;
+    };
+    let mut found = None;
+    for (key, member) in members {
+        if key == name {
+            found = Some(member);
+        }
+    }
+    found
 }
 
 /// The members of the object that the value is, in their order.

@@ -13,7 +13,7 @@ ghost use Rattle.dy_script.specs.inside.Readings.{IsReadingOf};
 
 use crate::commands::Command;
 use crate::documents::{WRONG_SCRIPT, value_of};
-use crate::members::{Members, list_of, text_of};
+use crate::members::{Members, list_of, taken_list, text_of};
 use crate::orders::command_of;
 use crate::scripts::{Layout, Limits, MAX_COMMANDS, Script};
 use crate::tokens::token;
@@ -33,15 +33,18 @@ pub fn read(alloc: Global, bytes: &[u8]) -> Result<Script, Fault>
 {
     let mut scratch = Scratch::new(alloc);
     let value = value_of(alloc, bytes, &mut scratch)?;
-    script_of(alloc, &value)
+    script_of(alloc, value)
 }
 
 /// The script that the value says.
 #[tactic(auto, unfolding(crate::specs::Reading::script_of))]
-fn script_of(alloc: Global, value: &Value) -> Result<Script, Fault>
-    ensures { IsReadingOf script_parts result (script_of (view value.now)) }
+fn script_of(alloc: Global, value: Value) -> Result<Script, Fault>
+    ensures { IsReadingOf script_parts result (script_of (view value.entry)) }
 {
-    let members = Members { value, command: 0 };
+    let members = Members {
+        value: &value,
+        command: 0,
+    };
     allow_script(members)?;
     let n = members.small("n")?;
     let r = members.small("r")?;
@@ -50,7 +53,7 @@ fn script_of(alloc: Global, value: &Value) -> Result<Script, Fault>
     let limits = limits_of(members)?;
     let keys = keys_of(alloc, members)?;
     let settled = members.flag("settled")?;
-    let run = run_of(alloc, members, node_count(&layout))?;
+    let run = run_of(alloc, value, node_count(&layout))?;
     Ok(Script {
         n,
         r,
@@ -228,12 +231,11 @@ fn key_at(alloc: Global, value: &Value) -> Result<Key, Fault>
 
 /// The commands of a script, on a ring of so many nodes.
 #[tactic(auto, unfolding(crate::specs::Reading::run_of, crate::specs::Reading::run_given))]
-fn run_of(alloc: Global, members: Members, nodes: usize) -> Result<Vec<Command>, Fault>
-    requires { members.command ≡ 0 }
+fn run_of(alloc: Global, value: Value, nodes: usize) -> Result<Vec<Command>, Fault>
     ensures { IsReadingOf (λ run. map command_parts run.items) result
-        (run_of nodes (view members.entry.value.now)) }
+        (run_of nodes (view value.entry)) }
 {
-    match members.optional_list("run")? {
+    match taken_list(value, "run")? {
         Some(list) => commands_given(alloc, list, nodes),
         None => Ok(Vec::new(alloc)),
     }
@@ -241,9 +243,9 @@ fn run_of(alloc: Global, members: Members, nodes: usize) -> Result<Vec<Command>,
 
 /// The commands of a list, unless they are too many.
 #[tactic(auto, using(crate::proofs::ListsRead::items_len_view))]
-fn commands_given(alloc: Global, list: &[Value], nodes: usize) -> Result<Vec<Command>, Fault>
+fn commands_given(alloc: Global, list: Vec<Value>, nodes: usize) -> Result<Vec<Command>, Fault>
     ensures { IsReadingOf (λ run. map command_parts run.items) result
-        (commands_given nodes (items_view list.now)) }
+        (commands_given nodes (items_view list.entry.items)) }
 {
     if list.len() > MAX_COMMANDS {
         return Err(WRONG_SCRIPT);
@@ -251,17 +253,17 @@ fn commands_given(alloc: Global, list: &[Value], nodes: usize) -> Result<Vec<Com
     commands_in(alloc, list, nodes)
 }
 
-/// The commands of a list, numbered from 1.
-fn commands_in(alloc: Global, list: &[Value], nodes: usize) -> Result<Vec<Command>, Fault>
-    requires { length list.now ≤ MAX_COMMANDS }
+/// The commands of a list, numbered from 1. What a command was read from is dropped at once.
+fn commands_in(alloc: Global, list: Vec<Value>, nodes: usize) -> Result<Vec<Command>, Fault>
+    requires { length list.items ≤ MAX_COMMANDS }
     ensures { IsReadingOf (λ run. map command_parts run.items) result
-        (each_of (command_at nodes) 0 (items_view list.now)) }
+        (each_of (command_at nodes) 0 (items_view list.entry.items)) }
 {
     let mut found = Vec::with_capacity(alloc, list.len())?;
     let mut number = 0u32;
     for value in list {
         number += 1;
-        let command = command_of(alloc, value, number, nodes)?;
+        let command = command_of(alloc, &value, number, nodes)?;
         found.push(command)?;
     }
     Ok(found)
