@@ -64,7 +64,10 @@ impl fmt::Display for Values<'_> {
         }
         for version in self.0 {
             if let Some(value) = version.value() {
-                write!(f, " {}={}", version.dot(), Hex(value.as_bytes()))?;
+                f.write_str(" ")?;
+                fmt::Display::fmt(&version.dot(), f)?;
+                f.write_str("=")?;
+                fmt::Display::fmt(&Hex(value.as_bytes()), f)?;
             }
         }
         Ok(())

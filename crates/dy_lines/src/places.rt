@@ -14,7 +14,9 @@ impl fmt::Display for At {
 
     fn fmt<W: fmt::Write>(&self, f: &mut fmt::Formatter<W>) -> fmt::Result {
         let Place { holder, home } = self.0;
-        write!(f, "{holder}/{home}")
+        fmt::Display::fmt(&holder, f)?;
+        f.write_str("/")?;
+        fmt::Display::fmt(&home, f)
     }
 }
 
@@ -30,7 +32,8 @@ impl fmt::Display for Places<'_> {
 
     fn fmt<W: fmt::Write>(&self, f: &mut fmt::Formatter<W>) -> fmt::Result {
         for place in self.0 {
-            write!(f, " {}", At(*place))?;
+            f.write_str(" ")?;
+            fmt::Display::fmt(&At(*place), f)?;
         }
         Ok(())
     }
@@ -48,7 +51,10 @@ impl fmt::Display for Answers<'_> {
 
     fn fmt<W: fmt::Write>(&self, f: &mut fmt::Formatter<W>) -> fmt::Result {
         for answer in self.0 {
-            write!(f, " {}={}", At(answer.place), answer.kind)?;
+            f.write_str(" ")?;
+            fmt::Display::fmt(&At(answer.place), f)?;
+            f.write_str("=")?;
+            fmt::Display::fmt(&answer.kind, f)?;
         }
         Ok(())
     }

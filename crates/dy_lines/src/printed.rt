@@ -1,6 +1,6 @@
 ghost use Rattle.std.specs.Prelude.{◌≡◌, ◌<◌, Some, false};
 ghost use Rattle.std.specs.Fmt.{digits};
-ghost use Rattle.dy_lines.specs.Texts.{byte_text, hex_text, position_text, nodes_text};
+ghost use Rattle.dy_lines.specs.Texts.{hex_text, position_text, nodes_text};
 
 use dy_dots::NodeId;
 use std::fmt;
@@ -14,22 +14,10 @@ impl fmt::Display for Hex<'_> {
 
     fn fmt<W: fmt::Write>(&self, f: &mut fmt::Formatter<W>) -> fmt::Result {
         for byte in self.0 {
-            write!(f, "{}", HexByte(*byte))?;
+            f.write_str(digit(*byte / 16))?;
+            f.write_str(digit(*byte % 16))?;
         }
         Ok(())
-    }
-}
-
-/// A byte that prints as two hexadecimal digits.
-#[derive(Clone, Copy)]
-struct HexByte(u8);
-
-impl fmt::Display for HexByte {
-    ghost output = { λ byte. Some (byte_text byte.0) };
-
-    fn fmt<W: fmt::Write>(&self, f: &mut fmt::Formatter<W>) -> fmt::Result {
-        f.write_str(digit(self.0 / 16))?;
-        f.write_str(digit(self.0 % 16))
     }
 }
 
