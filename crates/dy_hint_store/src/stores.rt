@@ -76,22 +76,6 @@ impl HintStore {
         }
     }
 
-    /// Puts the row in the place of its key's for the home. Takes memory only where there was none.
-    pub fn put_row(&mut self, home: NodeId, row: Row) -> Result<(), Fault>
-        ensures ok { OnOk result (self.new ≡ with_versions_for self.old home row.key row.versions) }
-        ensures err { OnErr result (self.new ≡ self.old) }
-        ensures absent { OnErr result (maps.get self.old (home, row.key) ≡ None) }
-        ensures filled { OnErr result (0 < length row.versions) }
-        ensures memory { IsOkUnless result Fault.OutOfMemory }
-    {
-        if row.is_empty() {
-            self.remove_row(home, row.key());
-            return Ok(());
-        }
-        let _before = self.swap_row(home, row)?;
-        Ok(())
-    }
-
     /// Puts the row in the place of its key's for the home, and gives back what was there. Takes
     /// memory only where there was none.
     pub fn swap_row(&mut self, home: NodeId, row: Row) -> Result<Option<Row>, Fault>

@@ -62,22 +62,6 @@ impl RowMap {
         self.rows.get(key)
     }
 
-    /// Puts the row in the place of its key's. Takes memory only where the key had none.
-    pub fn put_row(&mut self, row: Row) -> Result<(), Fault>
-        ensures ok { OnOk result (self.new ≡ with_versions self.old row.key row.versions) }
-        ensures err { OnErr result (self.new ≡ self.old) }
-        ensures absent { OnErr result (maps.get self.old row.key ≡ None) }
-        ensures filled { OnErr result (0 < length row.versions) }
-        ensures memory { IsOkUnless result Fault.OutOfMemory }
-    {
-        if row.is_empty() {
-            self.rows.remove(row.key());
-            return Ok(());
-        }
-        let _before = self.swap_row(row)?;
-        Ok(())
-    }
-
     /// Puts the row in the place of its key's, and gives back what was there. Takes memory only
     /// where the key had none.
     pub fn swap_row(&mut self, row: Row) -> Result<Option<Row>, Fault>

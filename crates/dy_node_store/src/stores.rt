@@ -57,18 +57,6 @@ impl NodeStore {
         self.rows.row(key)
     }
 
-    /// Puts the row in the place of its key's. Takes memory only where the key had none.
-    pub fn put_row(&mut self, row: Row) -> Result<(), Fault>
-        ensures ok { OnOk result (self.new ≡
-            record self.old { rows = with_versions self.old.rows row.key row.versions }) }
-        ensures err { OnErr result (self.new ≡ self.old) }
-        ensures absent { OnErr result (maps.get self.old.rows row.key ≡ None) }
-        ensures filled { OnErr result (0 < length row.versions) }
-        ensures memory { IsOkUnless result Fault.OutOfMemory }
-    {
-        self.rows.put_row(row)
-    }
-
     /// Puts the row in the place of its key's, and gives back what was there. Takes memory only
     /// where the key had none.
     pub fn swap_row(&mut self, row: Row) -> Result<Option<Row>, Fault>
