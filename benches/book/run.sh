@@ -24,7 +24,7 @@ cp -r "$here/src" "$here/proofs" "$folder/crates/bench_book/"
 find "$folder/crates/bench_book" -name '*.txt' | while read -r file; do mv "$file" "${file%.txt}"; done
 cd "$folder/crates/bench_book"
 # Without a word the program does nothing.
-rt run
+(cd "$folder" && rt ci)
 for work in fetches blind whole siblings keys chain; do
     python3 -c 'import resource, subprocess, sys
 subprocess.run(sys.argv[1:], check=True)

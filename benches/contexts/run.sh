@@ -11,6 +11,7 @@ cp "$here/main.rt.txt" "$work/crates/unions/src/main.rt"
 : > "$work/crates/unions/specs/Lib.antt"
 : > "$work/crates/unions/proofs/Lib.antt"
 cp "$here/../../HANDLES" "$work/HANDLES"
-printf 'dy_dots: thiserror\nunions: dy_dots anyhow\n' > "$work/crates.txt"
+grep '^dy_dots:' "$here/../../crates.txt" > "$work/crates.txt"
+echo 'unions: dy_dots anyhow' >> "$work/crates.txt"
 cd "$work/crates/unions"
 rt run

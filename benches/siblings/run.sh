@@ -12,11 +12,8 @@ for crate in dy_dots dy_siblings; do
 done
 mkdir -p "$folder/crates/bench_siblings/src"
 cp "$here/main.rt.txt" "$folder/crates/bench_siblings/src/main.rt"
-cat > "$folder/crates.txt" <<'LINES'
-dy_dots: thiserror
-dy_siblings: dy_dots
-bench_siblings: dy_siblings dy_dots anyhow
-LINES
+grep -E '^dy_(dots|siblings):' "$top/crates.txt" > "$folder/crates.txt"
+echo 'bench_siblings: dy_siblings dy_dots anyhow' >> "$folder/crates.txt"
 cp "$top/HANDLES" "$folder/HANDLES"
 cd "$folder/crates/bench_siblings"
 rt run
