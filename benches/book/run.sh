@@ -25,8 +25,9 @@ find "$folder/crates/bench_book" -name '*.txt' | while read -r file; do mv "$fil
 cd "$folder/crates/bench_book"
 # Without a word the program does nothing.
 (cd "$folder" && rt ci)
+# (A process that Python starts begins with Python's own memory, so it would be told as the most.)
+cc -O2 -o "$folder/measured" "$here/../measured.c"
 for work in fetches blind whole siblings keys chain; do
-    python3 -c 'import resource, subprocess, sys
-subprocess.run(sys.argv[1:], check=True)
-print(resource.getrusage(resource.RUSAGE_CHILDREN).ru_maxrss // 1024, "MB at most")' out/bench_book "$work"
+    "$folder/measured" 600 8000 "$folder/out" out/bench_book "$work" | awk '{ print $4 " KB at most" }'
+    cat "$folder/out"
 done

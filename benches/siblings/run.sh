@@ -17,6 +17,5 @@ echo 'bench_siblings: dy_siblings dy_dots anyhow' >> "$folder/crates.txt"
 cp "$top/HANDLES" "$folder/HANDLES"
 cd "$folder/crates/bench_siblings"
 rt run
-python3 -c 'import resource, subprocess, sys
-subprocess.run(sys.argv[1:], check=True)
-print(resource.getrusage(resource.RUSAGE_CHILDREN).ru_maxrss // 1024, "MB at most")' out/bench_siblings
+cc -O2 -o "$folder/measured" "$here/../measured.c"
+"$folder/measured" 600 8000 "$folder/out" out/bench_siblings | awk '{ print $4 " KB at most" }'
