@@ -9,7 +9,7 @@ ghost use Rattle.dy_dots.specs.Spelling.{ReadsBack, Spells, SpellingIsText, cont
 
 use crate::dots::Dot;
 use crate::faults::Fault;
-use crate::runs::{self, Run};
+use crate::runs::{self, Run, Runs};
 use crate::texts;
 use std::alloc::Global;
 use std::marker::Model;
@@ -18,7 +18,7 @@ use std::{fmt, slice};
 /// A set of dots of one key, kept as its maximal runs, sorted by node, then by counter.
 #[derive(Debug, Drop)]
 pub struct Context {
-    runs: Vec<Run>,
+    runs: Runs,
 }
 
 impl Model for Context {
@@ -37,7 +37,7 @@ impl Context {
         ensures { result ≡ set.empty }
     {
         Context {
-            runs: Vec::new(alloc),
+            runs: Runs::new(alloc),
         }
     }
 
@@ -111,7 +111,7 @@ impl Context {
         ensures memory { IsOkUnless result Fault.OutOfMemory }
     {
         Ok(Context {
-            runs: Vec::from_slice(alloc, self.runs.as_slice())?,
+            runs: Runs::from_slice(alloc, self.runs.as_slice())?,
         })
     }
 

@@ -8,7 +8,7 @@ use std::marker::Model;
 pub const MAX_NODES: u8 = 32;
 
 /// The number of a node, from 0 to 31.
-#[derive(Clone, Copy, Debug, PartialEq, Eq, PartialOrd, Ord)]
+#[derive(Clone, Copy, Debug, Default, PartialEq, Eq, PartialOrd, Ord)]
 pub struct NodeId {
     number: u8,
 }

@@ -11,17 +11,21 @@ ghost use Rattle.dy_dots.specs.inside.Reading.{run_to};
 
 use crate::dots::Dot;
 use crate::nodes::NodeId;
+use smallvec::SmallVec;
 use std::alloc::{AllocError, AllocFailed, Global};
 use std::fmt;
 
 /// Dots of one node whose counters follow one another, from the first to the last. It is printed
 /// as its counters alone.
-#[derive(Clone, Copy, Debug, PartialEq, Eq)]
+#[derive(Clone, Copy, Debug, Default, PartialEq, Eq)]
 pub struct Run {
     pub node: NodeId,
     pub first: u32,
     pub last: u32,
 }
+
+/// The runs of a set. A single one, as of what one node has put, lies in place.
+pub(crate) type Runs = SmallVec<Run, 1>;
 
 impl Run {
     fn of(dot: &Dot) -> Run
@@ -154,7 +158,7 @@ pub(crate) fn count(runs: &[Run]) -> usize
 }
 
 /// Adds the dot.
-pub(crate) fn add(runs: &mut Vec<Run>, dot: &Dot) -> Result<(), AllocFailed<Run>>
+pub(crate) fn add(runs: &mut Runs, dot: &Dot) -> Result<(), AllocFailed<Run>>
     requires { AreApart runs.old.items }
     ensures ok { OnOk result (Added runs.old.items (single dot.now) runs.new.items) }
     ensures err { OnErr result (runs.new.items ≡ runs.old.items) }
@@ -214,13 +218,13 @@ fn split_next<'a>(a: &'a [Run], b: &'a [Run]) -> Option<(Run, &'a [Run], &'a [Ru
 }
 
 /// The runs of the dots of both lists.
-pub(crate) fn union_of(alloc: Global, a: &[Run], b: &[Run]) -> Result<Vec<Run>, AllocError>
+pub(crate) fn union_of(alloc: Global, a: &[Run], b: &[Run]) -> Result<Runs, AllocError>
     requires a_apart { AreApart a.now }
     requires b_apart { AreApart b.now }
     ensures apart { IfOk result (λ runs. AreApart runs.items) }
     ensures members { IfOk result (λ runs. HaveBoth a.now b.now runs.items) }
 {
-    let mut runs = Vec::new(alloc);
+    let mut runs = Runs::new(alloc);
     let Some((first, mut left, mut right)) = split_next(a, b) else {
         return Ok(runs);
     };

@@ -7,7 +7,7 @@ ghost use Rattle.dy_dots.specs.declared.texts.TheConstants.{MAX_CONTEXT_DOTS};
 use crate::dots::MAX_COUNTER;
 use crate::faults::Fault;
 use crate::nodes::{MAX_NODES, NodeId};
-use crate::runs::Run;
+use crate::runs::{Run, Runs};
 use std::alloc::{AllocError, Global};
 use std::fmt;
 
@@ -54,11 +54,11 @@ pub(crate) fn text_of(alloc: Global, runs: &[Run]) -> Result<String, AllocError>
 }
 
 /// The runs that the bytes name, perhaps by other words than their own text.
-pub(crate) fn runs_in(alloc: Global, bytes: &[u8]) -> Result<Vec<Run>, Fault>
+pub(crate) fn runs_in(alloc: Global, bytes: &[u8]) -> Result<Runs, Fault>
     ensures found { IfOk result (λ runs. read_runs bytes.now ≡ Some runs.items) }
     ensures errors { IfErr result (IsUnread bytes.now) }
 {
-    let mut runs = Vec::new(alloc);
+    let mut runs = Runs::new(alloc);
     let mut node = NodeId::nth(0);
     let mut first = None;
     let mut number = 0;

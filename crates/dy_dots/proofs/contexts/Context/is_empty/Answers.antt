@@ -1,7 +1,6 @@
-use Rattle.std.proofs.Common.{ap, ◌∙◌, nat_eq}
 use Rattle.dy_dots.proofs.Unique.{empty_is}
 use Rattle.dy_dots.proofs.contexts.Context.is_empty.Goals as goal
 
 pub returns : goal.returns
 returns c = empty_is c.self.inside.runs.items c.args.self.now c.is_empty.result c.self.invariant.apart c.self.view_is
-    (c.is_empty.ensures ∙ ap (λ n. nat_eq n 0) c.self.inside.runs.ok.0)
+    c.is_empty.ensures

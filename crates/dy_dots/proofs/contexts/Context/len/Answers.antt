@@ -6,5 +6,5 @@ use Rattle.dy_dots.proofs.contexts.Context.len.Goals as goal
 
 pub returns : goal.returns
 returns c =
-    c.count.ensures ∙ ap count_of c.as_slice.ensures.value
+    c.count.ensures ∙ ap count_of c.as_slice.ensures
     ∙ sym (len_set_of 0 0 c.self.inside.runs.items c.self.invariant.apart) ∙ ap set.len c.self.view_is

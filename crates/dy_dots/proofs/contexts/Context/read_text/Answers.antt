@@ -24,7 +24,7 @@ returns-then-not-are_allowed-clause-refused c =
       refl,
       refused_unfit c.args.text.now c.in-Ok.runs.items (not_dash _ (sym c.eq.ensures ∙ c.if-eq.false))
           (ap read_runs (sym c.as_bytes.ensures.value) ∙ c.in-Ok.ensures.found)
-          (ap (all_allowed 0 0 100000) (sym c.as_slice.ensures.value) ∙ sym c.are_allowed.ensures ∙ c.if-not-are_allowed.true),
+          (ap (all_allowed 0 0 100000) (sym c.as_slice.ensures) ∙ sym c.are_allowed.ensures ∙ c.if-not-are_allowed.true),
     )
 
 pub returns-then-ne-clause-refused : goal.returns-then-ne-clause-refused
@@ -34,15 +34,15 @@ returns-then-ne-clause-refused c =
       refused_other c.args.text.now c.in-Ok.runs.items (not_dash _ (sym c.eq.ensures ∙ c.if-eq.false))
           (ap read_runs (sym c.as_bytes.ensures.value) ∙ c.in-Ok.ensures.found)
           (λ same. other_text c.as_str.result.now c.args.text.now c.ne.result c.ne.ensures c.if-ne.true
-          (c.as_str.ensures.value ∙ c.in_ok-again.ensures ∙ ap runs_text c.as_slice-2.ensures.value ∙ same)),
+          (c.as_str.ensures.value ∙ c.in_ok-again.ensures ∙ ap runs_text c.as_slice-2.ensures ∙ same)),
     )
 
 pub invariant_of-result : goal.invariant_of-result
 invariant_of-result c =
-    allowed_kept c.in-Ok.runs.items (ap (all_allowed 0 0 100000) (sym c.as_slice.ensures.value) ∙ sym c.are_allowed.ensures ∙ c.if-not-are_allowed.false)
+    allowed_kept c.in-Ok.runs.items (ap (all_allowed 0 0 100000) (sym c.as_slice.ensures) ∙ sym c.are_allowed.ensures ∙ c.if-not-are_allowed.false)
 
 pub returns-clause-found : goal.returns-clause-found
 returns-clause-found c =
-    found_runs c.args.text.now c.in-Ok.runs.items (ap (all_allowed 0 0 100000) (sym c.as_slice.ensures.value) ∙ sym c.are_allowed.ensures ∙ c.if-not-are_allowed.false)
+    found_runs c.args.text.now c.in-Ok.runs.items (ap (all_allowed 0 0 100000) (sym c.as_slice.ensures) ∙ sym c.are_allowed.ensures ∙ c.if-not-are_allowed.false)
     (sym (same_text c.as_str.result.now c.args.text.now c.ne.result c.ne.ensures c.if-ne.false)
-    ∙ c.as_str.ensures.value ∙ c.in_ok-again.ensures ∙ ap runs_text c.as_slice-2.ensures.value)
+    ∙ c.as_str.ensures.value ∙ c.in_ok-again.ensures ∙ ap runs_text c.as_slice-2.ensures)

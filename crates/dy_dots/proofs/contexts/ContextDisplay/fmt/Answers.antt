@@ -7,4 +7,4 @@ use Rattle.dy_dots.proofs.contexts.ContextDisplay.fmt.Goals as goal
 
 pub returns-clause-writes : goal.returns-clause-writes
 returns-clause-writes g c plain fine =
-    has_written_of_eq _ _ _ _ _ (ap runs_text c.as_slice.ensures.value ∙ text_is _ _ (runs_are _ _ _ c.self.invariant.apart c.self.view_is refl)) (c.print_runs.ensures plain fine)
+    has_written_of_eq _ _ _ _ _ (ap runs_text c.as_slice.ensures ∙ text_is _ _ (runs_are _ _ _ c.self.invariant.apart c.self.view_is refl)) (c.print_runs.ensures plain fine)
