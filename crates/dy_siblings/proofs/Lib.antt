@@ -1,3 +1,4 @@
+pub mod Leads
 pub mod Histories
 pub mod Members
 pub mod SameKeys

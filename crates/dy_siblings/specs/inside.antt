@@ -1,4 +1,5 @@
 -- What contracts of private functions, and the view of a row, alone speak of.
 pub mod Conflicts
+pub mod Leads
 pub mod Lists
 pub mod Merging

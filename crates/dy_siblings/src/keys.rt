@@ -1,5 +1,5 @@
-ghost use Rattle.std.specs.Prelude.{◌≡◌, ◌<◌, ◌==◌, ◌⊎◌, ◌↔◌, ℕ, List, length, IfOk, IfErr};
-ghost use Rattle.std.specs.Prelude.{IsErrOf, IsOkUnless};
+ghost use Rattle.std.specs.Prelude.{◌≡◌, ◌<◌, ◌≤◌, ◌==◌, true, false, ◌⊎◌, ◌↔◌, ℕ, List};
+ghost use Rattle.std.specs.Prelude.{length, get_or, IfOk, IfErr, IsErrOf, IsOkUnless};
 ghost use Rattle.std.specs.Cmp.{partial_order_from_own_ties};
 ghost use Rattle.std.specs.Cmp.Lexicographic.{pointwise, slice_cmp};
 ghost use Rattle.std.specs.Cmp.Rules.{comparing};
@@ -7,6 +7,9 @@ ghost use Rattle.std.specs.Ordering.{nat_cmp, as_partial_cmp};
 ghost use Rattle.std.proofs.Common.{rules};
 ghost use Rattle.std.specs.Arc.{arc_slice_items};
 ghost use Rattle.dy_siblings.specs.Sizes.{IsKey};
+ghost use Rattle.std.specs.Option.{option_map};
+ghost use Rattle.dy_siblings.specs.inside.Leads.{AreBytes, IsFronted, bytes_of, front_of};
+ghost use Rattle.dy_siblings.specs.inside.Leads.{number_of};
 ghost use Rattle.dy_siblings.specs.declared.keys.TheConstants.{MAX_KEY_BYTES};
 
 use dy_dots::Fault;
@@ -18,18 +21,58 @@ use std::sync::ArcSlice;
 /// How many bytes a key has at most.
 pub const MAX_KEY_BYTES: usize = 64;
 
-/// A key: 1 to 64 bytes.
+// How many bytes of a key lie in place.
+const SHORT: usize = 15;
+
+/// A key: 1 to 64 bytes. Up to fifteen lie in the key itself; of a longer one the copies share the
+/// bytes, and its first fifteen tell most keys apart without a look at the others.
 #[derive(Debug, Drop)]
 pub struct Key {
-    bytes: ArcSlice<u8>,
+    // The first fifteen bytes, filled up with zeros, and how many there are in all.
+    front: [u8; 16],
+    whole: Option<ArcSlice<u8>>,
+}
+
+// The byte at this place, or 0.
+fn byte_at(bytes: &[u8], place: usize) -> u8
+    ensures { result ≡ get_or bytes.now place 0 }
+{
+    bytes.get(place).copied().unwrap_or(0)
+}
+
+// The first fifteen bytes, where 0 stands for each that lacks, and how many there are in all.
+fn front_of(bytes: &[u8]) -> [u8; 16]
+    requires { length bytes.now < 256 }
+    ensures { result ≡ front_of bytes.now }
+{
+    [
+        byte_at(bytes, 0),
+        byte_at(bytes, 1),
+        byte_at(bytes, 2),
+        byte_at(bytes, 3),
+        byte_at(bytes, 4),
+        byte_at(bytes, 5),
+        byte_at(bytes, 6),
+        byte_at(bytes, 7),
+        byte_at(bytes, 8),
+        byte_at(bytes, 9),
+        byte_at(bytes, 10),
+        byte_at(bytes, 11),
+        byte_at(bytes, 12),
+        byte_at(bytes, 13),
+        byte_at(bytes, 14),
+        bytes.len() as u8,
+    ]
 }
 
 impl Model for Key {
     ghost Value = { List ℕ };
 
-    ghost view = { λ key. arc_slice_items key.bytes };
+    ghost view = { λ key. bytes_of key.front (option_map arc_slice_items key.whole) };
 
-    ghost invariant = { λ key. IsKey (arc_slice_items key.bytes) };
+    ghost invariant = { λ key.
+        IsFronted key.front (option_map arc_slice_items key.whole)
+        (bytes_of key.front (option_map arc_slice_items key.whole)) };
 }
 
 impl Key {
@@ -44,8 +87,14 @@ impl Key {
         if bytes.is_empty() || bytes.len() > MAX_KEY_BYTES {
             return Err(Fault::KeySize);
         }
+        let front = front_of(bytes);
+        if bytes.len() <= SHORT {
+            return Ok(Key { front, whole: None });
+        }
+        let shared = ArcSlice::from_slice(alloc, bytes)?;
         Ok(Key {
-            bytes: ArcSlice::from_slice(alloc, bytes)?,
+            front,
+            whole: Some(shared),
         })
     }
 
@@ -54,16 +103,42 @@ impl Key {
         ensures value { result.now ≡ self.now }
         ensures size { IsKey self.now }
     {
-        self.bytes.as_slice()
+        match &self.whole {
+            Some(bytes) => bytes.as_slice(),
+            None => &self.front[..self.front[SHORT] as usize],
+        }
     }
 
-    /// A copy, which shares the bytes.
+    // The number of its first bytes and its length.
+    fn number(&self) -> u128
+        ensures value { result ≡ number_of self.now }
+        ensures small { AreBytes self.now }
+        ensures size { IsKey self.now }
+    {
+        u128::from_be_bytes(self.front)
+    }
+
+    // Whether not all of its bytes lie in place.
+    fn is_long(&self) -> bool
+        ensures long { result ≡ true → 15 < length self.now }
+        ensures short { result ≡ false → length self.now ≤ 15 }
+        ensures size { IsKey self.now }
+    {
+        self.whole.is_some()
+    }
+
+    /// A copy. Where the bytes lie in place it takes no memory, and else it shares them.
     pub fn try_clone(&self, _alloc: Global) -> Result<Key, Fault>
         ensures value { IfOk result (λ key. key ≡ self.now) }
         ensures memory { IsOkUnless result Fault.OutOfMemory }
     {
+        let whole = match &self.whole {
+            Some(bytes) => Some(bytes.clone()?),
+            None => None,
+        };
         Ok(Key {
-            bytes: self.bytes.clone()?,
+            front: self.front,
+            whole,
         })
     }
 }
@@ -74,7 +149,13 @@ impl PartialEq for Key {
     ghost laws = { Prim.search (comparing, rules) };
 
     fn eq(&self, other: &Key) -> bool {
-        self.bytes == other.bytes
+        if self.number() != other.number() {
+            return false;
+        }
+        if !self.is_long() {
+            return true;
+        }
+        self.as_bytes() == other.as_bytes()
     }
 }
 
@@ -92,7 +173,12 @@ impl Ord for Key {
     ghost matches_eq = { Prim.search (comparing, rules) };
 
     fn cmp(&self, other: &Key) -> Ordering {
-        self.bytes.cmp(&other.bytes)
+        let mine = self.number();
+        let theirs = other.number();
+        if mine / 256 == theirs / 256 && self.is_long() && other.is_long() {
+            return self.as_bytes().cmp(other.as_bytes());
+        }
+        mine.cmp(&theirs)
     }
 }
 
