@@ -21,11 +21,10 @@ use std::sync::Wait;
 
 impl<J: Naming> Cluster<J> {
     // The key's list.
-    fn list(&self, key: &Key) -> Result<Preference, Fault>
-        ensures ok { IfOk result (λ list. list ≡ list_of J.ring J.n key.now) }
-        ensures memory { IsOkUnless result Fault.OutOfMemory }
+    fn list(&self, key: &Key) -> Preference
+        ensures { result ≡ list_of J.ring J.n key.now }
     {
-        preference(self.alloc, &self.ring, key, self.options.n)
+        preference(&self.ring, key, self.options.n)
     }
 
     // A put that asks nobody.
@@ -80,12 +79,10 @@ impl<J: Naming> Cluster<J> {
         if self.options.n < w {
             return Err(self.unlisted(Fault::BadQuorum));
         }
-        match self.list(key) {
-            Ok(list) => dy_coord::put(
-                rt, self.alloc, transport, &list, w, session, key, context, value,
-            ),
-            Err(_fault) => Err(self.unlisted(Fault::OutOfMemory)),
-        }
+        let list = self.list(key);
+        dy_coord::put(
+            rt, self.alloc, transport, &list, w, session, key, context, value,
+        )
     }
 
     /// A put that marks the key as deleted: one of an absent value. May wait for answers and locks.
@@ -132,18 +129,9 @@ impl<J: Naming> Cluster<J> {
         ensures refused { IfErr result (λ e. IsGetRefused (list_of J.ring J.n key.now) key.now J.r
             (since_of session.old) (T.told transport.new) e) }
     {
-        match self.list(key) {
-            Ok(list) => dy_coord::get(
-                rt,
-                self.alloc,
-                transport,
-                &list,
-                self.options.r,
-                session,
-                key,
-            ),
-            Err(fault) => Err(self.ungot(fault)),
-        }
+        let list = self.list(key);
+        let r = self.options.r;
+        dy_coord::get(rt, self.alloc, transport, &list, r, session, key)
     }
 
     /// Asks each home that answered by itself with another row to store this one, over a transport
@@ -165,7 +153,7 @@ impl<J: Naming> Cluster<J> {
         ensures tries { (T.told transport.new).tries ≡ (T.told transport.old).tries }
         ensures room { (T.told transport.new).room ≡ (T.told transport.old).room }
     {
-        let list = self.list(row.key())?;
+        let list = self.list(row.key());
         dy_repair::repair(rt, self.alloc, transport, seens, row, &list)
     }
 }

@@ -5,7 +5,7 @@ ghost use Rattle.dy_coord.specs.Sure.{IsSureOf};
 
 use crate::put_results::PutDone;
 use dy_book::Options;
-use dy_core::Place;
+use dy_core::{Place, PlaceVec};
 use dy_dots::{Context, Dot, Fault};
 use dy_shares::{Naming, Receipt, Seen};
 use dy_siblings::{Key, Row, Value};
@@ -19,7 +19,7 @@ pub struct GetDone<J: Naming> {
     pub row: Row,
     pub context: Context,
     pub since: usize,
-    pub from: Vec<Place>,
+    pub from: PlaceVec,
     pub seen: Vec<Seen<J>>,
     pub answers: Vec<AnswerRead>,
 }

@@ -37,10 +37,7 @@ impl World {
                 context,
                 ..
             } => Ok(self.may_issue(*node, key, context)),
-            Step::Hold { place, row } => {
-                let yes = self.may_hold(alloc, place.holder, place.home, row)?;
-                Ok(yes)
-            }
+            Step::Hold { place, row } => Ok(self.may_hold(place.holder, place.home, row)),
             Step::Release { place, key, dot } => {
                 Ok(self.may_release(place.holder, place.home, key, *dot))
             }
@@ -61,23 +58,16 @@ impl World {
     }
 
     // Whether the holder may hold the row for the home.
-    fn may_hold(
-        &self,
-        alloc: Global,
-        holder: NodeId,
-        home: NodeId,
-        row: &Row,
-    ) -> Result<bool, Fault>
-        ensures ok { IfOk result (λ yes. IsTrue yes ↔
+    fn may_hold(&self, holder: NodeId, home: NodeId, row: &Row) -> bool
+        ensures { IsTrue result ↔
             (IsTrue (may_hold (homes_of self.now.ring self.now.n row.now.key) holder home)
-            × AreMadeOf (world_after self.now.steps) row.now.key row.now.versions)) }
-        ensures memory { IsOkUnless result Fault.OutOfMemory }
+            × AreMadeOf (world_after self.now.steps) row.now.key row.now.versions) }
     {
-        let list = preference(alloc, &self.ring, row.key(), self.n)?;
+        let list = preference(&self.ring, row.key(), self.n);
         if !list.may_hold(holder, home) {
-            return Ok(false);
+            return false;
         }
-        Ok(are_among(self.versions.as_slice(), row.versions()))
+        are_among(self.versions.as_slice(), row.versions())
     }
 
     // Whether the holder may give up the dot for the home.

@@ -20,6 +20,6 @@ pub use applying::run_steps;
 pub use holdings::Holding;
 pub use lists::{Ranked, put, put_reserved};
 pub use placed::{Placed, covering};
-pub use places::Place;
+pub use places::{Place, PlaceVec};
 pub use steps::Step;
 pub use worlds::World;

@@ -1,13 +1,17 @@
 use crate::lists::Ranked;
+use arrayvec::ArrayVec;
 use dy_dots::NodeId;
 use std::cmp::Ordering;
 
 /// A node and a home that it holds for, or may hold for. They are ordered by home, then by holder.
-#[derive(Clone, Copy, Debug, PartialEq, Eq)]
+#[derive(Clone, Copy, Debug, Default, PartialEq, Eq)]
 pub struct Place {
     pub holder: NodeId,
     pub home: NodeId,
 }
+
+/// Places of distinct homes, in the value itself: there are no more than nodes.
+pub type PlaceVec = ArrayVec<Place, 32>;
 
 impl Ranked for Place {
     ghost use Rattle.dy_core.specs.Orders.{place_cmp};

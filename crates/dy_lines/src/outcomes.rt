@@ -6,7 +6,7 @@ use crate::keeping::{HintsKept, Kept, OwnKept};
 use crate::places::{Answers, Places};
 use crate::printed::Hex;
 use crate::refusals::Refusal;
-use dy_core::Place;
+use dy_core::PlaceVec;
 use dy_dots::{Context, Dot, Fault, NodeId};
 use dy_siblings::{Row, Version};
 use dy_transport::AnswerRead;
@@ -93,7 +93,7 @@ pub enum Outcome {
     /// A get was answered: its context, whose rows were used, and the merged row.
     Read {
         context: Context,
-        from: Vec<Place>,
+        from: PlaceVec,
         row: Row,
     },
     /// Too few homes answered: the dot of a put or a delete, and every answer that was read.

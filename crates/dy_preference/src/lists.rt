@@ -2,14 +2,18 @@ ghost use Rattle.std.specs.Prelude.{◌≡◌, take, drop, length, nat_eq, true}
 ghost use Rattle.std.specs.List.{IsDistinct};
 ghost use Rattle.dy_preference.specs.Preferences.{IsPreferred, home_for, is_home, may_hold};
 
+use arrayvec::ArrayVec;
 use dy_dots::NodeId;
 use std::marker::Model;
+
+/// The nodes of a list, in place: there are few.
+pub(crate) type Nodes = ArrayVec<NodeId, 32>;
 
 /// All nodes of a ring in the order in which a key prefers them; the first n are its homes (Dynamo,
 /// section 4.3).
 #[derive(Debug, Drop)]
 pub struct Preference {
-    nodes: Vec<NodeId>,
+    nodes: Nodes,
     n: usize,
 }
 
@@ -27,7 +31,7 @@ impl Model for Preference {
 
 impl Preference {
     /// The list of these nodes, of which the first n are homes. Takes no memory.
-    pub(crate) fn of(nodes: Vec<NodeId>, n: usize) -> Preference
+    pub(crate) fn of(nodes: Nodes, n: usize) -> Preference
         requires { IsPreferred (record { nodes = nodes.items; n = n }) }
         ensures { result ≡ record { nodes = nodes.items; n = n } }
     {

@@ -11,6 +11,7 @@ use Rattle.std.proofs.lemmas.List.Elements.{All-contains, All-push, Contains-app
 use Rattle.std.proofs.lemmas.List.Elements.{Contains-push}
 use Rattle.std.proofs.lemmas.List.Quantifiers.{all_pairs_push}
 use Rattle.std.proofs.lemmas.Map.Keys.{any_passes_from_place}
+use Rattle.std.proofs.lemmas.Map.Steps.{length-le_from_distinct_below}
 use Rattle.std.proofs.lemmas.Map.Made.{AllPairs-from_IsDistinct, IsDistinct-from_AllPairs}
 use Rattle.std.proofs.lemmas.Option.{slice_get-get_or}
 use Rattle.std.specs.Cmp.{nat_eq_equiv}
@@ -150,6 +151,40 @@ module _ {A : Type 0} where
         | inr lacks ↦ subst P (sym (firsts_more home xs x lacks))
             (are_more home xs (firsts_by home xs) x i lacks)
       ]
+
+  below_by : (home : A → ℕ) (n : ℕ) (fs : List A) → All (λ x. home x < n) fs → (h : ℕ) →
+      list_any (nat_eq h) (map home fs) ≡ true → h < n
+  below_by home n [] below h e = absurd (cc)
+  below_by home n (f ∷ fs) below h e = elim (cases_Bool (nat_eq h (home f))) [
+    | inl has ↦ (let same : h ≡ home f = eqb-true h (home f) has in
+        let first : home f < n = below zero f (omega arith) in omega arith)
+    | inr lacks ↦ below_by home n fs (λ k d l. below (suc k) d (omega arith)) h (rw lacks at e)
+  ]
+
+  -- where each home is below n, there are no more than n distinct ones
+  pub few_firsts : (home : A → ℕ) (n : ℕ) (xs fs : List A) → AreFirstsBy home xs fs →
+      All (λ x. home x < n) xs → length fs ≤ n
+  few_firsts home n xs fs are below =
+      let firsts : All (λ x. home x < n) fs =
+      λ k d l. All-contains (λ x. home x < n) xs _ below (are.among k d l) in
+      let few : length (map home fs) ≤ n = length-le_from_distinct_below (map home fs) n
+      (distinct_by home fs are.homes) (λ h e. below_by home n fs firsts h e) in
+      let same : length (map home fs) ≡ length fs = length-map fs home in
+      omega arith
+
+  -- so a home that is not there yet finds fewer
+  pub room_for : (home : A → ℕ) (n : ℕ) (xs : List A) (x : A) (hs : List ℕ) →
+      hs ≡ map home (firsts_by home xs) → AreFirstsBy home xs (firsts_by home xs) →
+      All (λ y. home y < n) (xs ++ x ∷ []) → home_in hs (home x) ≡ false → length hs < n
+  room_for home n xs x hs is are below lacks =
+      let fs = firsts_by home xs in
+      let few = few_firsts home n (xs ++ x ∷ []) (firsts_by home (xs ++ x ∷ []))
+      (are_push home xs x are) below in
+      let more : length (firsts_by home (xs ++ x ∷ [])) ≡ length fs + 1 =
+      ap length (firsts_more home xs x (subst (λ ys. home_in ys (home x) ≡ false) is lacks))
+      ∙ length-append fs (x ∷ []) in
+      let same : length hs ≡ length fs = ap length is ∙ length-map fs home in
+      omega arith
 
   are_from : (home : A → ℕ) (before xs : List A) → AreFirstsBy home before (firsts_by home before) →
       AreFirstsBy home (before ++ xs) (firsts_by home (before ++ xs))

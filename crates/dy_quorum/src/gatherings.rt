@@ -4,7 +4,7 @@ ghost use Rattle.std.specs.Prelude.{◌==◌};
 ghost use Rattle.std.specs.List.{list_any};
 ghost use Rattle.dy_quorum.specs.Gatherings.{answer_place, first_answers};
 
-use dy_core::Place;
+use dy_core::{Place, PlaceVec};
 use dy_dots::{Fault, NodeId};
 use dy_shares::{Naming, Seen};
 use std::alloc::Global;
@@ -17,11 +17,13 @@ pub struct Gathering<J: Naming> {
     r: usize,
     room: usize,
     seens: Vec<Seen<J>>,
-    places: Vec<Place>,
+    places: PlaceVec,
 }
 
 impl<J: Naming> Model for Gathering<J> {
-    ghost use Rattle.std.specs.Prelude.{◌≡◌, ◌≤◌, length, map, vec_capacity};
+    ghost use Rattle.std.specs.Prelude.{◌≡◌, ◌<◌, ◌≤◌, length, map, vec_capacity};
+    ghost use Rattle.std.specs.List.{All};
+    ghost use Rattle.dy_dots.specs.declared.nodes.TheConstants.{MAX_NODES};
     ghost use Rattle.dy_quorum.specs.Firsts.{AreFirstsBy};
     ghost use Rattle.dy_quorum.specs.Gatherings.{Gathered, answer_place, first_answers};
     ghost use Rattle.dy_quorum.specs.Gatherings.{gathered_code};
@@ -37,7 +39,7 @@ impl<J: Naming> Model for Gathering<J> {
         × AreFirstsBy (λ a. a.home) g.seens.items (first_answers g.seens.items)
         × (length g.seens.items ≤ g.room)
         × (g.room ≤ vec_capacity g.seens)
-        × (g.room ≤ vec_capacity g.places) };
+        × All (λ a. a.home < MAX_NODES) g.seens.items };
 }
 
 // Whether one of the places is for the home.
@@ -79,12 +81,11 @@ impl<J: Naming> Gathering<J> {
         ensures memory { IsOkUnless result Fault.OutOfMemory }
     {
         let seens = Vec::with_capacity(alloc, room)?;
-        let places = Vec::with_capacity(alloc, room)?;
         Ok(Gathering {
             r,
             room,
             seens,
-            places,
+            places: PlaceVec::new(),
         })
     }
 
@@ -99,8 +100,10 @@ impl<J: Naming> Gathering<J> {
     {
         let home = seen.home();
         let holder = seen.holder();
-        if !has_home(&self.places, home) {
-            self.places.push_reserved(Place { holder, home });
+        // It is a node's, so there are no more homes than places.
+        let _number = home.number();
+        if !has_home(self.places.as_slice(), home) {
+            self.places.push(Place { holder, home });
         }
         self.seens.push_reserved(seen);
     }
@@ -139,7 +142,7 @@ impl<J: Naming> Gathering<J> {
 
     /// All answers, and where the first of each home comes from, both in the order in which they
     /// were added. Takes no memory.
-    pub fn into_parts(self) -> (Vec<Seen<J>>, Vec<Place>)
+    pub fn into_parts(self) -> (Vec<Seen<J>>, PlaceVec)
         ensures seens { result.0.items ≡ self.seens }
         ensures places { result.1.items ≡ map answer_place (first_answers self.seens) }
     {

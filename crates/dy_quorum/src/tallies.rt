@@ -3,10 +3,14 @@ ghost use Rattle.std.specs.Prelude.{IsOkUnless, MatchBool, vec_capacity};
 ghost use Rattle.dy_quorum.specs.Tallies.{Counted, Agrees, DoAgree, FitsAll, IsChoice, CanChoose};
 ghost use Rattle.dy_quorum.specs.inside.Counting.{firsts};
 
+use arrayvec::ArrayVec;
 use dy_dots::{Fault, NodeId};
 use dy_shares::{Naming, Receipt};
 use std::alloc::Global;
 use std::marker::Model;
+
+// Distinct homes, which lie in place: there are as many as nodes, at most.
+type Homes = ArrayVec<NodeId, 32>;
 
 /// The receipts of one put, and the homes among them. Among receipts that fit, a holder holds for
 /// one home, so receipts of distinct homes have distinct holders, and it is enough to count homes.
@@ -15,12 +19,14 @@ pub struct Tally<J: Naming> {
     w: usize,
     room: usize,
     added: Vec<Receipt<J>>,
-    homes: Vec<NodeId>,
+    homes: Homes,
     chosen: Vec<Receipt<J>>,
 }
 
 impl<J: Naming> Model for Tally<J> {
-    ghost use Rattle.std.specs.Prelude.{◌≡◌, ◌≤◌, [], length, map, vec_capacity};
+    ghost use Rattle.std.specs.Prelude.{◌≡◌, ◌<◌, ◌≤◌, [], length, map, vec_capacity};
+    ghost use Rattle.std.specs.List.{All};
+    ghost use Rattle.dy_dots.specs.declared.nodes.TheConstants.{MAX_NODES};
     ghost use Rattle.dy_quorum.specs.Tallies.{Counted, DoAgree};
     ghost use Rattle.dy_quorum.specs.inside.Counting.{IsCount, firsts};
 
@@ -33,7 +39,7 @@ impl<J: Naming> Model for Tally<J> {
         × IsCount t.added.items (firsts t.added.items)
         × (length t.added.items ≤ t.room)
         × (t.room ≤ vec_capacity t.added)
-        × (t.room ≤ vec_capacity t.homes)
+        × All (λ r. r.home < MAX_NODES) t.added.items
         × (t.room ≤ vec_capacity t.chosen)
         × (t.chosen.items ≡ [])
         × DoAgree t.added.items };
@@ -59,21 +65,18 @@ fn all_agree<J: Naming>(list: &[Receipt<J>], receipt: &Receipt<J>) -> bool
 }
 
 // The first receipt of each home, in their order.
-fn first_of_each<J: Naming>(
-    added: Vec<Receipt<J>>,
-    mut homes: Vec<NodeId>,
-    mut chosen: Vec<Receipt<J>>,
-) -> Vec<Receipt<J>>
-    requires homes { length added.items ≤ vec_capacity homes }
+fn first_of_each<J: Naming>(added: Vec<Receipt<J>>, mut chosen: Vec<Receipt<J>>) -> Vec<Receipt<J>>
     requires chosen { length added.items ≤ vec_capacity chosen }
     requires empty { chosen.items ≡ [] }
     ensures { result.items ≡ firsts added.items }
 {
-    homes.clear();
+    let mut homes = Homes::new();
     for receipt in added {
         let home = receipt.home();
+        // It is a node's, so there are no more homes than places.
+        let _number = home.number();
         if !homes.contains(&home) {
-            homes.push_reserved(home);
+            homes.push(home);
             chosen.push_reserved(receipt);
         }
     }
@@ -87,13 +90,12 @@ impl<J: Naming> Tally<J> {
         ensures value { IfOk result (λ t. t ≡ record { w = w; room = room; added = [] }) }
     {
         let added = Vec::with_capacity(alloc, room)?;
-        let homes = Vec::with_capacity(alloc, room)?;
         let chosen = Vec::with_capacity(alloc, room)?;
         Ok(Tally {
             w,
             room,
             added,
-            homes,
+            homes: Homes::new(),
             chosen,
         })
     }
@@ -126,8 +128,10 @@ impl<J: Naming> Tally<J> {
         ensures agree { DoAgree self.new.added }
     {
         let home = receipt.home();
+        // It is a node's, so there are no more homes than places.
+        let _number = home.number();
         if !self.homes.contains(&home) {
-            self.homes.push_reserved(home);
+            self.homes.push(home);
         }
         self.added.push_reserved(receipt);
     }
@@ -153,10 +157,10 @@ impl<J: Naming> Tally<J> {
             w,
             room: _,
             added,
-            homes,
+            homes: _,
             chosen,
         } = self;
-        let mut first = first_of_each(added, homes, chosen);
+        let mut first = first_of_each(added, chosen);
         first.truncate(w);
         first
     }

@@ -153,7 +153,7 @@ pub fn write_ring<W: Write>(alloc: Global, script: &Script, out: &mut W) -> Resu
 {
     let ring = ring_of(alloc, &script.layout)?;
     write_tokens(ring.tokens(), out)?;
-    write_keys(alloc, &ring, script.keys.as_slice(), out)?;
+    write_keys(&ring, script.keys.as_slice(), out)?;
     Ok(())
 }
 
@@ -171,17 +171,12 @@ fn write_tokens<W: Write>(tokens: &[Token], out: &mut W) -> Result<(), Stopped>
     Ok(())
 }
 
-fn write_keys<W: Write>(
-    alloc: Global,
-    ring: &Ring,
-    keys: &[Key],
-    out: &mut W,
-) -> Result<(), Stopped>
+fn write_keys<W: Write>(ring: &Ring, keys: &[Key], out: &mut W) -> Result<(), Stopped>
     ensures { OnOk result (Appends (W.contents out.old) (W.contents out.new)
         (key_lines ring.now keys.now)) }
 {
     for key in keys {
-        let list = preference(alloc, ring, key, ring.nodes())?;
+        let list = preference(ring, key, ring.nodes());
         let line = KeyLine {
             key,
             position: Ring::position(key),

@@ -31,16 +31,6 @@ pub struct Keyed {
     pub list: Preference,
 }
 
-// The list of the key, of so many homes.
-fn list_of(alloc: Global, ring: &Ring, n: u8, key: &Key) -> Result<Preference, Fault>
-    requires some { 1 ≤ n }
-    requires few { n ≤ ring.now.nodes }
-    ensures nodes { IfOk result (λ list. list.nodes ≡ preference_of ring.now key.now) }
-    ensures homes { IfOk result (λ list. list.n ≡ n) }
-{
-    preference(alloc, ring, key, n)
-}
-
 // The key of these bytes, with its list of so many homes.
 pub fn with_list(alloc: Global, ring: &Ring, n: u8, bytes: &[u8]) -> Result<Keyed, Fault>
     requires some { 1 ≤ n }
@@ -49,6 +39,6 @@ pub fn with_list(alloc: Global, ring: &Ring, n: u8, bytes: &[u8]) -> Result<Keye
     ensures homes { IfOk result (λ k. k.list.n ≡ n) }
 {
     let key = Key::new(alloc, bytes)?;
-    let list = list_of(alloc, ring, n, &key)?;
+    let list = preference(ring, &key, n);
     Ok(Keyed { key, list })
 }

@@ -55,6 +55,10 @@ finish-requires-clause-count g c =
     let ready = rw (c.if-not-is_ready.false, c.gather.ensures.r, r) at c.is_ready.ensures in
     omega arith
 
+-- what was seen is of the key
+pub finish-requires-clause-one_key : goal.finish-requires-clause-one_key
+finish-requires-clause-one_key g c = (c.args.key.now, c.gather.ensures.collects.of_key)
+
 -- too few homes answered
 pub returns-then-not-is_ready-clause-refused : goal.returns-then-not-is_ready-clause-refused
 returns-then-not-is_ready-clause-refused g c =

@@ -20,9 +20,9 @@ returns-clause-nodes c =
     let after : c.split_at.result.1.now ≡ drop i ring.tokens = c.split_at.ensures.back ∙ ap (drop i) c.tokens.ensures.value in
     let before : c.split_at.result.0.now ≡ take i ring.tokens = c.split_at.ensures.front ∙ ap (take i) c.tokens.ensures.value in
     let first : c.meet.new.nodes.items ≡ take n (met [] (drop i ring.tokens)) =
-    c.in_ok-meet.ensures.ok ∙ ap (λ l. take n (met l c.split_at.result.1.now)) c.in_ok-nodes.ensures.items ∙ ap (λ l. take n (met [] l)) after in
+    c.meet.ensures ∙ ap (λ l. take n (met l c.split_at.result.1.now)) c.new-nodes.ensures ∙ ap (λ l. take n (met [] l)) after in
     let walked = walk_is ring p i c.tokens.ensures.valid c.position.ensures.small passed ahead in
-    c.in_ok-meet-2.ensures.ok
+    c.meet-2.ensures
     ∙ ap (λ l. take n (met l c.split_at.result.0.now)) first
     ∙ ap (λ l. take n (met (take n (met [] (drop i ring.tokens))) l)) before
     ∙ met_whole n (drop i ring.tokens) (take i ring.tokens) (ap length walked ∙ length_nodes (node_distance ring p) ring.nodes ∙ sym c.nodes-count.ensures.value)

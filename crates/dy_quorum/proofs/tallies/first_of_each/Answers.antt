@@ -1,6 +1,8 @@
-use Rattle.std.proofs.Common.{sym, ◌∙◌}
+use Rattle.std.proofs.Common.{◌<◌, length, arith, sym, ◌∙◌}
+use Rattle.std.proofs.lemmas.List.Elements.{All-push}
+use Rattle.dy_dots.specs.declared.nodes.TheConstants.{MAX_NODES}
 use Rattle.dy_shares.specs.Shares.{ReceiptParts}
-use Rattle.dy_quorum.proofs.Firsts.{homes_same, homes_more, few_more, taken_more, taken_same}
+use Rattle.dy_quorum.proofs.Firsts.{are_firsts, homes_same, homes_more, few_more, room_for, taken_more, taken_same}
 use Rattle.dy_quorum.proofs.tallies.first_of_each.Goals as goal
 
 pub loop-receipt-preserved-then-not-contains : goal.loop-receipt-preserved-then-not-contains
@@ -8,14 +10,14 @@ loop-receipt-preserved-then-not-contains g c =
     let inv = c.loop-receipt.invariant in
     let xs = c.loop-receipt.yielded in
     let x = c.in-Some.receipt in
-    let tested = rw (c.deref.ensures.value, c.home-home.ensures) at c.contains.ensures.value in
+    let tested = rw (c.deref.ensures.0, c.home-home.ensures) at c.contains.ensures.value in
     let lacks = sym tested ∙ c.if-not-contains.true in
     record {
-      chosen = rw c.push_reserved-then-not-contains.ensures.items (taken_more (λ (r : ReceiptParts). r.home) xs _ x _ inv.homes inv.chosen lacks);
-      homes = rw (c.push_reserved.ensures.items, c.home-home.ensures) (homes_more (λ (r : ReceiptParts). r.home) xs x _ inv.homes lacks);
+      chosen = rw c.push_reserved.ensures.items (taken_more (λ (r : ReceiptParts). r.home) xs _ x _ inv.homes inv.chosen lacks);
+      homes = rw (c.push.ensures.items, c.home-home.ensures) (homes_more (λ (r : ReceiptParts). r.home) xs x _ inv.homes lacks);
       few = few_more (λ (r : ReceiptParts). r.home) xs x inv.few;
-      homes_room = rw c.push_reserved.ensures.capacity inv.homes_room;
-      chosen_room = rw c.push_reserved-then-not-contains.ensures.capacity inv.chosen_room;
+      below = All-push (λ (r : ReceiptParts). r.home < MAX_NODES) xs x inv.below (omega (arith, c.home-home.ensures, c.number-number.ensures.value, c.number-number.ensures.small));
+      chosen_room = rw c.push_reserved.ensures.capacity inv.chosen_room;
     }
 
 pub loop-receipt-preserved : goal.loop-receipt-preserved
@@ -23,12 +25,26 @@ loop-receipt-preserved g c =
     let inv = c.loop-receipt.invariant in
     let xs = c.loop-receipt.yielded in
     let x = c.in-Some.receipt in
-    let tested = rw (c.deref.ensures.value, c.home-home.ensures) at c.contains.ensures.value in
+    let tested = rw (c.deref.ensures.0, c.home-home.ensures) at c.contains.ensures.value in
     let has = sym tested ∙ c.if-not-contains.false in
     record {
       chosen = taken_same (λ (r : ReceiptParts). r.home) xs _ x _ inv.homes inv.chosen has;
       homes = homes_same (λ (r : ReceiptParts). r.home) xs x _ inv.homes has;
       few = few_more (λ (r : ReceiptParts). r.home) xs x inv.few;
-      homes_room = inv.homes_room;
+      below = All-push (λ (r : ReceiptParts). r.home < MAX_NODES) xs x inv.below (omega (arith, c.home-home.ensures, c.number-number.ensures.value, c.number-number.ensures.small));
       chosen_room = inv.chosen_room;
     }
+
+-- a home that is not there yet leaves room for itself
+pub push-requires : goal.push-requires
+push-requires g c =
+    let inv = c.loop-receipt.invariant in
+    let xs = c.loop-receipt.yielded in
+    let x = c.in-Some.receipt in
+    let tested = rw (c.deref.ensures.0, c.home-home.ensures) at c.contains.ensures.value in
+    let node : x.home < MAX_NODES = omega (arith, c.home-home.ensures, c.number-number.ensures.value, c.number-number.ensures.small) in
+    let few : length c.loop-receipt.homes.items < 32 = room_for (λ (r : ReceiptParts). r.home) 32 xs x
+    c.loop-receipt.homes.items inv.homes (are_firsts (λ (r : ReceiptParts). r.home) xs)
+    (All-push (λ (r : ReceiptParts). r.home < MAX_NODES) xs x inv.below node)
+    (sym tested ∙ c.if-not-contains.true) in
+    (omega arith, few)

@@ -9,7 +9,7 @@ pub loop-key-preserved : goal.loop-key-preserved
 loop-key-preserved g c =
     let ring = c.args.ring.now in
     let key = c.key-item.result in
-    let order = c.nodes-in-loop-key.ensures.value ∙ c.in_ok-list.ensures.nodes in
+    let order = c.nodes-in-loop-key.ensures.value ∙ c.preference-list.ensures.nodes in
     let told = key_line-is ring key _ _ c.position.ensures.value order in
     let next = key_lines-next ring c.args.keys.now _ key c.loop-key-test.true c.key-item.is in
     subst (Appends _ _) (sym next)

@@ -37,31 +37,8 @@ returns-then-self-w-clause-ends g c =
     )
 
 -- the list is the key's
-pub returns-in-Ok-clause-ends : goal.returns-in-Ok-clause-ends
-returns-in-Ok-clause-ends g c =
+pub returns-clause-ends : goal.returns-clause-ends
+returns-clause-ends g c =
     subst (λ (list : Preferred). PutEnds list c.args.w c.args.key.now c.args.context.now
     c.args.value c.args.session.now c.put.new.session (g.T.Transport.told c.args.transport.now)
-    (g.T.Transport.told c.put.new.transport) c.put.result) c.in-Ok.ensures.ok c.put.ensures.ends
-
--- there is no memory for it, and nobody was tried or asked
-pub returns-in-Err-clause-ends : goal.returns-in-Err-clause-ends
-returns-in-Err-clause-ends g c =
-    let some : 1 ≤ c.args.w = omega (arith, c.if-w-lt1.false) in
-    let few : c.args.w ≤ g.J.Naming.n =
-    omega (arith, c.args.self.now.n_is, c.if-self-w.false) in
-    inl (
-      some,
-      few,
-      inr (
-        refl,
-        c.requires.fresh_asks,
-        c.requires.fresh_replies,
-        (
-          c.unlisted-in-Err.result,
-          refl,
-          c.unlisted-in-Err.ensures.dot,
-          c.unlisted-in-Err.ensures.answers,
-          inl (c.unlisted-in-Err.ensures.fault, c.requires.fresh_tries),
-        ),
-      ),
-    )
+    (g.T.Transport.told c.put.new.transport) c.put.result) c.list-list.ensures c.put.ensures.ends

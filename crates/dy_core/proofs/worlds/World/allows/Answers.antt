@@ -4,12 +4,12 @@ use Rattle.dy_core.specs.Steps.{IsAllowed}
 use Rattle.dy_core.specs.Logs.{world_after}
 use Rattle.dy_core.proofs.worlds.World.allows.Goals as goal
 
-pub returns-in_ok-yes-in-Hold-clause-sound : goal.returns-in_ok-yes-in-Hold-clause-sound
-returns-in_ok-yes-in-Hold-clause-sound c = λ e.
+pub returns-in-Hold-clause-sound : goal.returns-in-Hold-clause-sound
+returns-in-Hold-clause-sound c = λ e.
     subst (IsAllowed (layout_of c.args.self.now.ring c.args.self.now.n) (world_after c.args.self.now.steps)) (sym c.in-Hold.is)
-    (c.in_ok-yes-in-Hold.ensures.ok.0 e)
+    (c.may_hold.ensures.0 e)
 
-pub returns-in_ok-yes-in-Hold-clause-exact : goal.returns-in_ok-yes-in-Hold-clause-exact
-returns-in_ok-yes-in-Hold-clause-exact c = λ _ allowed.
-    c.in_ok-yes-in-Hold.ensures.ok.1
+pub returns-in-Hold-clause-exact : goal.returns-in-Hold-clause-exact
+returns-in-Hold-clause-exact c = λ _ allowed.
+    c.may_hold.ensures.1
     (subst (IsAllowed (layout_of c.args.self.now.ring c.args.self.now.n) (world_after c.args.self.now.steps)) c.in-Hold.is allowed)

@@ -6,14 +6,14 @@ use Rattle.dy_core.specs.Logs.{world_after}
 use Rattle.dy_core.proofs.Listed.{made_is}
 use Rattle.dy_core.proofs.worlds.World.may_hold.Goals as goal
 
-pub returns-clause-ok : goal.returns-clause-ok
-returns-clause-ok c =
+pub returns : goal.returns
+returns c =
     let w = c.self.inside in
     let key = c.args.row.now.key in
     let vs = c.args.row.now.versions in
     let both = made_is _ _ _ _ _ c.self.invariant.after key vs c.versions.ensures.valid.of_key in
-    let homes : take c.in_ok-list.list.n c.in_ok-list.list.nodes ≡ homes_of c.args.self.now.ring c.args.self.now.n key =
-    (λ i. take (c.in_ok-list.ensures.homes i) (c.in_ok-list.ensures.nodes i))
+    let homes : take c.preference-list.result.n c.preference-list.result.nodes ≡ homes_of c.args.self.now.ring c.args.self.now.n key =
+    (λ i. take (c.preference-list.ensures.homes i) (c.preference-list.ensures.nodes i))
     ∙ ap (λ k. homes_of w.ring w.n k) c.key.ensures
     ∙ ap (λ log. homes_of log.ring log.n key) c.self.view_is in
     let placed : may_hold (homes_of c.args.self.now.ring c.args.self.now.n key) c.args.holder c.args.home ≡ true =

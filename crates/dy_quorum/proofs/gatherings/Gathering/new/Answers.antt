@@ -7,11 +7,10 @@ use Rattle.dy_quorum.proofs.gatherings.Gathering.new.Goals as goal
 pub invariant_of-result : goal.invariant_of-result
 invariant_of-result g c =
     let a = c.in_ok-seens.ensures.capacity in
-    let d = c.in_ok-places.ensures.capacity in
-    rw (c.in_ok-seens.ensures.items, c.in_ok-places.ensures.items) (
+    rw (c.in_ok-seens.ensures.items, c.new.ensures) (
       refl,
       are_none (λ (a : Answer). a.home),
       omega arith,
       omega arith,
-      omega arith,
+      λ k d l. absurd (omega arith),
     )
