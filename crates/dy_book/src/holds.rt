@@ -1,8 +1,6 @@
 // How the book grows by versions and by what is held.
-ghost use Rattle.std.specs.Prelude.{◌≡◌, ◌≢◌, ◌+◌, ◌-◌, ◌≤◌, ◌<◌, ◌↔◌, ◌⊎◌, ◌++◌, ◌∷◌, ℕ, List, []};
-ghost use Rattle.std.specs.Prelude.{Some, map, length, vec_len, vec_capacity, IsTrue, IsSome, IfOk};
-ghost use Rattle.std.specs.Prelude.{IfErr, OnOk, OnErr, IsErrOf, IsOkUnless};
-ghost use Rattle.std.specs.List.{All};
+ghost use Rattle.std.specs.Prelude.{◌≡◌, ◌≢◌, ◌<◌, ◌↔◌, ◌⊎◌, ◌++◌, ◌∷◌, ℕ, [], Some, map};
+ghost use Rattle.std.specs.Prelude.{IsTrue, IsSome, IfOk, IfErr, OnOk, OnErr, IsErrOf, IsOkUnless};
 ghost use Rattle.dy_dots.specs.declared.dots.Dot.{Dot as DotParts};
 ghost use Rattle.dy_dots.specs.declared.dots.TheConstants.{MAX_COUNTER};
 ghost use Rattle.dy_siblings.specs.Siblings.{AreOneByDot, IsSameRow, merge};
@@ -12,7 +10,7 @@ ghost use Rattle.dy_core.specs.Steps.{version_made, place_for};
 ghost use Rattle.dy_core.specs.Logs.{IsLegal, world_after};
 ghost use Rattle.dy_core.specs.inside.Meanings.{row_in};
 ghost use Rattle.dy_core.specs.declared.steps.Step.TheVariants.{Issue, Hold};
-ghost use Rattle.dy_shares.specs.Shares.{BelongsTo, IsReceipt, NodeStays, SessionStays};
+ghost use Rattle.dy_shares.specs.Shares.{BelongsTo, NodeStays, SessionStays};
 ghost use Rattle.dy_shares.specs.Shares.{receipt_parts, steps_of, untold, with_entries, with_steps};
 ghost use Rattle.dy_book.specs.Books.{HasRoom, IsLeastNotIssued, IsNext, LacksRoom, MayIssue};
 ghost use Rattle.dy_book.specs.Books.{issue_steps, receipts_of, row_alone, with_untold, world_of};
@@ -21,6 +19,7 @@ ghost use Rattle.dy_book.specs.inside.Indexes.{IsIndex, IsPart, part_at};
 use crate::books::Book;
 use crate::custodies::{self, Custody};
 use crate::parts::KeyPart;
+use crate::receipts::{give_receipts, more_keys};
 use dy_core::Place;
 use dy_dots::{Dot, Fault, NodeId};
 use dy_shares::{Ledger, Naming, NodeShare, Receipt, StepRef};
@@ -251,13 +250,64 @@ impl<J: Naming> Book<J> {
             NodeStays self.old.log self.new.log node }
         ensures sessions { (session : ℕ) → SessionStays self.old.log self.new.log session }
     {
-        self.ledger.agree(share);
+        self.agree(share);
+        if let Err(fault) = self.check_hold(incoming) {
+            return Err(fault);
+        }
+        match self.hold_checked(share, home, incoming) {
+            Ok(receipts) => Ok(receipts),
+            Err(fault) => Err(fault),
+        }
+    }
+
+    /// Whether each version of the row is issued, and a step is left, so that a hold of it is
+    /// refused for memory alone. Takes no memory.
+    pub fn check_hold(&self, incoming: &Row) -> Result<(), Fault>
+        ensures ok { OnOk result
+            (AreMadeOf (world_of self.now) incoming.now.key incoming.now.versions
+            × HasRoom self.now 1) }
+        ensures not_issued { (d : DotParts) → IsErrOf result (Fault.NotIssued d)
+            ↔ IsLeastNotIssued (world_of self.now).versions incoming.now.versions d }
+        ensures steps_full { IsErrOf result Fault.StepsFull
+            ↔ (AreMadeOf (world_of self.now) incoming.now.key incoming.now.versions
+            × LacksRoom self.now 1) }
+        ensures only { IfErr result (λ fault.
+            ((d : DotParts) × (fault ≡ Fault.NotIssued d)) ⊎ (fault ≡ Fault.StepsFull)) }
+    {
         if let Some(dot) = self.first_not_issued(incoming) {
             return Err(Fault::NotIssued { dot });
         }
         if self.steps_left() < 1 {
             return Err(Fault::StepsFull);
         }
+        Ok(())
+    }
+
+    /// The hold of a row that was checked (`check_hold`), which is refused for memory alone.
+    pub fn hold_checked(
+        &mut self,
+        share: &mut NodeShare<J>,
+        home: NodeId,
+        incoming: &Row,
+    ) -> Result<Vec<Receipt<J>>, Fault>
+        requires may_hold { IsTrue
+            (may_hold (homes_of J.ring J.n incoming.now.key) share.old.node home) }
+        requires made { AreMadeOf (world_of self.old) incoming.now.key incoming.now.versions }
+        requires room { HasRoom self.old 1 }
+        ensures log { OnOk result
+            (self.new ≡ with_untold self.old
+            (Hold (place_for share.old.node home) incoming.now ∷ [])) }
+        ensures share { OnOk result
+            (share.new ≡ with_steps share.old
+            (Hold (place_for share.old.node home) incoming.now ∷ [])) }
+        ensures receipts { IfOk result (λ receipts.
+            receipts.items ≡ receipts_of incoming.now.versions share.old.node home) }
+        ensures memory { IsOkUnless result Fault.OutOfMemory }
+        ensures err { OnErr result ((self.new ≡ self.old) × (share.new ≡ share.old)) }
+        ensures nodes { (node : ℕ) → node ≢ share.old.node →
+            NodeStays self.old.log self.new.log node }
+        ensures sessions { (session : ℕ) → SessionStays self.old.log self.new.log session }
+    {
         let holder = share.node();
         match self.hold_made(share, holder, home, incoming) {
             Ok(receipts) => Ok(receipts),
@@ -265,7 +315,7 @@ impl<J: Naming> Book<J> {
         }
     }
 
-    // The same where each version is issued, and a step is left.
+    // The same by the holder's number.
     fn hold_made(
         &mut self,
         share: &mut NodeShare<J>,
@@ -321,46 +371,5 @@ impl<J: Naming> Book<J> {
             &place,
         );
         Ok(receipts)
-    }
-}
-
-// A copy of the row's key for each of its versions but one. For one version it takes no memory.
-fn more_keys(alloc: Global, row: &Row) -> Result<Vec<Key>, Fault>
-    ensures count { IfOk result (λ keys. length keys.items ≡ length row.now.versions - 1) }
-    ensures same { IfOk result (λ keys. All (λ key. key ≡ row.now.key) keys.items) }
-    ensures memory { IsOkUnless result Fault.OutOfMemory }
-{
-    let count = row.versions().len().max(1) - 1;
-    let mut keys = Vec::with_capacity(alloc, count)?;
-    while keys.len() < count {
-        keys.push(row.key().try_clone(alloc)?)?;
-    }
-    Ok(keys)
-}
-
-// A receipt for each version of the row, which is held in the ledger's world.
-fn give_receipts<J: Naming>(
-    ledger: &Ledger<J>,
-    receipts: &mut Vec<Receipt<J>>,
-    key: Key,
-    keys: &mut Vec<Key>,
-    row: &Row,
-    place: &Place,
-)
-    requires none { receipts.old.items ≡ [] }
-    requires room { length row.now.versions ≤ vec_capacity receipts.old }
-    requires key { key ≡ row.now.key }
-    requires count { length keys.old.items ≡ length row.now.versions - 1 }
-    requires same { All (λ key. key ≡ row.now.key) keys.old.items }
-    requires held { All (λ v. IsReceipt (steps_of ledger.now.log)
-        (receipt_parts row.now.key v.dot place.now.holder place.now.home)) row.now.versions }
-    ensures { receipts.new.items ≡ receipts_of row.now.versions place.now.holder place.now.home }
-{
-    let versions = row.versions();
-    let mut next = Some(key);
-    for version in versions {
-        let Some(key) = next else { unreachable!() };
-        receipts.push_reserved(ledger.receipt(key, version.dot(), *place));
-        next = keys.pop();
     }
 }

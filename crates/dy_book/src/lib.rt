@@ -14,6 +14,7 @@ mod lists;
 mod options;
 mod parts;
 mod plans;
+mod receipts;
 mod releases;
 
 pub use audits::{AckedAt, Audit};

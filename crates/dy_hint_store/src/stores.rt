@@ -1,9 +1,10 @@
-ghost use Rattle.std.specs.Prelude.{◌≡◌, ◌<◌, ◌-◌, ◌^◌, None, Some, length, map, min};
+ghost use Rattle.std.specs.Prelude.{◌≡◌, ◌<◌, ◌-◌, ◌^◌, ◌++◌, None, Some, length, map, min};
 ghost use Rattle.std.specs.Prelude.{IsSome, IfSome, IfOk, OnOk};
 ghost use Rattle.std.specs.Prelude.{OnErr, IsOk, IsOkUnless};
 ghost use Rattle.std.specs.Option.{option_copied};
 ghost use Rattle.std.specs.FinMap as maps;
 ghost use Rattle.std.specs.List.{All};
+ghost use Rattle.dy_siblings.specs.Siblings.{AreOneByDot};
 ghost use Rattle.dy_node_store.specs.Rows.{without_dots, IsRowOf};
 ghost use Rattle.dy_node_store.specs.Absorbing.{IsAbsorbed};
 ghost use Rattle.dy_hint_store.specs.Hints.{versions_for, with_versions_for, home_and_row, shown};
@@ -96,6 +97,7 @@ impl HintStore {
     /// Merges the row into what is kept of its key for the home, in the place of that, and tells
     /// what was there. Takes no memory where the row is kept as it is.
     pub fn absorb(&mut self, home: NodeId, row: &Row) -> Result<Placed, Fault>
+        requires { AreOneByDot (versions_for self.old home row.now.key ++ row.now.versions) }
         ensures ok { IfOk result
             (IsAbsorbed self.old self.new (with_versions_for self.old home row.now.key)
             (maps.get self.old (home, row.now.key)) row.now) }

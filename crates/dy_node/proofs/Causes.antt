@@ -1,6 +1,6 @@
 -- Refusals, and their causes.
 use Rattle.std.proofs.Common.{◌≡◌, ◌↔◌, ◌⊎◌, true, false, true≢false, Option, Some, None}
-use Rattle.std.proofs.Common.{inl, inr, ⊎_elim, refl, sym, ◌∙◌, ap, subst}
+use Rattle.std.proofs.Common.{inl, inr, ⊎_elim, refl, sym, ◌∙◌, ap, subst, arith, ◌+◌, ◌<◌, ◌≤◌, length}
 use Rattle.std.specs.declared.result.Result.{Result}
 use Rattle.std.specs.declared.result.Result.TheVariants.{Ok, Err}
 use Rattle.std.specs.Result.{IsErrOf, result_err}
@@ -11,7 +11,8 @@ use Rattle.dy_dots.specs.declared.faults.Fault.TheVariants.{ContextUnknown, Vers
 use Rattle.dy_dots.specs.declared.faults.Fault.TheVariants.{StepsFull, Down}
 use Rattle.dy_siblings.specs.Siblings.{Siblings}
 use Rattle.dy_core.specs.Worlds.{AreMadeOf}
-use Rattle.dy_book.specs.Books.{BookParts, IsLeastNotIssued, LacksRoom, world_of}
+use Rattle.dy_book.specs.Books.{BookParts, HasRoom, IsLeastNotIssued, LacksRoom, world_of}
+use Rattle.dy_book.proofs.Incoming.{none_least}
 use Rattle.dy_node.specs.Nodes.{NodeState}
 use Rattle.dy_node.specs.Refusals.{FetchRefused, HoldRefused}
 use Rattle.dy_node.specs.Refusals.{StoreRefused}
@@ -137,6 +138,16 @@ pub hold_done : {X : Type 0} (b : BookParts) (row : Siblings) (x : X) →
     HoldRefused b row None
 hold_done b row x not_issued full = hold_told b row (Ok x) not_issued full
     (λ f is. absurd (no_error x f is))
+
+-- what was checked is refused for memory alone
+pub hold_passed : (b : BookParts) (row : Siblings) → AreMadeOf (world_of b) row.key row.versions →
+    HasRoom b 1 → HoldRefused b row None
+hold_passed b row made room = hold_done {X = Unit {0}} b row tt
+    (λ d. (
+      (λ e. absurd (no_error tt (NotIssued d) e)),
+      (λ least. absurd (none_least (world_of b) row.key row.versions d made least)),
+    ))
+    ((λ e. absurd (no_error tt StepsFull e)), (λ lacks. absurd (omega (arith, lacks.1, room))))
 
 -- the row was refused
 pub hold_by : {X : Type 0} (b : BookParts) (row : Siblings) (e : Fault) →

@@ -77,11 +77,8 @@ pub added_matches : (layout : Layout) (w : World) → IsSound layout w →
     t.counters ≡ s.counters → IsAdded s.rooms t.rooms home row placed →
     Matches (after_hold w s.rooms.node home row) t
 added_matches layout w sound s t home row placed is made counters_stay added = by_change
-    (added.changed (one_by_dot w layout sound row.key both of))
+    added.changed
   where
-    both : List Version
-    both = versions_at s.rooms home row.key ++ row.versions
-
     of : AreOf w.versions row.key (versions_at s.rooms home row.key ++ row.versions)
     of = of_both w.versions row.key (versions_at s.rooms home row.key) row.versions
         (made_at w s.rooms.node home row.key (versions_at s.rooms home row.key)
@@ -144,6 +141,20 @@ pub state_holds : (layout : Layout) (b : BookParts) (p : NodePart) (s : Stored) 
 state_holds layout b p s agreed is home key =
     subst (λ n. IsSameRow (versions_at s.rooms home key) (row_at (world_of b) n home key))
     is.node_is ((matches_world (steps_of b.log) p agreed.belongs s is).rows_are home key)
+
+-- what a node keeps agrees with a row of versions that were issued
+pub kept_agrees : (layout : Layout) (b : BookParts) (p : NodePart) (s : Stored) →
+    IsAgreed layout b p → Shows p s → (home : ℕ) (row : Siblings) →
+    AreMadeOf (world_of b) row.key row.versions →
+    AreOneByDot (versions_at s.rooms home row.key ++ row.versions)
+kept_agrees layout b p s agreed is home row made =
+    let kept = versions_at s.rooms home row.key in
+    one_by_dot (world_of b) layout (log_sound layout (steps_of b.log) agreed.legal) row.key
+    (kept ++ row.versions)
+    (of_both (world_of b).versions row.key kept row.versions
+    (made_at (world_of b) p.node home row.key kept
+    (state_holds layout b p s agreed is home row.key))
+    (of_made (world_of b) row.key row.versions made))
 
 -- the book and the share as they are lent on
 pub agreed_on : (layout : Layout) (b c : BookParts) (p q : NodePart) → c ≡ b → q ≡ p →

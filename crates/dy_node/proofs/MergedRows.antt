@@ -37,7 +37,7 @@ pub added_placed : (old new : Rooms) (home : ℕ) (row merged : Siblings) (place
 added_placed old new home row merged Nothing same is p =
     record {
       node_is = ap (λ r. r.node) p.0;
-      changed = λ one. inr (record
+      changed = inr (record
           { stays = p.0; none = λ v h. nowhere merged.versions p.1 v ((is v).1 h) });
       fits = tt;
       back = p.0;
@@ -48,7 +48,7 @@ added_placed old new home row merged Nothing same is p =
 added_placed old new home row merged New same is p =
     record {
       node_is = ap (λ r. r.node) p.0 ∙ with_node old home merged.key merged.versions;
-      changed = λ one. inl (record {
+      changed = inl (record {
         versions = merged.versions;
         merged = is;
         placed = λ o k. subst (λ r. EitherAt home row.key merged.versions o k (versions_at r o k)
@@ -62,7 +62,7 @@ added_placed old new home row merged New same is p =
 added_placed old new home row merged (Over before) same is p =
     record {
       node_is = ap (λ r. r.node) p.0 ∙ with_node old home merged.key merged.versions;
-      changed = λ one. inl (record {
+      changed = inl (record {
         versions = merged.versions;
         merged = is;
         placed = λ o k. subst (λ r. EitherAt home row.key merged.versions o k (versions_at r o k)
@@ -91,12 +91,6 @@ placed_kept old new home row New v inside p =
     ap (λ r. versions_at r home row.key) p.0 ∙ kept_there old home row
 placed_kept old new home row (Over before) v inside p =
     ap (λ r. versions_at r home row.key) p.0 ∙ kept_there old home row
-
--- where it can't be, nothing is changed
-pub added_not : (r : Rooms) (home : ℕ) (row : Siblings) →
-    (AreOneByDot (versions_at r home row.key ++ row.versions) → ⊥) → IsAdded r r home row Nothing
-added_not r home row clash =
-    record { node_is = refl; changed = λ one. absurd (clash one); fits = tt; back = refl }
 
 -- what stays, stays at each place
 pub stays_placed : (r : Rooms) (home : ℕ) (key : List ℕ) (o : ℕ) (k : List ℕ) → EitherAt home key
@@ -127,7 +121,7 @@ pub added_same : (r : Rooms) (home : ℕ) (row : Siblings) → IsSiblingSet row.
 added_same r home row is kept =
     record {
       node_is = refl;
-      changed = λ one. inl (record {
+      changed = inl (record {
         versions = versions_at r home row.key;
         merged = subst (λ vs. IsSameRow vs (merge vs row.versions)) (sym same)
             (λ v. ((own v).1, (own v).0));
@@ -158,12 +152,10 @@ added_absorbed old new home row Nothing valid h =
 
     by_cause : AddsNothing (row_kept old home row.key) row → IsAdded old old home row Nothing
     by_cause (inl kept) = added_same old home row valid kept
-    by_cause (inr (inl clash)) = added_not old home row
-        (subst (λ vs. AreOneByDot (vs ++ row.versions) → ⊥) here clash)
-    by_cause (inr (inr none)) =
+    by_cause (inr none) =
         record {
           node_is = refl;
-          changed = λ one. inr (record {
+          changed = inr (record {
             stays = refl;
             none = subst (λ vs. (v : Version) → Contains (merge vs row.versions) v → ⊥) here none;
           });

@@ -38,11 +38,15 @@ pub(crate) fn hold_row<J: Naming>(
     ensures refused { HoldRefused book.old row.now (result_err result) }
 {
     book.agree(share);
+    match book.check_hold(row) {
+        Ok(()) => {}
+        Err(fault) => return Err(fault),
+    }
     let placed = match stores.add(home, row) {
         Ok(placed) => placed,
         Err(_fault) => return Err(Fault::OutOfMemory),
     };
-    match book.hold(share, home, row) {
+    match book.hold_checked(share, home, row) {
         Ok(receipts) => {
             book.agree(share);
             Ok(receipts)

@@ -195,9 +195,11 @@ impl Stores {
         }
     }
 
-    /// Merges the row into what is kept for the home, and tells how to take it back. Where a dot is
-    /// that of two versions, nothing is changed. Takes no memory where the row is kept as it is.
+    /// Merges the row into what is kept for the home, and tells how to take it back. Takes no
+    /// memory where the row is kept as it is.
     pub(crate) fn add(&mut self, home: NodeId, row: &Row) -> Result<Placed, Fault>
+        requires { AreOneByDot
+            (versions_at self.old.rooms home row.now.key ++ row.now.versions) }
         ensures added { IfOk result (IsAdded self.old.rooms self.new.rooms home row.now) }
         ensures counters { OnOk result (self.new.counters ≡ self.old.counters) }
         ensures err { OnErr result (self.new ≡ self.old) }

@@ -32,7 +32,7 @@ found_row es k key row rows same there = subst (λ j. IsRowOf j row) same
 pub empty_adds : (row : Siblings) (kept : Option Siblings) → kept ≡ None → row.versions ≡ [] →
     AddsNothing kept row
 empty_adds row kept none empty = subst (λ o. AddsNothing o row) (sym none)
-    (inr (inr (λ v h. not_in_nil v (subst (λ vs. Contains (merge [] vs) v) empty h))))
+    (inr (λ v h. not_in_nil v (subst (λ vs. Contains (merge [] vs) v) empty h)))
 
 -- other versions of the row's key, as a row
 abbrev pub row_of : Siblings → List VersionParts → Siblings

@@ -7,18 +7,16 @@ use Rattle.dy_node_store.specs.Rows.{versions_in, IsRowOf}
 use Rattle.dy_node_store.specs.declared.placed.Placed.{Placed}
 use Rattle.dy_node_store.specs.declared.placed.Placed.TheVariants.{Nothing, New, Over}
 
--- why nothing is put: the row is kept as it is, a dot is that of two versions, or no version is
--- left of the merge
+-- why nothing is put: the row is kept as it is, or no version is left of the merge
 abbrev pub AddsNothing : Option Siblings → Siblings → Type 0
 AddsNothing kept row =
-    (kept ≡ Some row) ⊎ ((AreOneByDot (versions_in kept ++ row.versions) → ⊥)
-    ⊎ ((v : VersionParts) → Contains (merge (versions_in kept) row.versions) v → ⊥))
+    (kept ≡ Some row)
+    ⊎ ((v : VersionParts) → Contains (merge (versions_in kept) row.versions) v → ⊥)
 
--- the versions are the merge of two rows of one key, which differ and agree
+-- the versions are the merge of two rows of one key, which differ
 pub record IsMergeOf (kept row : Siblings) (versions : List VersionParts) : Type 0 where
   pub one_key : IsRowOf row.key kept
   pub differ : kept ≢ row
-  pub agree : AreOneByDot (kept.versions ++ row.versions)
   pub merged : IsSameRow versions (merge kept.versions row.versions)
   pub filled : 0 < length versions
 

@@ -1,8 +1,9 @@
-ghost use Rattle.std.specs.Prelude.{◌≡◌, ◌<◌, None, Some, length, map, IsSome, IfSome, IfOk, OnOk};
-ghost use Rattle.std.specs.Prelude.{OnErr, IsOk, IsOkUnless};
+ghost use Rattle.std.specs.Prelude.{◌≡◌, ◌<◌, ◌++◌, None, Some, length, map, IsSome, IfSome};
+ghost use Rattle.std.specs.Prelude.{IfOk, OnOk, OnErr, IsOk, IsOkUnless};
 ghost use Rattle.std.specs.Option.{option_copied};
 ghost use Rattle.std.specs.FinMap as maps;
 ghost use Rattle.std.specs.List.{All};
+ghost use Rattle.dy_siblings.specs.Siblings.{AreOneByDot};
 ghost use Rattle.dy_node_store.specs.Rows.{with_versions, versions_of, without_dots, IsRowOf};
 ghost use Rattle.dy_node_store.specs.Rows.{IsKeptRow};
 ghost use Rattle.dy_node_store.specs.Absorbing.{IsAbsorbed};
@@ -101,6 +102,7 @@ impl RowMap {
     /// Merges the row into what is kept of its key, in the place of that, and tells what was there.
     /// Takes no memory where the row is kept as it is.
     pub fn absorb(&mut self, row: &Row) -> Result<Placed, Fault>
+        requires { AreOneByDot (versions_of self.old row.now.key ++ row.now.versions) }
         ensures ok { IfOk result
             (IsAbsorbed self.old self.new (with_versions self.old row.now.key)
             (maps.get self.old row.now.key) row.now) }
@@ -175,10 +177,11 @@ impl RowMap {
     }
 }
 
-// Puts the merge of both rows in the place of the first, and gives that back, where they differ and
-// agree, and a version is left.
+// Puts the merge of both rows in the place of the first, and gives that back, where they differ,
+// and a version is left.
 fn merge_into(alloc: Global, kept: &mut Row, row: &Row) -> Result<Placed, Fault>
-    requires { IsRowOf row.now.key kept.old }
+    requires of_key { IsRowOf row.now.key kept.old }
+    requires agree { AreOneByDot (kept.old.versions ++ row.now.versions) }
     ensures ok { IfOk result
         (IsAbsorbed kept.old kept.new (λ vs. record { key = row.now.key; versions = vs })
         (Some kept.old) row.now) }
@@ -186,7 +189,7 @@ fn merge_into(alloc: Global, kept: &mut Row, row: &Row) -> Result<Placed, Fault>
     ensures spared { kept.old ≡ row.now → IsOk result }
     ensures memory { IsOkUnless result Fault.OutOfMemory }
 {
-    if kept.is_same(row) || !kept.agrees(row) {
+    if kept.is_same(row) {
         return Ok(Placed::Nothing);
     }
     let merged = kept.merged(alloc, row)?;

@@ -1,10 +1,11 @@
-ghost use Rattle.std.specs.Prelude.{◌≡◌, ◌<◌, ◌≤◌, ◌+◌, ℕ, List, None, Some, length, map, IsSome};
-ghost use Rattle.std.specs.Prelude.{IfSome, IfOk, IfErr, OnOk, OnErr, IsOk, IsOkUnless};
+ghost use Rattle.std.specs.Prelude.{◌≡◌, ◌<◌, ◌≤◌, ◌+◌, ◌++◌, ℕ, List, None, Some, length, map};
+ghost use Rattle.std.specs.Prelude.{IsSome, IfSome, IfOk, IfErr, OnOk, OnErr, IsOk, IsOkUnless};
 ghost use Rattle.std.specs.Option.{option_copied};
 ghost use Rattle.std.specs.Result.{OkIff};
 ghost use Rattle.std.specs.FinMap as maps;
 ghost use Rattle.std.specs.List.{All};
-ghost use Rattle.dy_node_store.specs.Rows.{with_versions, IsKeptRow, IsRowOf};
+ghost use Rattle.dy_siblings.specs.Siblings.{AreOneByDot};
+ghost use Rattle.dy_node_store.specs.Rows.{with_versions, versions_of, IsKeptRow, IsRowOf};
 ghost use Rattle.dy_node_store.specs.Counters.{greatest_used, with_used};
 ghost use Rattle.dy_node_store.specs.Absorbing.{IsAbsorbed};
 
@@ -75,6 +76,7 @@ impl NodeStore {
     /// Merges the row into what is kept of its key, in the place of that, and tells what was there.
     /// Takes no memory where the row is kept as it is.
     pub fn absorb(&mut self, row: &Row) -> Result<Placed, Fault>
+        requires { AreOneByDot (versions_of self.old.rows row.now.key ++ row.now.versions) }
         ensures ok { IfOk result (IsAbsorbed self.old self.new
             (λ vs. record self.old { rows = with_versions self.old.rows row.now.key vs })
             (maps.get self.old.rows row.now.key) row.now) }

@@ -3,7 +3,7 @@ use Rattle.std.specs.Prelude.{◌≡◌, ◌≢◌, ℕ, ◌<◌, ◌⊎◌, ◌
 use Rattle.std.specs.Prelude.{if◌then◌else◌}
 use Rattle.std.specs.List.{Contains}
 use Rattle.std.specs.FinMap as maps
-use Rattle.dy_siblings.specs.Siblings.{Siblings, AreOneByDot, IsSameRow, merge}
+use Rattle.dy_siblings.specs.Siblings.{Siblings, IsSameRow, merge}
 use Rattle.dy_siblings.specs.declared.versions.Version.{Version}
 use Rattle.dy_hint_store.specs.Hints.{IsHint}
 use Rattle.dy_node.specs.Stored.{Rooms, versions_at, with_row}
@@ -58,12 +58,10 @@ pub record IsUnmerged (old new : Rooms) (home : ℕ) (row : Siblings) : Type 0 w
   pub none : (v : Version) →
       Contains (merge (versions_at old home row.key) row.versions) v → ⊥
 
--- the row is merged into what is kept, unless a dot is that of two versions; and it can be taken
--- back
+-- the row is merged into what is kept, and can be taken back
 pub record IsAdded (old new : Rooms) (home : ℕ) (row : Siblings) (placed : Placed) : Type 0 where
   pub node_is : new.node ≡ old.node
-  pub changed : AreOneByDot (versions_at old home row.key ++ row.versions) →
-      IsMerged old new home row ⊎ IsUnmerged old new home row
+  pub changed : IsMerged old new home row ⊎ IsUnmerged old new home row
   pub fits : FitsBack new home row.key placed
   pub back : taken_back new home row.key placed ≡ old
 

@@ -11,20 +11,19 @@ use Rattle.dy_node_store.proofs.row_maps.merge_into.Goals as goal
 pub returns-then-is_empty-clause-ok : goal.returns-then-is_empty-clause-ok
 returns-then-is_empty-clause-ok c = (
   refl,
-  inr (inr (λ v h. not_in_nil v (subst (λ vs. Contains vs v)
-      (c.is_empty.ensures.0 c.if-is_empty.true) ((c.in_ok-merged.ensures.ok v).1 h)))),
+  inr (λ v h. not_in_nil v (subst (λ vs. Contains vs v)
+      (c.is_empty.ensures.0 c.if-is_empty.true) ((c.in_ok-merged.ensures.ok v).1 h))),
 )
 
 -- one is: the merge is kept
 pub returns-clause-ok : goal.returns-clause-ok
 returns-clause-ok c =
     let versions = c.in_ok-merged.merged.versions in
-    let key = c.in_ok-merged.ensures.key ∙ c.requires.0 in
+    let key = c.in_ok-merged.ensures.key ∙ c.requires.of_key.0 in
     let merge_of : IsMergeOf c.args.kept.now c.args.row.now versions = record {
-      one_key = c.requires;
+      one_key = c.requires.of_key;
       differ = λ same. let both : true ≡ false = sym (c.is_same.ensures.1 same)
           ∙ c.if-is_same.false in cc;
-      agree = (c.agrees.ensures.0 c.if-not-agrees.false).1;
       merged = c.in_ok-merged.ensures.ok;
       filled = has_version _ _ c.is_empty.ensures.1 c.if-is_empty.false;
     } in (

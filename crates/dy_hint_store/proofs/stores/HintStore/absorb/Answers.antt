@@ -1,7 +1,9 @@
 -- Room for the home shows the same hints, and then its map took in the row or refused it.
-use Rattle.std.proofs.Common.{◌≡◌, true, false, OnErr, Result, Ok, Err, sym, ap, ◌∙◌, set}
+use Rattle.std.proofs.Common.{◌≡◌, ◌++◌, true, false, OnErr, Result, Ok, Err, sym, ap, ◌∙◌, set, subst}
 use Rattle.std.specs.FinMap as maps
 use Rattle.std.proofs.lemmas.List.{get_or_default, set-get_or}
+use Rattle.dy_siblings.specs.Siblings.{AreOneByDot}
+use Rattle.dy_node_store.specs.Rows.{versions_in}
 use Rattle.dy_node_store.proofs.AbsorbLemmas.{not_none}
 use Rattle.dy_hint_store.specs.inside.Homes.{entries_from}
 use Rattle.dy_hint_store.proofs.HomeLemmas.{absorbed_for, found_hint, no_hint, same_hints}
@@ -22,6 +24,14 @@ returns-in_err-make_room-clause-spared c same =
     absurd (not_none c.args.row.now (sym same
     ∙ no_hint _ _ _ _ c.args.row.now.key c.self.view_is c.number-at.ensures.value
     c.in_err-make_room.ensures.short))
+
+-- what the map keeps of the key is what is kept for the home
+pub absorb-requires : goal.absorb-requires
+absorb-requires c =
+    let view = same_hints _ _ c.make_room.ensures.same ∙ c.self.view_is in
+    let rows_are = c.index_mut.ensures.value ∙ get_or_default _ _ c.index_mut.result.now maps.empty c.in_ok-make_room.ensures.room in
+    let there = found_hint _ _ _ _ c.args.row.now.key _ view c.number-at.ensures.value rows_are in
+    subst (λ o. AreOneByDot (versions_in o ++ c.args.row.now.versions)) there c.requires
 
 -- the map refused the row, and is as it was
 pub returns-in_err-placed-clause-err : goal.returns-in_err-placed-clause-err

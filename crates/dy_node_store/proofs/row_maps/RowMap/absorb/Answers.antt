@@ -1,11 +1,11 @@
 -- By whether the key has a row.
-use Rattle.std.proofs.Common.{◌≡◌, true, false, IsSome, IfSome, OnErr, Result, Ok, Err, None, Some, refl, sym, ap, ◌∙◌, subst}
+use Rattle.std.proofs.Common.{◌≡◌, ◌++◌, true, false, IsSome, IfSome, OnErr, Result, Ok, Err, None, Some, refl, sym, ap, ◌∙◌, subst}
 use Rattle.std.specs.Option.{option_copied_mut}
 use Rattle.std.specs.Ordering.{nat_cmp}
 use Rattle.std.specs.Cmp.Lexicographic.{slice_cmp}
 use Rattle.std.specs.FinMap as maps
-use Rattle.dy_siblings.specs.Siblings.{Siblings}
-use Rattle.dy_node_store.specs.Rows.{with_versions, IsRowOf}
+use Rattle.dy_siblings.specs.Siblings.{Siblings, AreOneByDot}
+use Rattle.dy_node_store.specs.Rows.{with_versions, versions_in, IsRowOf}
 use Rattle.dy_node_store.proofs.AbsorbLemmas.{absorbed_row, absorbed_rows, empty_adds, found_row, not_none}
 use Rattle.dy_node_store.proofs.Maps.{found, inserted, insert_present}
 use Rattle.dy_node_store.proofs.RowLemmas.{AreRows-set_value, has_version}
@@ -17,10 +17,15 @@ refused (Ok x) p = tt
 refused (Err e) p = p
 
 -- it has one
-pub merge_into-requires : goal.merge_into-requires
-merge_into-requires c =
+pub merge_into-requires-clause-of_key : goal.merge_into-requires-clause-of_key
+merge_into-requires-clause-of_key c =
     found_row _ _ _ _ c.self.invariant c.key.ensures
     (sym c.get_mut.ensures.value ∙ ap option_copied_mut c.in-Some.is)
+
+pub merge_into-requires-clause-agree : goal.merge_into-requires-clause-agree
+merge_into-requires-clause-agree c =
+    let there = found _ _ _ _ _ c.self.view_is c.key.ensures c.get_mut.ensures.value ∙ ap option_copied_mut c.in-Some.is in
+    subst (λ o. AreOneByDot (versions_in o ++ c.args.row.now.versions)) there c.requires
 
 pub invariant_of-self : goal.invariant_of-self
 invariant_of-self c =

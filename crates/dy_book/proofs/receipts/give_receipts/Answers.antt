@@ -3,7 +3,7 @@ use Rattle.std.specs.List.{All}
 use Rattle.std.proofs.lemmas.List.Elements.{All-contains}
 use Rattle.dy_siblings.specs.declared.versions.Version.{Version}
 use Rattle.dy_book.proofs.Incoming.{given_more, rest_of, front_of, one_long}
-use Rattle.dy_book.proofs.holds.give_receipts.Goals as goal
+use Rattle.dy_book.proofs.receipts.give_receipts.Goals as goal
 
 -- the key at hand makes the receipt of this turn's version, and one more is taken off
 pub loop-version-preserved : goal.loop-version-preserved

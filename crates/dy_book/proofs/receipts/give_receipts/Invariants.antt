@@ -1,7 +1,7 @@
 use Rattle.std.proofs.Common.{◌≡◌, ◌+◌, ◌<◌, List, ℕ, length, take, vec_capacity, IsSome, Some}
 use Rattle.std.specs.List.{All}
 use Rattle.dy_book.specs.Books.{receipts_of}
-use Rattle.dy_book.proofs.holds.give_receipts.Given as goal
+use Rattle.dy_book.proofs.receipts.give_receipts.Given as goal
 
 abbrev pub invariant-loop-version : goal.invariant-loop-version
 invariant-loop-version g l = record {

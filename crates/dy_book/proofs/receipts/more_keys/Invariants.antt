@@ -1,6 +1,6 @@
 use Rattle.std.proofs.Common.{◌≡◌, ◌≤◌, ◌-◌, length, vec_len}
 use Rattle.std.specs.List.{All}
-use Rattle.dy_book.proofs.holds.more_keys.Given as goal
+use Rattle.dy_book.proofs.receipts.more_keys.Given as goal
 
 abbrev pub invariant-loop-alloc : goal.invariant-loop-alloc
 invariant-loop-alloc l = record {
