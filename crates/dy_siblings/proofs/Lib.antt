@@ -1,4 +1,6 @@
 pub mod Leads
+pub mod Lones
+pub mod Besided
 pub mod Histories
 pub mod Members
 pub mod SameKeys

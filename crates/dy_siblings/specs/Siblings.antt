@@ -1,13 +1,13 @@
 -- Rows: the versions of one key of which none follows another.
-use Rattle.std.specs.Prelude.{◌≡◌, ℕ, ◌++◌, ◌↔◌, not, nat_eq, Bool, true, false, List, [], ◌∷◌}
-use Rattle.std.specs.Prelude.{Contains, refl}
+use Rattle.std.specs.Prelude.{◌≡◌, ℕ, ◌++◌, ◌↔◌, ◌||◌, ◌⊎◌, not, nat_eq, Bool, true, false, List}
+use Rattle.std.specs.Prelude.{[], ◌∷◌, Contains, refl}
 use Rattle.std.specs.Cmp.Lexicographic.{pointwise}
 use Rattle.std.specs.List.{list_any, filter, filter_map, All}
 use Rattle.std.specs.Coded.{Coded, code_by, coded×, coded_ℕ, coded_list}
 use Rattle.std.specs.FinSet as set
 use Rattle.dy_dots.specs.Dots.{DotNumbers, DotSet, same_dot, IsDotBefore}
 use Rattle.dy_siblings.specs.Versions.{VersionParts, IsVersion, history_of, in_history, present}
-use Rattle.dy_siblings.specs.Versions.{version_code}
+use Rattle.dy_siblings.specs.Versions.{precedes, version_code}
 
 -- what a row is seen as: its key, and its versions in the order of their dots
 pub record Siblings : Type 0 where
@@ -44,6 +44,17 @@ newest vs = filter (λ v. not (is_past vs v.dot)) vs
 -- (the `sync` of Preguiça et al., on one key)
 abbrev pub merge : List VersionParts → List VersionParts → List VersionParts
 merge s t = newest (s ++ t)
+
+-- v is a version of b that a lacks, and all others of b have their dots among those of a
+pub record IsLone (a b : List VersionParts) (v : VersionParts) : Type 0 where
+  pub in_b : Contains b v
+  pub not_in_a : has_dot a v.dot ≡ false
+  pub others : (w : VersionParts) → Contains b w → (w ≡ v) ⊎ (has_dot a w.dot ≡ true)
+
+-- b has one version more than a, side by side with all of a: none of them follows it, or is
+-- followed by it
+abbrev pub IsBeside : List VersionParts → List VersionParts → VersionParts → Type 0
+IsBeside a b v = IsLone a b v × (list_any (λ u. precedes u v || precedes v u) a ≡ false)
 
 -- the union of the versions' histories
 abbrev pub context_of : List VersionParts → DotSet

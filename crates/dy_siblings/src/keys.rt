@@ -1,5 +1,6 @@
 ghost use Rattle.std.specs.Prelude.{◌≡◌, ◌<◌, ◌≤◌, ◌==◌, true, false, ◌⊎◌, ◌↔◌, ℕ, List};
-ghost use Rattle.std.specs.Prelude.{length, get_or, IfOk, IfErr, IsErrOf, IsOkUnless};
+ghost use Rattle.std.specs.Prelude.{length, get_or, IfOk, IfErr, IfSome, IsErrOf, IsOkUnless};
+ghost use Rattle.std.specs.Prelude.{IsSome};
 ghost use Rattle.std.specs.Cmp.{partial_order_from_own_ties};
 ghost use Rattle.std.specs.Cmp.Lexicographic.{pointwise, slice_cmp};
 ghost use Rattle.std.specs.Cmp.Rules.{comparing};
@@ -10,7 +11,7 @@ ghost use Rattle.dy_siblings.specs.Sizes.{IsKey};
 ghost use Rattle.std.specs.Option.{option_map};
 ghost use Rattle.dy_siblings.specs.inside.Leads.{AreBytes, IsFronted, bytes_of, front_of};
 ghost use Rattle.dy_siblings.specs.inside.Leads.{number_of};
-ghost use Rattle.dy_siblings.specs.declared.keys.TheConstants.{MAX_KEY_BYTES};
+ghost use Rattle.dy_siblings.specs.declared.keys.TheConstants.{MAX_KEY_BYTES, SHORT_KEY_BYTES};
 
 use dy_dots::Fault;
 use std::alloc::Global;
@@ -21,8 +22,8 @@ use std::sync::ArcSlice;
 /// How many bytes a key has at most.
 pub const MAX_KEY_BYTES: usize = 64;
 
-// How many bytes of a key lie in place.
-const SHORT: usize = 15;
+/// How many bytes of a key lie in place, at most.
+pub const SHORT_KEY_BYTES: usize = 15;
 
 /// A key: 1 to 64 bytes. Up to fifteen lie in the key itself; of a longer one the copies share the
 /// bytes, and its first fifteen tell most keys apart without a look at the others.
@@ -88,7 +89,7 @@ impl Key {
             return Err(Fault::KeySize);
         }
         let front = front_of(bytes);
-        if bytes.len() <= SHORT {
+        if bytes.len() <= SHORT_KEY_BYTES {
             return Ok(Key { front, whole: None });
         }
         let shared = ArcSlice::from_slice(alloc, bytes)?;
@@ -105,8 +106,22 @@ impl Key {
     {
         match &self.whole {
             Some(bytes) => bytes.as_slice(),
-            None => &self.front[..self.front[SHORT] as usize],
+            None => &self.front[..self.front[SHORT_KEY_BYTES] as usize],
         }
+    }
+
+    /// A copy, where the bytes lie in place. Takes no memory.
+    pub fn short(&self) -> Option<Key>
+        ensures value { IfSome result (λ key. key ≡ self.now) }
+        ensures which { IsSome result ↔ (length self.now ≤ SHORT_KEY_BYTES) }
+    {
+        if self.is_long() {
+            return None;
+        }
+        Some(Key {
+            front: self.front,
+            whole: None,
+        })
     }
 
     // The number of its first bytes and its length.
@@ -175,7 +190,7 @@ impl Ord for Key {
     fn cmp(&self, other: &Key) -> Ordering {
         let mine = self.number();
         let theirs = other.number();
-        if mine / 256 == theirs / 256 && self.is_long() && other.is_long() {
+        if self.is_long() && other.is_long() && mine / 256 == theirs / 256 {
             return self.as_bytes().cmp(other.as_bytes());
         }
         mine.cmp(&theirs)

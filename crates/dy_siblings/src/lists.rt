@@ -1,9 +1,11 @@
-ghost use Rattle.std.specs.Prelude.{◌≡◌};
+ghost use Rattle.std.specs.Prelude.{◌≡◌, ◌≤◌, length, insert, option_to_list, IfOk, OnOk, OnErr};
+ghost use Rattle.std.specs.Prelude.{IsOkUnless};
 ghost use Rattle.dy_siblings.specs.Siblings.{without};
 ghost use Rattle.dy_siblings.specs.inside.Lists.{items_of};
 
 use crate::versions::Version;
-use dy_dots::Dot;
+use dy_dots::{Dot, Fault};
+use std::alloc::Global;
 
 // Versions in a list, which takes memory of its own from the second one on.
 #[derive(Debug, Drop)]
@@ -33,6 +35,24 @@ impl Versions {
         Versions::Few(many.pop())
     }
 
+    /// Puts the version at this place among the others.
+    pub(crate) fn insert(&mut self, alloc: Global, at: usize, version: Version) -> Result<(), Fault>
+        requires { at ≤ length (items_of self.old) }
+        ensures ok { OnOk result
+            (items_of self.new ≡ insert (items_of self.old) at version) }
+        ensures err { OnErr result (items_of self.new ≡ items_of self.old) }
+        ensures memory { IsOkUnless result Fault.OutOfMemory }
+    {
+        match self {
+            Versions::Few(one) => {
+                let many = pair(alloc, one, at, version)?;
+                *self = Versions::Many(many);
+            }
+            Versions::Many(many) => many.insert(at, version)?,
+        }
+        Ok(())
+    }
+
     /// Drops the version of the dot, where there is one. Takes no memory.
     pub(crate) fn remove(&mut self, dot: Dot)
         ensures { items_of self.new ≡ without (items_of self.old) dot }
@@ -46,4 +66,31 @@ impl Versions {
             Versions::Many(many) => many.retain(|version| !version.has_dot(dot)),
         }
     }
+}
+
+// A list of both versions, or of the second alone where there is no first, which is taken out.
+fn pair(
+    alloc: Global,
+    one: &mut Option<Version>,
+    at: usize,
+    version: Version,
+) -> Result<Vec<Version>, Fault>
+    requires { at ≤ length (option_to_list one.old) }
+    ensures ok { IfOk result (λ many. many.items ≡ insert (option_to_list one.old) at version) }
+    ensures err { OnErr result (one.new ≡ one.old) }
+    ensures memory { IsOkUnless result Fault.OutOfMemory }
+{
+    let mut many = Vec::with_capacity(alloc, 2)?;
+    match one.take() {
+        Some(first) if at > 0 => {
+            many.push_reserved(first);
+            many.push_reserved(version);
+        }
+        Some(first) => {
+            many.push_reserved(version);
+            many.push_reserved(first);
+        }
+        None => many.push_reserved(version),
+    }
+    Ok(many)
 }

@@ -1,12 +1,12 @@
 ghost use Rattle.std.specs.Prelude.{◌≡◌, ◌++◌, ◌↔◌, map, [], ◌∷◌, IfOk, OnOk, OnErr, IsOkUnless};
-ghost use Rattle.std.specs.Prelude.{IsTrue, IsOk};
+ghost use Rattle.std.specs.Prelude.{IsTrue, IsOk, IfSome, IfNone, insert, length, ◌≤◌};
 ghost use Rattle.std.specs.Slice.Iter.{iter_rest};
 
 use crate::keys::Key;
 use crate::lists::Versions;
-use crate::merging;
 use crate::values::Value;
 use crate::versions::Version;
+use crate::{besides, merging};
 use dy_dots::{Context, Dot, Fault};
 use std::alloc::Global;
 use std::marker::Model;
@@ -36,7 +36,8 @@ impl Model for Row {
 impl Row {
     ghost use Rattle.dy_siblings.specs.Siblings.{AreOneByDot, IsSameRow, IsSiblingSet, covers};
     ghost use Rattle.dy_siblings.specs.Siblings.{merge, context_of, own_dots, without};
-    ghost use Rattle.dy_siblings.specs.Siblings.{present_values};
+    ghost use Rattle.dy_siblings.specs.Siblings.{IsBeside, present_values};
+    ghost use Rattle.dy_siblings.specs.Versions.{VersionParts};
 
     /// The row of the key that has no version. Takes no memory.
     pub fn new(_alloc: Global, key: Key) -> Row
@@ -88,7 +89,10 @@ impl Row {
         ensures { result ≡ covers self.now.versions dot }
     {
         let versions = self.versions();
-        versions.iter().any(|version| version.covers(dot))
+        // Of what was put and not followed yet, the dot is there, and is found by halves.
+        let at = versions.partition_point(|version| version.dot() < dot);
+        versions.get(at).is_some_and(|version| version.covers(dot))
+            || versions.iter().any(|version| version.covers(dot))
     }
 
     /// Whether the rows are of one key, and versions of both with one dot are one version, in one
@@ -144,6 +148,38 @@ impl Row {
         }
         self.versions = merging::merged(alloc, mine, other.versions.as_slice())?;
         Ok(())
+    }
+
+    /// Where the other row has one version more than this one, side by side with all of this one's:
+    /// puts it in, which makes the merge of both, and gives its place and its dot, whose removal
+    /// takes it back.
+    pub fn put_beside(&mut self, alloc: Global, other: &Row) -> Result<Option<(usize, Dot)>, Fault>
+        requires one_key { self.old.key ≡ other.now.key }
+        requires agree { AreOneByDot (self.old.versions ++ other.now.versions) }
+        ensures merge { IfOk result (λ put. IfSome put (λ p.
+            IsSameRow self.new.versions (merge self.old.versions other.now.versions))) }
+        ensures back { IfOk result (λ put. IfSome put (λ p.
+            without self.new.versions p.1 ≡ self.old.versions)) }
+        ensures place { IfOk result (λ put. IfSome put (λ p. (v : VersionParts)
+            × (v.dot ≡ p.1) × (self.new.versions ≡ insert self.old.versions p.0 v))) }
+        ensures bound { IfOk result (λ put. IfSome put (λ p.
+            p.0 ≤ length self.old.versions)) }
+        ensures none { IfOk result (λ put. IfNone put
+            ((v : VersionParts) → IsBeside self.old.versions other.now.versions v → ⊥)) }
+        ensures same { IfOk result (λ put. IfNone put (self.new ≡ self.old)) }
+        ensures key { self.new.key ≡ self.old.key }
+        ensures valid { IsSiblingSet self.new.key self.new.versions }
+        ensures err { OnErr result (self.new ≡ self.old) }
+        ensures memory { IsOkUnless result Fault.OutOfMemory }
+    {
+        match besides::beside(self.versions.as_slice(), other.versions.as_slice()) {
+            Some((at, version)) => {
+                let copy = version.try_clone(alloc)?;
+                self.versions.insert(alloc, at, copy)?;
+                Ok(Some((at, version.dot())))
+            }
+            None => Ok(None),
+        }
     }
 
     /// The union of the versions' histories.

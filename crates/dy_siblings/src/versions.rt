@@ -1,5 +1,5 @@
-ghost use Rattle.std.specs.Prelude.{◌≡◌, ◌⊎◌, ◌↔◌, IsTrue, IfOk, IsOkUnless, option_copied, true};
-ghost use Rattle.std.specs.Prelude.{false};
+ghost use Rattle.std.specs.Prelude.{◌≡◌, ◌⊎◌, ◌↔◌, ◌&&◌, IsTrue, IfOk, IsOkUnless, option_copied};
+ghost use Rattle.std.specs.Prelude.{true, false};
 ghost use Rattle.dy_dots.specs.Dots.{IsDotBefore, same_dot};
 ghost use Rattle.std.specs.FinSet as set;
 
@@ -10,20 +10,21 @@ use std::alloc::Global;
 use std::marker::Model;
 use std::sync::Arc;
 
-// What a version says.
+// What a version says besides its dot.
 #[derive(Debug, Drop)]
 struct Parts {
     key: Key,
-    dot: Dot,
     past: Context,
     value: Option<Value>,
 }
 
 /// One write of a key: the dot that names it, the dots that it causally follows, and what it
 /// stores (Preguiça et al., dotted version vectors, section 4, with an exact set for the vector).
-/// A deletion stores no value, which is told apart from an empty one. Copies share what they say.
+/// A deletion stores no value, which is told apart from an empty one. Copies share what they say,
+/// and each has the dot in itself: most passes over a row ask for nothing else.
 #[derive(Debug, Drop)]
 pub struct Version {
+    dot: Dot,
     parts: Arc<Parts>,
 }
 
@@ -37,14 +38,14 @@ impl Model for Version {
 
     ghost view = { λ v. record {
       key = (arc_value v.parts).key;
-      dot = (arc_value v.parts).dot;
+      dot = v.dot;
       past = (arc_value v.parts).past;
       value = (arc_value v.parts).value;
     } };
 
     ghost invariant = { λ v. IsVersion (record {
       key = (arc_value v.parts).key;
-      dot = (arc_value v.parts).dot;
+      dot = v.dot;
       past = (arc_value v.parts).past;
       value = (arc_value v.parts).value;
     }) };
@@ -67,13 +68,9 @@ impl Version {
             record { key = key; dot = dot; past = past; value = value }) }
         ensures memory { IsOkUnless result Fault.OutOfMemory }
     {
-        let parts = Parts {
-            key,
-            dot,
-            past,
-            value,
-        };
+        let parts = Parts { key, past, value };
         Ok(Version {
+            dot,
             parts: Arc::new(alloc, parts)?,
         })
     }
@@ -91,7 +88,7 @@ impl Version {
         ensures value { result ≡ self.now.dot }
         ensures valid { IsVersion self.now }
     {
-        self.parts.dot
+        self.dot
     }
 
     /// The dots that it causally follows; its own is not among them. Takes no memory.
@@ -113,21 +110,21 @@ impl Version {
     pub fn covers(&self, dot: Dot) -> bool
         ensures { result ≡ in_history self.now dot }
     {
-        self.parts.dot == dot || self.parts.past.contains(dot)
+        self.dot == dot || self.parts.past.contains(dot)
     }
 
     /// Whether the other causally follows this one. Takes no memory.
     pub fn precedes(&self, other: &Version) -> bool
         ensures { result ≡ precedes self.now other.now }
     {
-        other.parts.past.contains(self.parts.dot)
+        other.parts.past.contains(self.dot)
     }
 
     /// Whether neither follows the other, and they are two. Takes no memory.
     pub fn is_concurrent(&self, other: &Version) -> bool
         ensures { result ≡ are_concurrent self.now other.now }
     {
-        !self.covers(other.parts.dot) && !other.covers(self.parts.dot)
+        !self.covers(other.dot) && !other.covers(self.dot)
     }
 
     /// Whether the other is the same in all that it says. Takes no memory.
@@ -141,25 +138,36 @@ impl Version {
     fn says_same(&self, other: &Version) -> bool
         ensures { result ≡ same_version self.now other.now }
     {
-        self.parts.dot == other.parts.dot
+        self.dot == other.dot
             && self.parts.key == other.parts.key
             && self.parts.value == other.parts.value
-            && other.parts.past.includes(&self.parts.past)
-            && self.parts.past.includes(&other.parts.past)
+            && self.has_past_of(other)
+    }
+
+    // Whether the other follows the same dots. Two that follow none are the most.
+    fn has_past_of(&self, other: &Version) -> bool
+        ensures { result ≡ (set.is_subset self.now.past other.now.past
+            && set.is_subset other.now.past self.now.past) }
+    {
+        let (past, others) = (&self.parts.past, &other.parts.past);
+        if past.is_empty() && others.is_empty() {
+            return true;
+        }
+        others.includes(past) && past.includes(others)
     }
 
     // Whether the other has its dot, and is not the same.
     pub(crate) fn conflicts(&self, other: &Version) -> bool
         ensures { result ≡ do_conflict self.now other.now }
     {
-        self.parts.dot == other.parts.dot && !self.says_same(other)
+        self.dot == other.dot && !self.says_same(other)
     }
 
     // Whether this is its dot.
     pub(crate) fn has_dot(&self, dot: Dot) -> bool
         ensures { result ≡ same_dot self.now.dot dot }
     {
-        self.parts.dot == dot
+        self.dot == dot
     }
 
     // Whether its dot comes before that of the other.
@@ -168,7 +176,7 @@ impl Version {
         ensures no { result ≡ false →
             IsDotBefore other.now.dot self.now.dot ⊎ (other.now.dot ≡ self.now.dot) }
     {
-        let (dot, later) = (self.parts.dot, other.parts.dot);
+        let (dot, later) = (self.dot, other.dot);
         dot.node() < later.node() || dot.node() == later.node() && dot.counter() < later.counter()
     }
 
@@ -178,6 +186,7 @@ impl Version {
         ensures memory { IsOkUnless result Fault.OutOfMemory }
     {
         Ok(Version {
+            dot: self.dot,
             parts: self.parts.clone()?,
         })
     }

@@ -1,5 +1,5 @@
 -- How two lists of versions in the order of their dots become one.
-use Rattle.std.specs.Prelude.{◌≡◌, ◌++◌, ◌⊎◌, not, Bool, List, [], ◌∷◌}
+use Rattle.std.specs.Prelude.{◌≡◌, ◌++◌, ◌⊎◌, not, Bool, ℕ, List, [], ◌∷◌, length}
 use Rattle.std.specs.List.{Contains, filter, list_any}
 use Rattle.std.specs.FinSet as set
 use Rattle.dy_dots.specs.Dots.{DotSet, DotNumbers, IsDotBefore}
@@ -52,6 +52,19 @@ do_lists_conflict a b = list_any (λ u. list_any (λ v. do_conflict u v) b) a
 abbrev pub IsFirst : DotNumbers → List VersionParts → Type 0
 IsFirst d [] = Unit {0}
 IsFirst d (v ∷ vs) = IsDotBefore d v.dot
+
+-- the versions before this place come before the dot, and those from it on come after it
+pub record IsPlaceOf (vs : List VersionParts) (d : DotNumbers) (at : ℕ) : Type 0 where
+  pub front : List VersionParts
+  pub back : List VersionParts
+  pub both : vs ≡ front ++ back
+  pub length_is : length front ≡ at
+  pub before : (u : VersionParts) → Contains front u → IsDotBefore u.dot d
+  pub after : IsFirst d back
+
+-- the list rises, and has v besides the versions of the other
+abbrev pub HasMore : List VersionParts → VersionParts → List VersionParts → Type 0
+HasMore vs v more = Rise more × IsSameRow more (v ∷ vs)
 
 -- v is the first of one list, and comes before the other's first
 abbrev pub IsAlone :

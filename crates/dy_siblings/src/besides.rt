@@ -1,0 +1,78 @@
+// The one version that a row has more than another, side by side with all of that.
+ghost use Rattle.std.specs.Prelude.{◌≡◌, ◌||◌, IfSome, IfNone};
+ghost use Rattle.std.specs.List.{list_any};
+ghost use Rattle.dy_siblings.specs.Siblings.{IsBeside, IsLone, Rise};
+ghost use Rattle.dy_siblings.specs.Versions.{VersionParts, precedes};
+ghost use Rattle.dy_siblings.specs.inside.Merging.{IsPlaceOf};
+
+use crate::versions::Version;
+
+/// The one version of the second list whose dot none of the first has, and its place among those
+/// of the first, in one pass over both.
+fn lone<'a>(a: &[Version], b: &'a [Version]) -> Option<(usize, &'a Version)>
+    requires a_rises { Rise a.now }
+    requires b_rises { Rise b.now }
+    ensures some { IfSome result (λ p. IsLone a.now b.now p.1.now) }
+    ensures place { IfSome result (λ p. IsPlaceOf a.now p.1.now.dot p.0) }
+    ensures none { IfNone result ((v : VersionParts) → IsLone a.now b.now v → ⊥) }
+{
+    let mut left = a;
+    let mut right = b;
+    let mut found = None;
+    while let Some((theirs, others)) = right.split_first() {
+        match left.split_first() {
+            Some((mine, rest)) if !theirs.comes_before(mine) => {
+                left = rest;
+                if mine.dot() == theirs.dot() {
+                    right = others;
+                }
+            }
+            _ => {
+                if found.is_some() {
+                    return None;
+                }
+                found = Some((a.len() - left.len(), theirs));
+                right = others;
+            }
+        }
+    }
+    found
+}
+
+// Whether this one follows one of the versions. Most follow none.
+fn follows_one(version: &Version, versions: &[Version]) -> bool
+    ensures { result ≡ list_any (λ u. precedes u version.now) versions.now }
+{
+    !version.past().is_empty() && versions.iter().any(|other| other.precedes(version))
+}
+
+// Whether one of the versions follows this one.
+fn is_followed(version: &Version, versions: &[Version]) -> bool
+    ensures { result ≡ list_any (λ u. precedes version.now u) versions.now }
+{
+    versions.iter().any(|other| version.precedes(other))
+}
+
+// Whether one of the versions follows this one, or is followed by it.
+fn is_related(versions: &[Version], version: &Version) -> bool
+    ensures { result ≡
+        list_any (λ u. precedes u version.now || precedes version.now u) versions.now }
+{
+    follows_one(version, versions) || is_followed(version, versions)
+}
+
+/// The one version that the second list has more, side by side with all of the first, and its
+/// place among those.
+pub(crate) fn beside<'a>(a: &[Version], b: &'a [Version]) -> Option<(usize, &'a Version)>
+    requires a_rises { Rise a.now }
+    requires b_rises { Rise b.now }
+    ensures some { IfSome result (λ p. IsBeside a.now b.now p.1.now) }
+    ensures place { IfSome result (λ p. IsPlaceOf a.now p.1.now.dot p.0) }
+    ensures none { IfNone result ((v : VersionParts) → IsBeside a.now b.now v → ⊥) }
+{
+    let (at, version) = lone(a, b)?;
+    if is_related(a, version) {
+        return None;
+    }
+    Some((at, version))
+}
