@@ -1,15 +1,13 @@
 -- The versions of an incoming row: whether they are issued, and their receipts.
 use Rattle.std.proofs.Common.{◌≡◌, ℕ, zero, suc, ◌+◌, ◌<◌, ◌↔◌, Bool, false, ◌&&◌, IsTrue, List, []}
 use Rattle.std.proofs.Common.{◌∷◌, ◌++◌, Result, Err, length, get_or, take, ◌⊎◌, inl, inr, refl}
-use Rattle.std.proofs.Common.{sym, ap, ◌∙◌, subst, ⊎_elim, arith, Option, None, Some, IsSome}
-use Rattle.std.proofs.Common.{option_to_list}
+use Rattle.std.proofs.Common.{sym, ap, ◌∙◌, subst, ⊎_elim, arith}
 use Rattle.std.specs.List.{All, Contains}
 use Rattle.std.proofs.lemmas.Bool.{true≢false, and_from, cases_lt}
 use Rattle.dy_dots.specs.declared.faults.Fault.{Fault}
 use Rattle.dy_dots.specs.declared.faults.Fault.TheVariants.{OutOfMemory, NotIssued, StepsFull}
 use Rattle.std.proofs.lemmas.List.{take_more}
-use Rattle.std.proofs.lemmas.List.Elements.{All-contains, Contains-append_left}
-use Rattle.std.proofs.lemmas.List.Elements.{Contains-append_right, Contains-append_cases}
+use Rattle.std.proofs.lemmas.List.Elements.{All-contains, Contains-append_cases}
 use Rattle.dy_core.proofs.Keeping.{all_from}
 use Rattle.dy_dots.specs.Dots.{IsDotBefore, same_dot}
 use Rattle.dy_dots.specs.declared.dots.Dot.{Dot}
@@ -94,23 +92,6 @@ given_more vs i v lt is holder home rs r so_far this =
     ∙ (sym (map_last holder home (take i vs) v)
     ∙ ap (λ xs. receipts_of xs holder home)
     (ap (λ x. take i vs ++ x ∷ []) is ∙ sym (take_more vs i v lt)))
-
-pub front_of : {X : Type 0} (P : X → Type 0) (xs ys : List X) → All P (xs ++ ys) → All P xs
-front_of P xs ys all =
-    all_from P xs (λ y inside. All-contains P (xs ++ ys) y all
-    (Contains-append_left xs ys y inside))
-
--- what is taken off the end is one of them
-pub rest_of : {X : Type 0} (P : X → Type 0) (xs : List X) (o : Option X) →
-    All P (xs ++ option_to_list o) → (x : X) → o ≡ Some x → P x
-rest_of {X = X} P xs o all x is =
-    All-contains P (xs ++ x ∷ []) x
-    (subst (λ (p : Option X). All P (xs ++ option_to_list p)) is all)
-    (Contains-append_right xs (x ∷ []) x (in_head x []))
-
-pub one_long : {X : Type 0} (o : Option X) → IsSome o → length (option_to_list o) ≡ 1
-one_long None some = cc
-one_long (Some x) some = refl
 
 -- a version more is issued
 pub issued_more : (P : Version → Type 0) (vs : List Version) (i : ℕ) (u : Version) → i < length vs →

@@ -1,3 +1,4 @@
+pub mod Besides
 pub mod Bookkeeping
 pub mod Dotting
 pub mod Ending

@@ -1,11 +1,15 @@
 // What is held of one key, place by place.
-ghost use Rattle.std.specs.Prelude.{◌≡◌, ◌<◌, ◌++◌, map, [], vec_len, vec_capacity, IfOk, OnOk};
+ghost use Rattle.std.specs.Prelude.{◌≡◌, ◌<◌, ◌++◌, map, length, slice_index_or, true, []};
+ghost use Rattle.std.specs.Prelude.{vec_len, vec_capacity, IfOk, OnOk, OnErr, IfSome, IfNone};
 ghost use Rattle.std.specs.Prelude.{IsOkUnless, MatchOption};
-ghost use Rattle.dy_core.specs.Orders.{holding_cmp, put};
-ghost use Rattle.dy_core.specs.inside.Meanings.{row_in};
 ghost use Rattle.std.specs.List.{list_any};
+ghost use Rattle.std.specs.List.Sorted.{IsStrictlySortedBy};
 ghost use Rattle.dy_siblings.specs.Siblings.{AreOneByDot, IsSameRow, merge};
-ghost use Rattle.dy_book.specs.inside.Lists.{is_hint_here, listed_from, released};
+ghost use Rattle.dy_core.specs.Orders.{holding_cmp, put};
+ghost use Rattle.dy_core.specs.inside.Meanings.{is_at, row_in};
+ghost use Rattle.dy_core.specs.declared.holdings.Holding.{Holding as HoldingParts};
+ghost use Rattle.dy_book.specs.inside.Lists.{is_hint_here, listed_from, released, taken_out_at};
+ghost use Rattle.dy_book.specs.inside.Lists.{IsHeldAt};
 ghost use Rattle.dy_book.specs.Books.{DotsRise};
 
 use crate::dots::Dots;
@@ -55,8 +59,8 @@ impl Placed for Custody {
 }
 
 impl Custody {
-    ghost use Rattle.dy_core.specs.inside.Meanings.{is_at};
-    ghost use Rattle.dy_book.specs.inside.Lists.{is_hint_here};
+    ghost use Rattle.dy_siblings.specs.Siblings.{without};
+    ghost use Rattle.dy_book.specs.inside.Lists.{taken_out};
 
     // The custody of the row at the place.
     pub(crate) fn new(
@@ -107,13 +111,49 @@ impl Custody {
         self.holder != self.home && !self.row.is_empty()
     }
 
+    // Where the row has one version more than what is held, side by side with all of that: holds
+    // that one too, which makes the merge of both, and gives its dot.
+    fn put_beside(&mut self, alloc: Global, row: &Row) -> Result<Option<Dot>, Fault>
+        requires one_key { self.old.row.key ≡ row.now.key }
+        requires agree { AreOneByDot (self.old.row.versions ++ row.now.versions) }
+        ensures holder { self.new.holder ≡ self.old.holder }
+        ensures home { self.new.home ≡ self.old.home }
+        ensures key { self.new.row.key ≡ self.old.row.key }
+        ensures merge { IfOk result (λ put. IfSome put (λ dot.
+            IsSameRow self.new.row.versions (merge self.old.row.versions row.now.versions))) }
+        ensures back { IfOk result (λ put. IfSome put (λ dot.
+            without self.new.row.versions dot ≡ self.old.row.versions)) }
+        ensures same { IfOk result (λ put. IfNone put (self.new ≡ self.old)) }
+        ensures err { OnErr result (self.new ≡ self.old) }
+        ensures memory { IsOkUnless result Fault.OutOfMemory }
+    {
+        match self.row.put_beside(alloc, row)? {
+            Some(put) => {
+                // The row has the version of the dot put.1 at put.0 now, and the dots follow.
+                if let Err(fault) = self.dots.insert(alloc, put.0, put.1) {
+                    self.row.remove(put.1);
+                    return Err(fault);
+                }
+                Ok(Some(put.1))
+            }
+            None => Ok(None),
+        }
+    }
+
+    // The version of the dot is no longer held.
+    fn take_out(&mut self, dot: Dot)
+        ensures { self.new ≡ taken_out dot self.old }
+    {
+        self.row.remove(dot);
+        self.dots.take_out(dot);
+    }
+
     // The dot is no longer held, where it is at the place.
     fn give_up(&mut self, holder: NodeId, home: NodeId, key: &Key, dot: Dot)
         ensures { self.new ≡ released holder home key.now dot self.old }
     {
         if self.is_at(holder, home, key) {
-            self.row.remove(dot);
-            self.dots.take_out(dot);
+            self.take_out(dot);
         }
     }
 }
@@ -149,6 +189,60 @@ pub(crate) fn find<'a>(
         }
     }
     None
+}
+
+// Where in the list the custody at the place is.
+fn index_of(places: &[Custody], holder: NodeId, home: NodeId, key: &Key) -> Option<usize>
+    ensures bound { IfSome result (λ at. at < length places.now) }
+    ensures there { IfSome result (λ at. (c : HoldingParts) →
+        is_at holder home key.now (slice_index_or places.now at c) ≡ true) }
+    ensures row { IfSome result (λ at. (c : HoldingParts) →
+        row_in places.now holder home key.now ≡ (slice_index_or places.now at c).row.versions) }
+{
+    for (at, custody) in places.iter().enumerate() {
+        if custody.is_at(holder, home, key) {
+            return Some(at);
+        }
+    }
+    None
+}
+
+// Where the row has one version more than what is held at the place, side by side with all of
+// that: that one is held too, in the place of what is there. Gives where in the list, and its dot.
+pub(crate) fn put_beside(
+    alloc: Global,
+    places: &mut [Custody],
+    holder: NodeId,
+    home: NodeId,
+    row: &Row,
+) -> Result<Option<(usize, Dot)>, Fault>
+    requires in_order { IsStrictlySortedBy holding_cmp places.old }
+    requires agree { AreOneByDot
+        (row_in places.old holder home row.now.key ++ row.now.versions) }
+    ensures put { IfOk result (λ put. IfSome put (λ p.
+        IsHeldAt places.old holder home row.now places.new)) }
+    ensures back { IfOk result (λ put. IfSome put (λ p.
+        taken_out_at places.new p.0 p.1 ≡ places.old)) }
+    ensures bound { IfOk result (λ put. IfSome put (λ p. p.0 < length places.new)) }
+    ensures same { IfOk result (λ put. IfNone put (places.new ≡ places.old)) }
+    ensures err { OnErr result (places.new ≡ places.old) }
+    ensures memory { IsOkUnless result Fault.OutOfMemory }
+{
+    let Some(at) = index_of(places, holder, home, row.key()) else {
+        return Ok(None);
+    };
+    match places[at].put_beside(alloc, row)? {
+        Some(dot) => Ok(Some((at, dot))),
+        None => Ok(None),
+    }
+}
+
+// The version of the dot is no longer held there in the list. Takes no memory.
+pub(crate) fn take_out_at(places: &mut [Custody], at: usize, dot: Dot)
+    requires { at < length places.old }
+    ensures { places.new ≡ taken_out_at places.old at dot }
+{
+    places[at].take_out(dot);
 }
 
 // A copy of the row at the place.

@@ -1,5 +1,6 @@
 // The dots of a row, to be lent.
-ghost use Rattle.std.specs.Prelude.{◌≡◌, map, not, IfOk, IsOkUnless};
+ghost use Rattle.std.specs.Prelude.{◌≡◌, ◌≤◌, insert, length, map, not, IfOk, OnOk, OnErr};
+ghost use Rattle.std.specs.Prelude.{IsOkUnless};
 ghost use Rattle.std.specs.List.{filter};
 ghost use Rattle.dy_dots.specs.Dots.{same_dot};
 
@@ -57,6 +58,26 @@ impl Dots {
             Some(one) => slice::from_ref(one),
             None => self.more.as_slice(),
         }
+    }
+
+    // Puts the dot at this place among the others.
+    pub(crate) fn insert(&mut self, alloc: Global, at: usize, dot: Dot) -> Result<(), Fault>
+        requires { at ≤ length self.old }
+        ensures ok { OnOk result (self.new ≡ insert self.old at dot) }
+        ensures err { OnErr result (self.new ≡ self.old) }
+        ensures memory { IsOkUnless result Fault.OutOfMemory }
+    {
+        match self.one {
+            Some(one) => {
+                let mut more = Vec::with_capacity(alloc, 2)?;
+                more.push_reserved(one);
+                more.insert(at, dot)?;
+                self.more = more;
+                self.one = None;
+            }
+            None => self.more.insert(at, dot)?,
+        }
+        Ok(())
     }
 
     // Takes the dot out, where it is there.

@@ -1,49 +1,34 @@
-// How the book grows by versions and by what is held.
-ghost use Rattle.std.specs.Prelude.{◌≡◌, ◌≢◌, ◌<◌, ◌↔◌, ◌⊎◌, ◌++◌, ◌∷◌, ℕ, [], Some, map};
+// How the book grows by what is held.
+ghost use Rattle.std.specs.Prelude.{◌≡◌, ◌≢◌, ◌↔◌, ◌⊎◌, ◌++◌, ◌∷◌, ℕ, [], Some, map};
 ghost use Rattle.std.specs.Prelude.{IsTrue, IsSome, IfOk, IfErr, OnOk, OnErr, IsErrOf, IsOkUnless};
+ghost use Rattle.std.specs.List.{All};
+ghost use Rattle.std.specs.List.Sorted.{IsStrictlySortedBy};
 ghost use Rattle.dy_dots.specs.declared.dots.Dot.{Dot as DotParts};
-ghost use Rattle.dy_dots.specs.declared.dots.TheConstants.{MAX_COUNTER};
 ghost use Rattle.dy_siblings.specs.Siblings.{AreOneByDot, IsSameRow, merge};
 ghost use Rattle.dy_preference.specs.Preferences.{homes_of, may_hold};
 ghost use Rattle.dy_core.specs.Worlds.{AreMadeOf, layout_of, World};
-ghost use Rattle.dy_core.specs.Steps.{version_made, place_for};
+ghost use Rattle.dy_core.specs.Steps.{place_for};
 ghost use Rattle.dy_core.specs.Logs.{IsLegal, world_after};
+ghost use Rattle.dy_core.specs.Orders.{holding_cmp};
 ghost use Rattle.dy_core.specs.inside.Meanings.{row_in};
-ghost use Rattle.dy_core.specs.declared.steps.Step.TheVariants.{Issue, Hold};
-ghost use Rattle.dy_shares.specs.Shares.{BelongsTo, NodeStays, SessionStays};
-ghost use Rattle.dy_shares.specs.Shares.{receipt_parts, steps_of, untold, with_entries, with_steps};
-ghost use Rattle.dy_book.specs.Books.{HasRoom, IsLeastNotIssued, IsNext, LacksRoom, MayIssue};
-ghost use Rattle.dy_book.specs.Books.{issue_steps, receipts_of, row_alone, with_untold, world_of};
+ghost use Rattle.dy_core.specs.declared.steps.Step.TheVariants.{Hold};
+ghost use Rattle.dy_shares.specs.Shares.{BelongsTo, MayFollow, NodeStays, SessionStays, node_of};
+ghost use Rattle.dy_shares.specs.Shares.{steps_of, untold, with_entries, with_steps};
+ghost use Rattle.dy_book.specs.Books.{HasRoom, IsLeastNotIssued, LacksRoom, receipts_of};
+ghost use Rattle.dy_book.specs.Books.{with_untold, world_of};
 ghost use Rattle.dy_book.specs.inside.Indexes.{IsIndex, IsPart, part_at};
+ghost use Rattle.dy_book.specs.inside.Lists.{IsHeldAt};
 
 use crate::books::Book;
 use crate::custodies::{self, Custody};
 use crate::parts::KeyPart;
 use crate::receipts::{give_receipts, more_keys};
 use dy_core::Place;
-use dy_dots::{Dot, Fault, NodeId};
+use dy_dots::{Fault, NodeId};
 use dy_shares::{Ledger, Naming, NodeShare, Receipt, StepRef};
-use dy_siblings::{Key, Row, Version};
+use dy_siblings::{Key, Row};
 use std::alloc::Global;
 use std::collections::BTreeMap;
-
-// The issue of the version, which names its whole past, and the hold of it alone, which this row
-// is.
-fn steps_of_issue<'a>(
-    node: NodeId,
-    home: NodeId,
-    version: &'a Version,
-    row: &'a Row,
-) -> [StepRef<'a>; 2]
-    requires { row.now ≡ row_alone version.now }
-    ensures { result ≡ issue_steps node home version.now }
-{
-    let place = Place { holder: node, home };
-    [
-        StepRef::issue(node, version.key(), version.past(), version.value()),
-        StepRef::hold(place, row),
-    ]
-}
 
 // Makes a part for the key, where there is none yet.
 fn make_part(alloc: Global, keys: &mut BTreeMap<Key, KeyPart>, key: &Key) -> Result<(), Fault>
@@ -76,23 +61,64 @@ fn make_part_of(alloc: Global, keys: &mut BTreeMap<Key, KeyPart>, row: &Row) -> 
 // What the holder holds for the home once the row is merged into it.
 fn held_after(
     alloc: Global,
-    part: &KeyPart,
+    places: &[Custody],
     holder: NodeId,
     home: NodeId,
     row: &Row,
 ) -> Result<Custody, Fault>
-    requires { AreOneByDot
-        (row_in part.now.places.items holder home row.now.key ++ row.now.versions) }
+    requires { AreOneByDot (row_in places.now holder home row.now.key ++ row.now.versions) }
     ensures holder { IfOk result (λ c. c.holder ≡ holder) }
     ensures home { IfOk result (λ c. c.home ≡ home) }
     ensures key { IfOk result (λ c. c.row.key ≡ row.now.key) }
     ensures row { IfOk result (λ c. IsSameRow c.row.versions
-        (merge (row_in part.now.places.items holder home row.now.key) row.now.versions)) }
+        (merge (row_in places.now holder home row.now.key) row.now.versions)) }
     ensures memory { IsOkUnless result Fault.OutOfMemory }
 {
-    let merged = custodies::merged_at(alloc, part.places.as_slice(), holder, home, row)?;
+    let merged = custodies::merged_at(alloc, places, holder, home, row)?;
     let custody = Custody::new(alloc, holder, home, merged)?;
     Ok(custody)
+}
+
+// Holds the row at its place, and says these steps to the ledger, or does neither.
+pub(crate) fn hold_at<J: Naming>(
+    alloc: Global,
+    ledger: &mut Ledger<J>,
+    places: &mut Vec<Custody>,
+    share: &mut NodeShare<J>,
+    home: NodeId,
+    row: &Row,
+    steps: &[StepRef<'_>],
+) -> Result<(), Fault>
+    requires in_order { IsStrictlySortedBy holding_cmp places.old.items }
+    requires agree { AreOneByDot
+        (row_in places.old.items share.old.node home row.now.key ++ row.now.versions) }
+    requires own { All (λ s. node_of s ≡ Some share.old.node) steps.now }
+    requires allowed { MayFollow J.ring J.n ledger.old.log steps.now }
+    ensures places { OnOk result
+        (IsHeldAt places.old.items share.old.node home row.now places.new.items) }
+    ensures log { OnOk result (ledger.new ≡ with_entries ledger.old (map untold steps.now)) }
+    ensures share { OnOk result (share.new ≡ with_steps share.old steps.now) }
+    ensures stay { OnErr result (places.new.items ≡ places.old.items) }
+    ensures err { OnErr result ((ledger.new ≡ ledger.old) × (share.new ≡ share.old)) }
+    ensures memory { IsOkUnless result Fault.OutOfMemory }
+    ensures nodes { (node : ℕ) → node ≢ share.old.node →
+        NodeStays ledger.old.log ledger.new.log node }
+    ensures sessions { (session : ℕ) → SessionStays ledger.old.log ledger.new.log session }
+{
+    let holder = share.node();
+    let beside = custodies::put_beside(alloc, places.as_mut_slice(), holder, home, row)?;
+    if let Some((at, dot)) = beside {
+        if let Err(fault) = ledger.node_steps(share, steps) {
+            custodies::take_out_at(places.as_mut_slice(), at, dot);
+            return Err(fault);
+        }
+        return Ok(());
+    }
+    let custody = held_after(alloc, places.as_slice(), holder, home, row)?;
+    places.reserve(1)?;
+    ledger.node_steps(share, steps)?;
+    custodies::put(places, custody);
+    Ok(())
 }
 
 // Holds the row, in the log and in the part of its key, or changes neither.
@@ -121,103 +147,11 @@ fn hold_in<J: Naming>(
         NodeStays ledger.old.log ledger.new.log node }
     ensures sessions { (session : ℕ) → SessionStays ledger.old.log ledger.new.log session }
 {
-    let custody = held_after(alloc, part, share.node(), home, row)?;
-    part.places.reserve(1)?;
-    ledger.node_steps(share, steps)?;
-    custodies::put(&mut part.places, custody);
-    Ok(())
-}
-
-// Adds the version and holds it alone, in the log and in the part of its key, or changes neither.
-fn issue_in<J: Naming>(
-    alloc: Global,
-    ledger: &mut Ledger<J>,
-    part: &mut KeyPart,
-    share: &mut NodeShare<J>,
-    home: NodeId,
-    version: Version,
-    row: &Row,
-    steps: &[StepRef<'_>],
-) -> Result<(), Fault>
-    requires legal { IsLegal (layout_of J.ring J.n) (steps_of ledger.old.log) }
-    requires part { IsPart (world_after (steps_of ledger.old.log)) version.key (Some part.old) }
-    requires may_hold { IsTrue (may_hold (homes_of J.ring J.n version.key) share.old.node home) }
-    requires next { IsNext (world_after (steps_of ledger.old.log)) share.old.node version }
-    requires room { (world_after (steps_of ledger.old.log)).counters share.old.node version.key
-        < MAX_COUNTER }
-    requires row { row.now ≡ row_alone version }
-    requires steps { steps.now ≡ issue_steps share.old.node home version }
-    ensures log { OnOk result (ledger.new ≡ with_entries ledger.old (map untold steps.now)) }
-    ensures share { OnOk result (share.new ≡ with_steps share.old steps.now) }
-    ensures err { OnErr result ((ledger.new ≡ ledger.old) × (share.new ≡ share.old)) }
-    ensures memory { IsOkUnless result Fault.OutOfMemory }
-    ensures part { IsPart (world_after (steps_of ledger.new.log)) version.key (Some part.new) }
-    ensures nodes { (node : ℕ) → node ≢ share.old.node →
-        NodeStays ledger.old.log ledger.new.log node }
-    ensures sessions { (session : ℕ) → SessionStays ledger.old.log ledger.new.log session }
-{
-    let node = share.node();
-    let custody = held_after(alloc, part, node, home, row)?;
-    part.places.reserve(1)?;
-    part.add(alloc, version)?;
-    if let Err(fault) = ledger.node_steps(share, steps) {
-        part.remove_last(node);
-        return Err(fault);
-    }
-    custodies::put(&mut part.places, custody);
+    hold_at(alloc, ledger, &mut part.places, share, home, row, steps)?;
     Ok(())
 }
 
 impl<J: Naming> Book<J> {
-    /// The issue of this version and the hold of it alone, both or neither, and the receipt of it.
-    pub fn issue(
-        &mut self,
-        share: &mut NodeShare<J>,
-        home: NodeId,
-        version: &Version,
-    ) -> Result<Receipt<J>, Fault>
-        requires may { MayIssue self.old share.old.node version.now }
-        requires may_hold { IsTrue
-            (may_hold (homes_of J.ring J.n version.now.key) share.old.node home) }
-        ensures log { OnOk result
-            (self.new ≡ with_untold self.old (issue_steps share.old.node home version.now)) }
-        ensures share { OnOk result
-            (share.new ≡ with_steps share.old (issue_steps share.old.node home version.now)) }
-        ensures issued { OnOk result (version_made (world_of self.old) share.old.node
-            version.now.key version.now.past version.now.value ≡ version.now) }
-        ensures receipt { IfOk result (λ r.
-            r ≡ receipt_parts version.now.key version.now.dot share.old.node home) }
-        ensures err { OnErr result ((self.new ≡ self.old) × (share.new ≡ share.old)) }
-        ensures memory { IsOkUnless result Fault.OutOfMemory }
-        ensures belongs { BelongsTo (steps_of self.old.log) share.old }
-        ensures nodes { (node : ℕ) → node ≢ share.old.node →
-            NodeStays self.old.log self.new.log node }
-        ensures sessions { (session : ℕ) → SessionStays self.old.log self.new.log session }
-    {
-        self.ledger.agree(share);
-        let node = share.node();
-        let key = version.key().try_clone(self.alloc)?;
-        let row = Row::of(self.alloc, version.try_clone(self.alloc)?)?;
-        let copy = version.try_clone(self.alloc)?;
-        let of_part = key.try_clone(self.alloc)?;
-        let steps = steps_of_issue(node, home, version, &row);
-        let entry = self.keys.entry(of_part)?;
-        let part = entry.or_insert(KeyPart::new(self.alloc));
-        issue_in(
-            self.alloc,
-            &mut self.ledger,
-            part,
-            share,
-            home,
-            copy,
-            &row,
-            &steps,
-        )?;
-        self.versions += 1;
-        let place = Place { holder: node, home };
-        Ok(self.ledger.receipt(key, version.dot(), place))
-    }
-
     /// What the node holds for the home becomes its merge with the incoming row; one receipt for
     /// each incoming version, in the order of the dots.
     pub fn hold(

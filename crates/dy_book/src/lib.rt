@@ -10,6 +10,7 @@ mod dots;
 mod fetches;
 mod holds;
 mod incomings;
+mod issues;
 mod lists;
 mod options;
 mod parts;

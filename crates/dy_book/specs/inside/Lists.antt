@@ -1,15 +1,16 @@
 -- The versions of a key, node by node.
 use Rattle.std.specs.Prelude.{◌≡◌, ℕ, ◌+◌, List, [], ◌∷◌, ◌++◌, slice_index_or, if◌then◌else◌, Bool}
-use Rattle.std.specs.Prelude.{◌&&◌, not, eqb, fold, Option, None, Some}
+use Rattle.std.specs.Prelude.{◌&&◌, not, eqb, fold, Option, None, Some, zero, suc}
 use Rattle.std.specs.Coded.{Coded}
 use Rattle.std.specs.List.{Contains}
 use Rattle.std.specs.List.Sorted.{IsStrictlySortedBy}
 use Rattle.std.specs.declared.cmp.Ordering.{Ordering}
 use Rattle.std.specs.declared.cmp.Ordering.TheVariants.{Equal}
 use Rattle.dy_dots.specs.declared.dots.Dot.{Dot}
-use Rattle.dy_siblings.specs.Siblings.{without}
+use Rattle.dy_siblings.specs.Siblings.{Siblings, IsSameRow, merge, without}
 use Rattle.dy_siblings.specs.declared.versions.Version.{Version}
-use Rattle.dy_core.specs.inside.Meanings.{is_at, is_by, is_nothing}
+use Rattle.dy_core.specs.Orders.{holding_cmp, put}
+use Rattle.dy_core.specs.inside.Meanings.{is_at, is_by, is_nothing, row_in}
 use Rattle.dy_core.specs.contracts.holdings.Holding as holding
 use Rattle.dy_core.specs.declared.holdings.Holding.{Holding}
 
@@ -63,6 +64,30 @@ pub record IsInOrder {X : Type 0} (cmp : X → X → Ordering) (items list : Lis
 -- whether there is a version
 abbrev pub has_some : List Version → Bool
 has_some vs = not (is_nothing vs)
+
+-- the holding without the version of the dot
+abbrev pub taken_out : Dot → Holding → Holding
+taken_out d h = record {
+  holder = h.holder;
+  home = h.home;
+  row = record { key = h.row.key; versions = without h.row.versions d };
+}
+
+-- the list with the version of the dot out of the holding there
+abbrev pub taken_out_at : List Holding → ℕ → Dot → List Holding
+taken_out_at [] at d = []
+taken_out_at (h ∷ hs) zero d = taken_out d h ∷ hs
+taken_out_at (h ∷ hs) (suc at) d = h ∷ taken_out_at hs at d
+
+-- the merge with the row is put in its place in the list
+pub record IsHeldAt (hs : List Holding) (holder home : ℕ) (row : Siblings) (new : List Holding)
+    : Type 0 where
+  pub held : Holding
+  pub holder_is : held.holder ≡ holder
+  pub home_is : held.home ≡ home
+  pub key_is : held.row.key ≡ row.key
+  pub merged : IsSameRow held.row.versions (merge (row_in hs holder home row.key) row.versions)
+  pub placed : new ≡ put holding_cmp hs held
 
 -- what is held, without the dot where it is held at the place
 abbrev pub released : ℕ → ℕ → List ℕ → Dot → Holding → Holding

@@ -6,9 +6,6 @@ use Rattle.dy_book.proofs.holds.held_after.Goals as goal
 pub returns-clause-row : goal.returns-clause-row
 returns-clause-row c =
     subst (λ (r : Siblings). IsSameRow r.versions
-    (merge (row_in c.args.part.now.places.items c.args.holder c.args.home c.args.row.now.key)
+    (merge (row_in c.args.places.now c.args.holder c.args.home c.args.row.now.key)
     c.args.row.now.versions))
-    (sym (ap (λ h. h.row) c.in_ok-custody.ensures.ok))
-    (subst (λ hs. IsSameRow c.in_ok-merged.merged.versions
-    (merge (row_in hs c.args.holder c.args.home c.args.row.now.key) c.args.row.now.versions))
-    c.as_slice.ensures.value c.in_ok-merged.ensures.ok)
+    (sym (ap (λ h. h.row) c.in_ok-custody.ensures.ok)) c.in_ok-merged.ensures.ok

@@ -1,5 +1,6 @@
 use Rattle.std.proofs.Common.{◌≡◌, ◌+◌, ◌<◌, List, ℕ, length, take, vec_capacity, IsSome, Some}
 use Rattle.std.specs.List.{All}
+use Rattle.dy_siblings.specs.declared.keys.TheConstants.{SHORT_KEY_BYTES}
 use Rattle.dy_book.specs.Books.{receipts_of}
 use Rattle.dy_book.proofs.receipts.give_receipts.Given as goal
 
@@ -8,7 +9,7 @@ invariant-loop-version g l = record {
   given : l.receipts.items ≡ receipts_of
       (take l.version-index l.versions) l.place.holder l.place.home;
   some : l.version-index < length l.versions → IsSome l.next;
-  left : l.version-index < length l.versions →
+  left : SHORT_KEY_BYTES < length l.row.key → l.version-index < length l.versions →
       length l.keys.items + l.version-index + 1 ≡ length l.versions;
   next : (key : List ℕ) → l.next ≡ Some key → key ≡ l.row.key;
   same : All (λ key. key ≡ l.row.key) l.keys.items;

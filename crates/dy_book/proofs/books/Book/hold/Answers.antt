@@ -3,7 +3,6 @@ use Rattle.std.proofs.Common.{◌≡◌, Err, ap, subst, sym}
 use Rattle.std.specs.Result.{IsErrOf}
 use Rattle.dy_dots.specs.declared.faults.Fault.{Fault}
 use Rattle.dy_dots.specs.declared.faults.Fault.TheVariants.{NotIssued, StepsFull}
-use Rattle.dy_dots.specs.declared.dots.Dot.{Dot}
 use Rattle.dy_core.specs.Worlds.{AreMadeOf}
 use Rattle.dy_book.specs.Books.{BookParts, IsLeastNotIssued, LacksRoom, world_of}
 use Rattle.dy_book.proofs.books.Book.hold.Goals as goal

@@ -1,0 +1,60 @@
+-- One holding of a list in order that is replaced by another at the same place.
+use Rattle.std.proofs.Common.{◌≡◌, ℕ, ◌<◌, List, [], ◌∷◌, length, get_or, set, map, refl, sym, ap}
+use Rattle.std.proofs.Common.{◌∙◌, ◌≤◌, zero, suc, arith, insert}
+use Rattle.std.specs.declared.cmp.Ordering.TheVariants.{Less, Greater}
+use Rattle.std.specs.Ordering.{match_ordering, ordering_reverse}
+use Rattle.std.specs.List.{AllByRecursion}
+use Rattle.std.specs.List.Sorted.{IsStrictlySortedBy}
+use Rattle.dy_dots.specs.declared.dots.Dot.{Dot}
+use Rattle.dy_core.specs.Orders.{holding_cmp, put}
+use Rattle.dy_core.specs.declared.holdings.Holding.{Holding}
+use Rattle.dy_core.proofs.Held.{IsSameSpot, holding_cmp_total, tie_from_spots}
+use Rattle.dy_book.specs.inside.Lists.{taken_out, taken_out_at}
+
+-- what holds of each holding holds of that at an index
+all_at : (P : Holding → Type 0) (hs : List Holding) (at : ℕ) (d : Holding) →
+    AllByRecursion P hs → at < length hs → P (get_or hs at d)
+all_at P [] at d all lt = absurd (omega (arith, lt))
+all_at P (y ∷ ys) zero d all lt = all.0
+all_at P (y ∷ ys) (suc at) d all lt = all_at P ys at d all.1 (omega (arith, lt))
+
+-- putting one at the place of a holding replaces that
+pub put_there : (hs : List Holding) (at : ℕ) (d x : Holding) → IsStrictlySortedBy holding_cmp hs →
+    at < length hs → IsSameSpot x (get_or hs at d) → set hs at x ≡ put holding_cmp hs x
+unfolding IsStrictlySortedBy
+put_there [] at d x sorted lt same = absurd (omega (arith, lt))
+put_there (y ∷ ys) zero d x sorted lt same =
+    sym (ap (λ r. match_ordering r (x ∷ y ∷ ys) (x ∷ ys) (y ∷ put holding_cmp ys x))
+    (tie_from_spots x y same))
+put_there (y ∷ ys) (suc at) d x sorted lt same =
+    let h = get_or ys at d in
+    let below : holding_cmp y h ≡ Less =
+    all_at (λ z. holding_cmp y z ≡ Less) ys at d sorted.0 (omega (arith, lt)) in
+    let above : holding_cmp x y ≡ Greater =
+    holding_cmp_total.congr x h y (tie_from_spots x h same)
+    ∙ (holding_cmp_total.antisymm h y ∙ ap ordering_reverse below) in
+    ap (λ zs. y ∷ zs) (put_there ys at d x sorted.1 (omega (arith, lt)) same)
+    ∙ sym (ap (λ r. match_ordering r (x ∷ y ∷ ys) (x ∷ ys) (y ∷ put holding_cmp ys x)) above)
+
+-- what is taken out of the holding at an index is written there
+pub taken_there : (hs : List Holding) (at : ℕ) (dot : Dot) (d : Holding) → at < length hs →
+    set hs at (taken_out dot (get_or hs at d)) ≡ taken_out_at hs at dot
+taken_there [] at dot d lt = absurd (omega (arith, lt))
+taken_there (y ∷ ys) zero dot d lt = refl
+taken_there (y ∷ ys) (suc at) dot d lt =
+    ap (λ zs. y ∷ zs) (taken_there ys at dot d (omega (arith, lt)))
+
+-- taking out what was put in gives back what was there
+pub taken_again : (hs : List Holding) (at : ℕ) (dot : Dot) (d x : Holding) → at < length hs →
+    taken_out dot x ≡ get_or hs at d → taken_out_at (set hs at x) at dot ≡ hs
+taken_again [] at dot d x lt back = absurd (omega (arith, lt))
+taken_again (y ∷ ys) zero dot d x lt back = ap (λ z. z ∷ ys) back
+taken_again (y ∷ ys) (suc at) dot d x lt back =
+    ap (λ zs. y ∷ zs) (taken_again ys at dot d x (omega (arith, lt)) back)
+
+-- what the items give, where one is inserted
+pub map-insert : {X Y : Type 0} (f : X → Y) (xs : List X) (at : ℕ) (x : X) → at ≤ length xs →
+    map f (insert xs at x) ≡ insert (map f xs) at (f x)
+map-insert f xs zero x le = refl
+map-insert f [] (suc at) x le = absurd (omega (arith, le))
+map-insert f (y ∷ ys) (suc at) x le = ap (λ zs. f y ∷ zs) (map-insert f ys at x (omega (arith, le)))

@@ -1,0 +1,7 @@
+use Rattle.std.proofs.Common.{◌≡◌, drop}
+use Rattle.dy_core.specs.inside.Meanings.{row_in}
+use Rattle.dy_book.proofs.custodies.index_of.Given as goal
+
+abbrev pub invariant-loop-at : goal.invariant-loop-at
+invariant-loop-at l =
+    row_in l.places l.holder l.home l.key ≡ row_in (drop l.at l.places) l.holder l.home l.key

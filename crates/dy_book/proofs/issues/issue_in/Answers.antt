@@ -1,0 +1,80 @@
+-- The part is as before where the hold was refused, since the version is taken out again; else it
+-- has the version with its maker's others, and at its place.
+use Rattle.std.proofs.Common.{◌++◌, List, map, sym, ap, ◌∙◌, subst, Some}
+use Rattle.dy_siblings.specs.Siblings.{Siblings, AreOneByDot}
+use Rattle.dy_core.specs.Worlds.{layout_of}
+use Rattle.dy_core.specs.inside.Meanings.{row_in}
+use Rattle.dy_core.specs.Logs.{world_after}
+use Rattle.dy_core.specs.declared.holdings.Holding.{Holding}
+use Rattle.dy_core.specs.declared.steps.Step.{Step}
+use Rattle.dy_shares.specs.Shares.{Account, steps_of, untold, MayFollow}
+use Rattle.dy_book.specs.declared.parts.KeyPart.{KeyPart}
+use Rattle.dy_book.specs.Books.{row_alone}
+use Rattle.dy_book.specs.inside.Indexes.{IsPart}
+use Rattle.dy_book.specs.inside.Lists.{IsHeldAt}
+use Rattle.dy_book.proofs.Holding.{issue_allowed, issue_agrees, issue_part, part_renamed}
+use Rattle.dy_book.proofs.Holding.{removed_again}
+use Rattle.dy_book.proofs.issues.issue_in.Goals as goal
+
+pub hold_at-requires-clause-agree : goal.hold_at-requires-clause-agree
+hold_at-requires-clause-agree g c =
+    let layout = layout_of g.J.Naming.ring g.J.Naming.n in
+    let node = c.args.share.now.node in
+    subst (λ (hs : List Holding). AreOneByDot
+    (row_in hs node c.args.home c.args.row.now.key ++ c.args.row.now.versions))
+    (sym (ap (λ v. v.items) c.in_ok-add.ensures.places))
+    (subst (λ (r : Siblings). AreOneByDot
+    (row_in c.args.part.now.places.items node c.args.home r.key ++ r.versions))
+    (sym c.requires.row)
+    (issue_agrees layout c.args.ledger.now.log c.requires.legal node c.args.home
+    c.args.version c.requires.next c.requires.room c.requires.may_hold c.args.part.now
+    c.requires.part))
+
+pub hold_at-requires-clause-allowed : goal.hold_at-requires-clause-allowed
+hold_at-requires-clause-allowed g c =
+    subst (MayFollow g.J.Naming.ring g.J.Naming.n c.args.ledger.now.log) (sym c.requires.steps)
+    (issue_allowed (layout_of g.J.Naming.ring g.J.Naming.n) c.args.ledger.now.log c.requires.legal
+    c.args.share.now.node c.args.home c.args.version c.requires.next c.requires.room
+    c.requires.may_hold)
+
+pub returns-in_err-add-clause-part : goal.returns-in_err-add-clause-part
+returns-in_err-add-clause-part g c =
+    part_renamed (world_after (steps_of c.args.ledger.now.log)) c.args.version.key c.args.part.now
+    c.add.new.self c.in_err-add.ensures.err (ap (λ v. v.items) c.in_err-add.ensures.places)
+    c.requires.part
+
+pub returns-in-Err-clause-part : goal.returns-in-Err-clause-part
+returns-in-Err-clause-part g c =
+    let node_is = ap (λ v. v.dot.node) c.requires.next.is_made ∙ sym c.node-node.ensures.value in
+    subst (λ (a : Account). IsPart (world_after (steps_of a.log)) c.args.version.key
+    (Some c.remove_last.new.self)) (sym c.in-Err.ensures.err.0)
+    (part_renamed (world_after (steps_of c.args.ledger.now.log)) c.args.version.key c.args.part.now
+    c.remove_last.new.self
+    (removed_again c.args.part.now.made.items c.add.new.self.made.items
+    c.remove_last.new.self.made.items c.args.version c.node-node.result node_is
+    c.in_ok-add.ensures.own c.in_ok-add.ensures.others c.remove_last.ensures.own
+    c.remove_last.ensures.others)
+    (ap (λ v. v.items) c.remove_last.ensures.places
+    ∙ (c.in-Err.ensures.stay ∙ ap (λ v. v.items) c.in_ok-add.ensures.places)) c.requires.part)
+
+pub returns-clause-part : goal.returns-clause-part
+returns-clause-part g c =
+    let layout = layout_of g.J.Naming.ring g.J.Naming.n in
+    let log = c.args.ledger.now.log in
+    let node = c.args.share.now.node in
+    let v = c.args.version in
+    let placed = c.hold_at.new.places.items in
+    let new : KeyPart = record { made = c.add.new.self.made; places = c.hold_at.new.places } in
+    let is : IsHeldAt c.args.part.now.places.items node c.args.home (row_alone v) placed =
+    subst (λ (hs : List Holding). IsHeldAt hs node c.args.home (row_alone v) placed)
+    (ap (λ v. v.items) c.in_ok-add.ensures.places)
+    (subst (λ r. IsHeldAt c.add.new.self.places.items node c.args.home r placed) c.requires.row
+    c.in_default.ensures.places) in
+    subst (λ (a : Account). IsPart (world_after (steps_of a.log)) v.key (Some new))
+    (sym c.in_default.ensures.log)
+    (subst (λ (ss : List Step). IsPart (world_after (steps_of (log ++ map untold ss))) v.key
+    (Some new)) (sym c.requires.steps)
+    (issue_part layout log c.requires.legal node c.args.home v c.requires.next
+    c.requires.room c.requires.may_hold c.args.part.now new c.requires.part
+    c.in_ok-add.ensures.own c.in_ok-add.ensures.others
+    is.held is.holder_is is.home_is is.key_is is.merged is.placed))
