@@ -16,7 +16,7 @@ use Rattle.dy_siblings.specs.Versions.{VersionParts}
 use Rattle.dy_node_store.specs.Rows.{Rows, with_versions}
 use Rattle.dy_node_store.specs.Absorbing.{AddsNothing, IsAbsorbed}
 use Rattle.dy_node_store.specs.declared.placed.Placed.{Placed}
-use Rattle.dy_node_store.specs.declared.placed.Placed.TheVariants.{Nothing, New, Over}
+use Rattle.dy_node_store.specs.declared.placed.Placed.TheVariants.{Nothing, New, Over, Beside}
 use Rattle.dy_hint_store.specs.Hints.{Hints, home_then_key, with_versions_for}
 use Rattle.dy_hint_store.specs.inside.Homes.{rows_for, entries_for, entries_from, HaveSameRows}
 
@@ -192,6 +192,17 @@ absorbed_for homes hints at home rows new row (Over before) view same inside is 
     hints_with homes hints at home row.key h.1.0 new view same inside
         (h.1.1 ∙ ap (λ m. with_versions m row.key h.1.0) is),
     h.1.2,
+  ),
+)
+absorbed_for homes hints at home rows new row (Beside dot) view same inside is h = (
+  h.0,
+  found_hint homes hints at home row.key rows view same is ∙ h.1,
+  (
+    h.2.0,
+    hints_with homes hints at home row.key h.2.0 new view same inside
+        (h.2.1 ∙ ap (λ m. with_versions m row.key h.2.0) is),
+    h.2.2,
+    h.2.3,
   ),
 )
 

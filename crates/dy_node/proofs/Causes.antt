@@ -1,6 +1,6 @@
 -- Refusals, and their causes.
 use Rattle.std.proofs.Common.{◌≡◌, ◌↔◌, ◌⊎◌, true, false, true≢false, Option, Some, None}
-use Rattle.std.proofs.Common.{inl, inr, ⊎_elim, refl, sym, ◌∙◌, ap, subst, arith, ◌+◌, ◌<◌, ◌≤◌, length}
+use Rattle.std.proofs.Common.{inl, inr, ⊎_elim, refl, sym, ◌∙◌, ap, subst, arith}
 use Rattle.std.specs.declared.result.Result.{Result}
 use Rattle.std.specs.declared.result.Result.TheVariants.{Ok, Err}
 use Rattle.std.specs.Result.{IsErrOf, result_err}

@@ -1,23 +1,23 @@
 -- What is kept once a row was merged into what was there.
 use Rattle.std.specs.List.{Contains}
-use Rattle.std.proofs.Common.{[], ◌≡◌, ℕ, suc, ◌+◌, ◌==◌, ◌<◌, Bool, true, false, List, ◌∷◌}
+use Rattle.std.proofs.Common.{⊎_elim, [], ◌≡◌, ℕ, suc, ◌+◌, ◌==◌, ◌<◌, Bool, true, false, List, ◌∷◌}
 use Rattle.std.proofs.Common.{length, ◌++◌, Option, None, Some, IsSome, cond, inl, inr}
 use Rattle.std.proofs.Common.{refl, sym, ap, ◌∙◌, subst, arith}
 use Rattle.std.specs.FinMap as maps
 use Rattle.std.proofs.lemmas.Bool.{eqb-true}
-use Rattle.dy_siblings.specs.Siblings.{Siblings, AreOneByDot, IsSiblingSet, IsSameRow}
+use Rattle.dy_siblings.specs.Siblings.{Siblings, IsSiblingSet, IsSameRow}
 use Rattle.dy_siblings.specs.Siblings.{merge, same_key}
 use Rattle.dy_siblings.proofs.SameKeys.{same_key_is, same_key_self}
 use Rattle.dy_siblings.proofs.Members.{not_in_nil}
 use Rattle.dy_siblings.specs.declared.versions.Version.{Version}
 use Rattle.dy_siblings.proofs.Merges.{idempotent}
-use Rattle.dy_node_store.specs.Rows.{versions_in, with_versions}
+use Rattle.dy_node_store.specs.Rows.{versions_in, with_versions, without_dots}
 use Rattle.dy_node_store.specs.Absorbing.{AddsNothing, IsAbsorbed}
 use Rattle.dy_hint_store.specs.Hints.{Hints, with_versions_for}
 use Rattle.dy_hint_store.proofs.HomeLemmas.{row_with}
-use Rattle.dy_node.specs.inside.Placing.{EitherAt, IsAdded, IsPlaced, row_kept}
+use Rattle.dy_node.specs.inside.Placing.{EitherAt, IsAdded, IsMerged, IsUnmerged, row_kept}
 use Rattle.dy_node_store.specs.declared.placed.Placed.{Placed}
-use Rattle.dy_node_store.specs.declared.placed.Placed.TheVariants.{Nothing, New, Over}
+use Rattle.dy_node_store.specs.declared.placed.Placed.TheVariants.{Nothing, New, Over, Beside}
 use Rattle.dy_node.specs.Stored.{Rooms, hints_below, listed, versions_at, with_row}
 use Rattle.dy_node.proofs.RoomLemmas.{apart_from, kept_after, kept_there, versions_kept, with_node}
 use Rattle.dy_node.proofs.RoomLemmas.{found_none, found_versions, merge_nothing, own_hints_stay}
@@ -30,7 +30,21 @@ is_some : (o : Option Siblings) (key : List ℕ) (vs : List Version) → o ≡ r
 is_some o key [] is some = absurd (omega (arith, some))
 is_some o key (v ∷ vs) is some = subst IsSome (sym is) refl
 
-pub added_placed : (old new : Rooms) (home : ℕ) (row merged : Siblings) (placed : Placed) →
+-- a row that is put in its place, and what was there comes back where it is taken out again; a row
+-- with no version is not put
+abbrev IsPlaced : Rooms → Rooms → ℕ → Siblings → Placed → Type 0
+IsPlaced old new home row Nothing = (new ≡ old) × (row.versions ≡ [])
+IsPlaced old new home row New =
+    (new ≡ with_row old home row.key row.versions) × (with_row new home row.key [] ≡ old)
+IsPlaced old new home row (Over before) =
+    (new ≡ with_row old home row.key row.versions)
+    × (with_row new home row.key before.versions ≡ old)
+    × (before.key ≡ row.key) × (0 < length before.versions) × (0 < length row.versions)
+IsPlaced old new home row (Beside dot) =
+    (new ≡ with_row old home row.key row.versions)
+    × (with_row new home row.key (without_dots row.versions (dot ∷ [])) ≡ old)
+
+added_placed : (old new : Rooms) (home : ℕ) (row merged : Siblings) (placed : Placed) →
     merged.key ≡ row.key →
     IsSameRow merged.versions (merge (versions_at old home row.key) row.versions) →
     IsPlaced old new home merged placed → IsAdded old new home row placed
@@ -80,17 +94,28 @@ added_placed old new home row merged (Over before) same is p =
       );
       back = ap (λ j. with_row new home j before.versions) (sym same) ∙ p.1;
     }
+added_placed old new home row merged (Beside dot) same is p =
+    record {
+      node_is = ap (λ r. r.node) p.0 ∙ with_node old home merged.key merged.versions;
+      changed = inl (record {
+        versions = merged.versions;
+        merged = is;
+        placed = λ o k. subst (λ r. EitherAt home row.key merged.versions o k (versions_at r o k)
+            (versions_at old o k))
+            (ap (λ j. with_row old home j merged.versions) (sym same) ∙ sym p.0)
+            (with_place old home row.key merged.versions o k);
+      });
+      fits = tt;
+      back = (λ i. with_row new home (back_key i) (without_dots (there i) (dot ∷ []))) ∙ p.1;
+    }
+  where
+    back_key : row.key ≡ merged.key
+    back_key = sym same
 
--- a row that was put, and has a version, is what is kept at its place
-pub placed_kept : (old new : Rooms) (home : ℕ) (row : Siblings) (placed : Placed) (v : Version) →
-    Contains row.versions v → IsPlaced old new home row placed →
-    versions_at new home row.key ≡ row.versions
-placed_kept old new home row Nothing v inside p =
-    absurd (not_in_nil v (subst (λ vs. Contains vs v) p.1 inside))
-placed_kept old new home row New v inside p =
-    ap (λ r. versions_at r home row.key) p.0 ∙ kept_there old home row
-placed_kept old new home row (Over before) v inside p =
-    ap (λ r. versions_at r home row.key) p.0 ∙ kept_there old home row
+    there : versions_at new home row.key ≡ merged.versions
+    there =
+        ap (versions_at new home) (sym same) ∙ ap (λ r. versions_at r home merged.key) p.0
+        ∙ kept_there old home merged
 
 -- what stays, stays at each place
 pub stays_placed : (r : Rooms) (home : ℕ) (key : List ℕ) (o : ℕ) (k : List ℕ) → EitherAt home key
@@ -184,6 +209,36 @@ added_absorbed old new home row (Over before) valid h =
       m.one_key.1,
       m.filled,
     )
+added_absorbed old new home row (Beside dot) valid h =
+    let before = h.0 in
+    let vs = h.2.0 in
+    let m = h.2.2 in
+    added_placed old new home row (record { key = row.key; versions = vs }) (Beside dot) refl
+    (subst (λ us. IsSameRow vs (merge us row.versions))
+    (found_versions old home row.key row.key before (sym h.1) refl) m.merged) (
+      h.2.1,
+      (λ i. with_row (h.2.1 i) home row.key (h.2.3 i))
+          ∙ put_back old home row.key vs before.versions
+          (row_with-row row.key before m.one_key.0 m.one_key.1 ∙ sym h.1),
+    )
+
+-- what is kept is the merge, where a version is left of it
+pub added_versions : (old new : Rooms) (home : ℕ) (row : Siblings) (placed : Placed) →
+    IsAdded old new home row placed → (v : Version) →
+    Contains (merge (versions_at old home row.key) row.versions) v →
+    IsSameRow (versions_at new home row.key) (merge (versions_at old home row.key) row.versions)
+added_versions old new home row placed added v left = ⊎_elim merged unmerged added.changed
+  where
+    all : List Version
+    all = merge (versions_at old home row.key) row.versions
+
+    merged : IsMerged old new home row → IsSameRow (versions_at new home row.key) all
+    merged m =
+        ⊎_elim (λ here. subst (λ vs. IsSameRow vs all) (sym here.2) m.merged)
+        (λ other. absurd (other.0 refl refl)) (m.placed home row.key)
+
+    unmerged : IsUnmerged old new home row → IsSameRow (versions_at new home row.key) all
+    unmerged u = absurd (u.none v left)
 
 -- the node's own store
 pub own_absorbed : (r new : Rooms) (home : ℕ) (row : Siblings) (placed : Placed) →
@@ -222,6 +277,9 @@ own_hints_absent hints new node home kept row New apart h k none =
 own_hints_absent hints new node home kept row (Over before) apart h k none =
     ap (λ m. maps.get m (node, k)) h.1.1
     ∙ own_hints_stay hints node home row.key h.1.0 apart k none
+own_hints_absent hints new node home kept row (Beside dot) apart h k none =
+    ap (λ m. maps.get m (node, k)) h.2.1
+    ∙ own_hints_stay hints node home row.key h.2.0 apart k none
 
 -- the hints for one home more
 pub hints_next : (hints : Hints) (key : List ℕ) (n : ℕ) → hints_below hints key

@@ -57,74 +57,81 @@ fn plan_next<J: Naming>(
     Ok((version, counter))
 }
 
-// The row that is kept once the version is held for the home, twice.
-fn whole_row<J: Naming>(
+// A copy of what is kept for the home, and then the issue of the version in the book.
+fn copy_and_issue<J: Naming>(
     alloc: Global,
     stores: &Stores,
-    share: &NodeShare<J>,
-    book: &Book<J>,
+    share: &mut NodeShare<J>,
+    book: &mut Book<J>,
     home: NodeId,
     version: &Version,
-) -> Result<(Row, Row), Fault>
-    requires agreed { IsAgreed (layout_of J.ring J.n) book.now share.now }
-    requires shown { Shows share.now stores.now }
-    requires may { MayIssue book.now share.now.node version.now }
-    requires few { book.now.options.counter_limit ≤ MAX_COUNTER }
-    ensures key { IfOk result (λ p. p.0.key ≡ version.now.key) }
-    ensures whole { IfOk result (λ p. IsSameRow p.0.versions
-        (merge (versions_at stores.now.rooms home version.now.key) (version.now ∷ []))) }
-    ensures in_row { IfOk result (λ p. Contains p.0.versions version.now) }
-    ensures copy { IfOk result (λ p. p.1 ≡ p.0) }
+) -> Result<(Row, Receipt<J>), Fault>
+    requires may_hold { IsTrue
+        (may_hold (homes_of J.ring J.n version.now.key) share.old.node home) }
+    requires may { MayIssue book.old share.old.node version.now }
+    ensures log { OnOk result
+        (book.new ≡ with_untold book.old (issue_steps share.old.node home version.now)) }
+    ensures share { OnOk result
+        (share.new ≡ with_steps share.old (issue_steps share.old.node home version.now)) }
+    ensures issued { OnOk result (version_made (world_of book.old) share.old.node
+        version.now.key version.now.past version.now.value ≡ version.now) }
+    ensures row { IfOk result (λ p. p.0 ≡ record {
+      key = version.now.key;
+      versions = versions_at stores.now.rooms home version.now.key;
+    }) }
+    ensures receipt { IfOk result (λ p. p.1 ≡
+        receipt_parts version.now.key version.now.dot share.old.node home) }
+    ensures err { OnErr result ((share.new ≡ share.old) × (book.new ≡ book.old)) }
     ensures memory { IsOkUnless result Fault.OutOfMemory }
 {
-    let row = Row::of(alloc, version.try_clone(alloc)?)?;
-    let Some(whole) = stores.joined_with(alloc, home, row)? else {
-        unreachable!();
-    };
-    let copy = whole.try_clone(alloc)?;
-    Ok((whole, copy))
+    let whole = stores.copied(alloc, home, version.key())?;
+    let receipt = book.issue(share, home, version)?;
+    Ok((whole, receipt))
 }
 
 // Makes the version that was planned and holds it for the home; what is refused changes nothing.
+// Gives a copy of what is kept there then.
 fn issue_row<J: Naming>(
+    alloc: Global,
     stores: &mut Stores,
     share: &mut NodeShare<J>,
     book: &mut Book<J>,
     home: NodeId,
     version: &Version,
     counter: u32,
-    whole: Row,
-) -> Result<Receipt<J>, Fault>
+) -> Result<(Row, Receipt<J>), Fault>
     requires may_hold { IsTrue
         (may_hold (homes_of J.ring J.n version.now.key) share.old.node home) }
     requires shown { Shows share.old stores.old }
     requires may { MayIssue book.old share.old.node version.now }
+    requires few { book.old.options.counter_limit ≤ MAX_COUNTER }
     requires counter { counter ≡ greatest_used stores.old.counters version.now.key + 1 }
-    requires key { whole.key ≡ version.now.key }
-    requires whole { IsSameRow whole.versions
-        (merge (versions_at stores.old.rooms home version.now.key) (version.now ∷ [])) }
-    requires in_row { Contains whole.versions version.now }
     ensures shown { Shows share.new stores.new }
     ensures log { OnOk result
         (book.new ≡ with_untold book.old (issue_steps share.old.node home version.now)) }
     ensures share { OnOk result
         (share.new ≡ with_steps share.old (issue_steps share.old.node home version.now)) }
-    ensures receipt { IfOk result (λ r. r ≡
+    ensures key { IfOk result (λ p. p.0.key ≡ version.now.key) }
+    ensures whole { IfOk result (λ p. IsSameRow p.0.versions
+        (merge (versions_at stores.old.rooms home version.now.key) (version.now ∷ []))) }
+    ensures in_row { IfOk result (λ p. Contains p.0.versions version.now) }
+    ensures kept { IfOk result (λ p.
+        p.0.versions ≡ versions_at stores.new.rooms home version.now.key) }
+    ensures receipt { IfOk result (λ p. p.1 ≡
         receipt_parts version.now.key version.now.dot share.old.node home) }
-    ensures kept { OnOk result
-        (versions_at stores.new.rooms home version.now.key ≡ whole.versions) }
     ensures rooms { OnErr result (stores.new.rooms ≡ stores.old.rooms) }
     ensures err { OnErr result ((share.new ≡ share.old) × (book.new ≡ book.old)) }
     ensures memory { IsOkUnless result Fault.OutOfMemory }
 {
     book.agree(share);
     stores.make_counter(version.key(), counter)?;
-    let placed = stores.place(home, whole)?;
-    match book.issue(share, home, version) {
-        Ok(receipt) => {
+    let alone = Row::of(alloc, version.try_clone(alloc)?)?;
+    let placed = stores.add(home, &alone)?;
+    match copy_and_issue(alloc, stores, share, book, home, version) {
+        Ok(issued) => {
             stores.use_made(version.key(), counter);
             book.agree(share);
-            Ok(receipt)
+            Ok(issued)
         }
         Err(fault) => {
             stores.take_back(home, version.key(), placed);
@@ -184,25 +191,21 @@ impl<J: Naming> Node<J> {
             Ok(planned) => planned,
             Err(fault) => return Err(fault),
         };
-        let (whole, copy) = match whole_row(self.alloc, stores, share, book, home, &version) {
-            Ok(rows) => rows,
-            Err(_fault) => return Err(Fault::OutOfMemory),
-        };
-        let receipt = match issue_row(
+        let (row, receipt) = match issue_row(
+            self.alloc,
             &mut self.stores,
             &mut self.share,
             book,
             home,
             &version,
             counter,
-            whole,
         ) {
-            Ok(receipt) => receipt,
+            Ok(issued) => issued,
             Err(_fault) => return Err(Fault::OutOfMemory),
         };
         Ok(Begun {
             dot: version.dot(),
-            row: copy,
+            row,
             receipt,
         })
     }

@@ -70,12 +70,11 @@ fn choose<J: Naming>(
 
 // Drops the dot of each receipt from the hint for its home.
 fn drop_all<J: Naming>(stores: &mut Stores, receipts: &[Receipt<J>])
-    requires { All (λ r. r.home ≢ stores.old.rooms.node) receipts.now }
     ensures rooms { stores.new.rooms ≡ without_all stores.old.rooms receipts.now }
     ensures counters { stores.new.counters ≡ stores.old.counters }
 {
     for receipt in receipts {
-        stores.drop_hint(receipt.home(), receipt.key(), receipt.dot());
+        stores.drop_dot(receipt.home(), receipt.key(), receipt.dot());
     }
 }
 

@@ -1,18 +1,18 @@
 // What a node keeps, apart from books and shares.
 ghost use Rattle.std.specs.Prelude.{◌≡◌, ◌≢◌, ◌<◌, ◌+◌, ◌++◌, ◌∷◌, [], None, Some, map};
 ghost use Rattle.std.specs.Prelude.{◌-◌, ◌^◌, length, min};
-ghost use Rattle.std.specs.Prelude.{IsSome, IfSome, IfNone, IfOk, IfErr, OnOk, OnErr, IsOk};
+ghost use Rattle.std.specs.Prelude.{IsSome, IfSome, IfOk, IfErr, OnOk, OnErr, IsOk};
 ghost use Rattle.std.specs.Prelude.{IsOkUnless};
 ghost use Rattle.std.specs.Option.{option_copied};
 ghost use Rattle.std.specs.Result.{OkIff};
 ghost use Rattle.std.specs.FinMap as maps;
 ghost use Rattle.std.specs.List.{All};
-ghost use Rattle.dy_siblings.specs.Siblings.{AreOneByDot, IsSameRow, has_dot, merge};
+ghost use Rattle.dy_siblings.specs.Siblings.{AreOneByDot, has_dot};
 ghost use Rattle.dy_node_store.specs.Rows.{IsRowOf, without_dots};
 ghost use Rattle.dy_node_store.specs.Counters.{greatest_used, with_used};
 ghost use Rattle.dy_hint_store.specs.Hints.{home_and_row, shown};
 ghost use Rattle.dy_node.specs.Stored.{empty_rooms, kept_rows, stands, versions_at, with_row};
-ghost use Rattle.dy_node.specs.inside.Placing.{FitsBack, IsAdded, IsHintOf, IsPlaced, row_kept};
+ghost use Rattle.dy_node.specs.inside.Placing.{FitsBack, IsAdded, IsHintOf, row_kept};
 ghost use Rattle.dy_node.specs.inside.Placing.{taken_back};
 
 use dy_dots::{Dot, Fault, NodeId};
@@ -107,25 +107,6 @@ impl Stores {
         }
     }
 
-    // Puts the row in the place of its key's for the home, and gives back what was there.
-    fn swap(&mut self, home: NodeId, row: Row) -> Result<Option<Row>, Fault>
-        requires { 0 < length row.versions }
-        ensures ok { OnOk result (self.new ≡
-            record self.old { rooms = with_row self.old.rooms home row.key row.versions }) }
-        ensures before { IfOk result (λ before. before ≡ row_kept self.old.rooms home row.key) }
-        ensures valid { IfOk result (λ before. IfSome before (IsRowOf row.key)) }
-        ensures err { OnErr result (self.new ≡ self.old) }
-        ensures memory { IsOkUnless result Fault.OutOfMemory }
-    {
-        if home == self.node {
-            let before = self.own.swap_row(row)?;
-            Ok(before)
-        } else {
-            let before = self.hints.swap_row(home, row)?;
-            Ok(before)
-        }
-    }
-
     // Puts the row in the place of its key's for the home, and gives that back.
     fn replace(&mut self, home: NodeId, row: Row) -> Row
         requires present { IsSome (row_kept self.old.rooms home row.key) }
@@ -152,46 +133,15 @@ impl Stores {
         }
     }
 
-    /// What is kept of the row's key for the home, merged with the row, where no dot is that of two
-    /// versions. Where none is kept, it is the row itself.
-    pub(crate) fn joined_with(
-        &self,
-        alloc: Global,
-        home: NodeId,
-        row: Row,
-    ) -> Result<Option<Row>, Fault>
-        ensures none { IfOk result (λ o. IfNone o
-            (AreOneByDot (versions_at self.now.rooms home row.key ++ row.versions) → ⊥)) }
-        ensures key { IfOk result (λ o. IfSome o (λ m. m.key ≡ row.key)) }
-        ensures merged { IfOk result (λ o. IfSome o (λ m. IsSameRow m.versions
-            (merge (versions_at self.now.rooms home row.key) row.versions))) }
+    /// A copy of what is kept of the key for the home.
+    pub(crate) fn copied(&self, alloc: Global, home: NodeId, key: &Key) -> Result<Row, Fault>
+        ensures ok { IfOk result (λ row. row ≡
+            record { key = key.now; versions = versions_at self.now.rooms home key.now }) }
         ensures memory { IsOkUnless result Fault.OutOfMemory }
     {
-        // They are a row's: none of them is past.
-        let _versions = row.versions();
-        let Some(kept) = self.row(home, row.key()) else {
-            return Ok(Some(row));
-        };
-        if !kept.agrees(&row) {
-            return Ok(None);
-        }
-        let merged = kept.merged(alloc, &row)?;
-        Ok(Some(merged))
-    }
-
-    /// Puts a row in its place, and tells how to take it back.
-    pub(crate) fn place(&mut self, home: NodeId, row: Row) -> Result<Placed, Fault>
-        ensures rooms { IfOk result (IsPlaced self.old.rooms self.new.rooms home row) }
-        ensures counters { OnOk result (self.new.counters ≡ self.old.counters) }
-        ensures err { OnErr result (self.new ≡ self.old) }
-        ensures memory { IsOkUnless result Fault.OutOfMemory }
-    {
-        if row.is_empty() {
-            return Ok(Placed::Nothing);
-        }
-        match self.swap(home, row)? {
-            Some(before) => Ok(Placed::Over(before)),
-            None => Ok(Placed::New),
+        match self.row(home, key) {
+            Some(row) => row.try_clone(alloc),
+            None => Ok(Row::new(alloc, key.try_clone(alloc)?)),
         }
     }
 
@@ -229,18 +179,22 @@ impl Stores {
             Placed::Over(before) => {
                 let _row = self.replace(home, before);
             }
+            Placed::Beside(dot) => self.drop_dot(home, key, dot),
         }
     }
 
-    /// Drops one dot from the key's row for another home. Takes no memory.
-    pub(crate) fn drop_hint(&mut self, home: NodeId, key: &Key, dot: Dot)
-        requires { home ≢ self.old.rooms.node }
+    /// Drops one dot from the key's row for the home. Takes no memory.
+    pub(crate) fn drop_dot(&mut self, home: NodeId, key: &Key, dot: Dot)
         ensures { self.new ≡ record self.old {
           rooms = with_row self.old.rooms home key.now
               (without_dots (versions_at self.old.rooms home key.now) (dot ∷ []));
         } }
     {
-        self.hints.remove_dots(home, key, &[dot]);
+        if home == self.node {
+            self.own.remove_dots(key, &[dot]);
+        } else {
+            self.hints.remove_dots(home, key, &[dot]);
+        }
     }
 
     /// Whether the dot stands in a row that is kept for another home. Takes no memory.

@@ -1,5 +1,5 @@
 -- A row that is merged into what is kept of its key.
-use Rattle.std.proofs.Common.{◌≡◌, ℕ, true, false, List, [], Option, None, Some}
+use Rattle.std.proofs.Common.{◌≡◌, ◌<◌, ℕ, Bool, true, false, ◌||◌, not, cond, List, [], ◌∷◌, length, Option, None, Some, arith}
 use Rattle.std.proofs.Common.{IsSome, IfSome, inr, refl, sym, ap, ◌∙◌, subst}
 use Rattle.std.specs.Ordering.{nat_cmp}
 use Rattle.std.specs.Cmp.Lexicographic.{slice_cmp}
@@ -7,14 +7,15 @@ use Rattle.std.specs.List.{Contains}
 use Rattle.std.specs.BTreeMap.{is_at}
 use Rattle.std.specs.Map.{lookup}
 use Rattle.std.specs.FinMap as maps
-use Rattle.dy_siblings.specs.Siblings.{Siblings, merge}
+use Rattle.dy_dots.specs.Dots.{DotNumbers, same_dot}
+use Rattle.dy_siblings.specs.Siblings.{Siblings, merge, without}
 use Rattle.dy_siblings.specs.Versions.{VersionParts}
 use Rattle.dy_siblings.proofs.Members.{not_in_nil}
-use Rattle.dy_node_store.specs.Rows.{Rows, with_versions, IsRowOf}
+use Rattle.dy_node_store.specs.Rows.{Rows, with_versions, without_dots, IsRowOf}
 use Rattle.dy_node_store.specs.Absorbing.{AddsNothing, IsAbsorbed}
 use Rattle.dy_node_store.specs.inside.Entries.{AreRows}
 use Rattle.dy_node_store.specs.declared.placed.Placed.{Placed}
-use Rattle.dy_node_store.specs.declared.placed.Placed.TheVariants.{Nothing, New, Over}
+use Rattle.dy_node_store.specs.declared.placed.Placed.TheVariants.{Nothing, New, Over, Beside}
 use Rattle.dy_node_store.proofs.Maps.{insert_present}
 use Rattle.dy_node_store.proofs.RowLemmas.{IsRowOf-lookup, with_versions_filled}
 
@@ -45,6 +46,8 @@ absorbed_row kept after row Nothing is h = subst (IsRowOf row.key) (sym h.0) is
 absorbed_row kept after row New is h = absurd (not_none kept h.1)
 absorbed_row kept after row (Over before) is h =
     subst (IsRowOf row.key) (sym h.1.1) (refl, h.1.2.filled)
+absorbed_row kept after row (Beside dot) is h =
+    subst (IsRowOf row.key) (sym h.2.1) (refl, h.2.2.filled)
 
 -- and it is kept in the place of the key's
 pub absorbed_rows : (rows new : Rows) (kept after row : Siblings) (placed : Placed) →
@@ -65,6 +68,17 @@ absorbed_rows rows new kept after row (Over before) there is h = (
     h.1.2,
   ),
 )
+absorbed_rows rows new kept after row (Beside dot) there is h = (
+  h.0,
+  there ∙ h.1,
+  (
+    h.2.0,
+    is ∙ ap (maps.insert rows row.key) h.2.1
+        ∙ sym (with_versions_filled rows row.key h.2.0 h.2.2.filled),
+    h.2.2,
+    h.2.3,
+  ),
+)
 
 -- the same of a map that is part of another
 pub absorbed_in : {M N : Type 0} (f : M → N) (old new : M) (with : List VersionParts → M)
@@ -74,3 +88,22 @@ pub absorbed_in : {M N : Type 0} (f : M → N) (old new : M) (with : List Versio
 absorbed_in f old new with kept row Nothing h = (ap f h.0, h.1)
 absorbed_in f old new with kept row New h = (ap f h.0, h.1, h.2)
 absorbed_in f old new with kept row (Over before) h = (h.0, (h.1.0, ap f h.1.1, h.1.2))
+absorbed_in f old new with kept row (Beside dot) h =
+    (h.0, h.1, (h.2.0, ap f h.2.1, h.2.2, h.2.3))
+
+-- without one dot
+pub without_one : (vs : List VersionParts) (d : DotNumbers) → without_dots vs (d ∷ []) ≡ without vs d
+without_one [] d = refl
+without_one (v ∷ vs) d = go (same_dot v.dot d) (without_one vs d)
+  where
+    go : (b : Bool) → without_dots vs (d ∷ []) ≡ without vs d →
+        cond (not (b || false)) (v ∷ without_dots vs (d ∷ [])) (without_dots vs (d ∷ []))
+        ≡ cond (not b) (v ∷ without vs d) (without vs d)
+    go true later = later
+    go false later = ap (λ l. v ∷ l) later
+
+-- what is not empty without a dot is not empty
+pub filled_before : (vs before : List VersionParts) (d : DotNumbers) → without vs d ≡ before →
+    0 < length before → 0 < length vs
+filled_before [] before d is filled = subst (λ l. 0 < length l) (sym is) filled
+filled_before (v ∷ vs) before d is filled = omega arith

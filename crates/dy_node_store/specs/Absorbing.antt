@@ -1,11 +1,11 @@
 -- A row that is merged into what is kept of its key.
-use Rattle.std.specs.Prelude.{◌≡◌, ◌≢◌, ◌<◌, ◌⊎◌, ◌++◌, List, length, Option, Some, None}
+use Rattle.std.specs.Prelude.{◌≡◌, ◌≢◌, ◌<◌, ◌⊎◌, ◌∷◌, [], List, length, Option, Some, None}
 use Rattle.std.specs.Prelude.{Contains}
-use Rattle.dy_siblings.specs.Siblings.{Siblings, AreOneByDot, IsSameRow, merge}
+use Rattle.dy_siblings.specs.Siblings.{Siblings, IsSameRow, merge}
 use Rattle.dy_siblings.specs.Versions.{VersionParts}
-use Rattle.dy_node_store.specs.Rows.{versions_in, IsRowOf}
+use Rattle.dy_node_store.specs.Rows.{versions_in, without_dots, IsRowOf}
 use Rattle.dy_node_store.specs.declared.placed.Placed.{Placed}
-use Rattle.dy_node_store.specs.declared.placed.Placed.TheVariants.{Nothing, New, Over}
+use Rattle.dy_node_store.specs.declared.placed.Placed.TheVariants.{Nothing, New, Over, Beside}
 
 -- why nothing is put: the row is kept as it is, or no version is left of the merge
 abbrev pub AddsNothing : Option Siblings → Siblings → Type 0
@@ -31,3 +31,7 @@ module _ {M : Type 0} where
   IsAbsorbed old new with kept row (Over before) =
       (kept ≡ Some before)
       × ((vs : List VersionParts) × (new ≡ with vs) × IsMergeOf before row vs)
+  IsAbsorbed old new with kept row (Beside dot) =
+      (before : Siblings) × (kept ≡ Some before)
+      × ((vs : List VersionParts) × (new ≡ with vs) × IsMergeOf before row vs
+      × (without_dots vs (dot ∷ []) ≡ before.versions))

@@ -1,3 +1,4 @@
+use dy_dots::Dot;
 use dy_siblings::Row;
 
 /// What putting a row in its place put out of it.
@@ -9,4 +10,6 @@ pub enum Placed {
     New,
     /// The row that was there.
     Over(Row),
+    /// Nothing: the row that was there has the version of this dot besides.
+    Beside(Dot),
 }

@@ -1,4 +1,4 @@
-ghost use Rattle.std.specs.Prelude.{◌≡◌, ◌<◌, ◌++◌, None, Some, length, map, IsSome, IfSome};
+ghost use Rattle.std.specs.Prelude.{◌≡◌, ◌≢◌, ◌<◌, ◌++◌, None, Some, length, map, IsSome, IfSome};
 ghost use Rattle.std.specs.Prelude.{IfOk, OnOk, OnErr, IsOk, IsOkUnless};
 ghost use Rattle.std.specs.Option.{option_copied};
 ghost use Rattle.std.specs.FinMap as maps;
@@ -177,8 +177,8 @@ impl RowMap {
     }
 }
 
-// Puts the merge of both rows in the place of the first, and gives that back, where they differ,
-// and a version is left.
+// Merges the row into the first, where they differ, and a version is left. One version that comes
+// beside those that are there is put in among them, and no other is copied.
 fn merge_into(alloc: Global, kept: &mut Row, row: &Row) -> Result<Placed, Fault>
     requires of_key { IsRowOf row.now.key kept.old }
     requires agree { AreOneByDot (kept.old.versions ++ row.now.versions) }
@@ -192,6 +192,27 @@ fn merge_into(alloc: Global, kept: &mut Row, row: &Row) -> Result<Placed, Fault>
     if kept.is_same(row) {
         return Ok(Placed::Nothing);
     }
+    match kept.put_beside(alloc, row)? {
+        Some(put) => Ok(Placed::Beside(put.1)),
+        None => {
+            let placed = merge_over(alloc, kept, row)?;
+            Ok(placed)
+        }
+    }
+}
+
+// Puts the merge of both rows in the place of the first, and gives that back, where a version is
+// left.
+fn merge_over(alloc: Global, kept: &mut Row, row: &Row) -> Result<Placed, Fault>
+    requires of_key { IsRowOf row.now.key kept.old }
+    requires agree { AreOneByDot (kept.old.versions ++ row.now.versions) }
+    requires differ { kept.old ≢ row.now }
+    ensures ok { IfOk result
+        (IsAbsorbed kept.old kept.new (λ vs. record { key = row.now.key; versions = vs })
+        (Some kept.old) row.now) }
+    ensures err { OnErr result (kept.new ≡ kept.old) }
+    ensures memory { IsOkUnless result Fault.OutOfMemory }
+{
     let merged = kept.merged(alloc, row)?;
     if merged.is_empty() {
         return Ok(Placed::Nothing);

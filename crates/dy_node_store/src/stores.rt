@@ -5,13 +5,14 @@ ghost use Rattle.std.specs.Result.{OkIff};
 ghost use Rattle.std.specs.FinMap as maps;
 ghost use Rattle.std.specs.List.{All};
 ghost use Rattle.dy_siblings.specs.Siblings.{AreOneByDot};
-ghost use Rattle.dy_node_store.specs.Rows.{with_versions, versions_of, IsKeptRow, IsRowOf};
+ghost use Rattle.dy_node_store.specs.Rows.{with_versions, versions_of, without_dots, IsKeptRow};
+ghost use Rattle.dy_node_store.specs.Rows.{IsRowOf};
 ghost use Rattle.dy_node_store.specs.Counters.{greatest_used, with_used};
 ghost use Rattle.dy_node_store.specs.Absorbing.{IsAbsorbed};
 
 use crate::placed::Placed;
 use crate::row_maps::RowMap;
-use dy_dots::Fault;
+use dy_dots::{Dot, Fault};
 use dy_siblings::{Key, Row};
 use std::alloc::Global;
 use std::collections::BTreeMap;
@@ -105,6 +106,16 @@ impl NodeStore {
         ensures rows { self.new ≡ record self.old { rows = maps.remove self.old.rows key.now } }
     {
         self.rows.remove_row(key)
+    }
+
+    /// Drops the versions of these dots from the key's row, where there are any. Takes no memory.
+    pub fn remove_dots(&mut self, key: &Key, dots: &[Dot])
+        ensures { self.new ≡ record self.old {
+          rows = with_versions self.old.rows key.now
+              (without_dots (versions_of self.old.rows key.now) dots.now);
+        } }
+    {
+        self.rows.remove_dots(key, dots);
     }
 
     /// The rows, in the order of their keys' bytes.

@@ -1,5 +1,6 @@
 -- A row put in its place, and taken back.
-use Rattle.std.specs.Prelude.{◌≡◌, ◌≢◌, ℕ, ◌<◌, ◌⊎◌, ◌++◌, ◌==◌, Option, List, [], length, IsSome}
+use Rattle.std.specs.Prelude.{◌≡◌, ◌≢◌, ℕ, ◌<◌, ◌⊎◌, ◌==◌, Option, List, [], ◌∷◌, length}
+use Rattle.std.specs.Prelude.{IsSome}
 use Rattle.std.specs.Prelude.{if◌then◌else◌}
 use Rattle.std.specs.List.{Contains}
 use Rattle.std.specs.FinMap as maps
@@ -7,35 +8,28 @@ use Rattle.dy_siblings.specs.Siblings.{Siblings, IsSameRow, merge}
 use Rattle.dy_siblings.specs.declared.versions.Version.{Version}
 use Rattle.dy_hint_store.specs.Hints.{IsHint}
 use Rattle.dy_node.specs.Stored.{Rooms, versions_at, with_row}
+use Rattle.dy_node_store.specs.Rows.{without_dots}
 use Rattle.dy_node_store.specs.declared.placed.Placed.{Placed}
-use Rattle.dy_node_store.specs.declared.placed.Placed.TheVariants.{Nothing, New, Over}
+use Rattle.dy_node_store.specs.declared.placed.Placed.TheVariants.{Nothing, New, Over, Beside}
 
 -- the row that is kept of a key for a home, where there is one
 abbrev pub row_kept : Rooms → ℕ → List ℕ → Option Siblings
 row_kept r home key =
     if home == r.node then maps.get r.rows key else maps.get r.hints (home, key)
 
--- the row is put in its place, and what was there comes back where it is taken out again; a row
--- with no version is not put
-abbrev pub IsPlaced : Rooms → Rooms → ℕ → Siblings → Placed → Type 0
-IsPlaced old new home row Nothing = (new ≡ old) × (row.versions ≡ [])
-IsPlaced old new home row New =
-    (new ≡ with_row old home row.key row.versions) × (with_row new home row.key [] ≡ old)
-IsPlaced old new home row (Over before) =
-    (new ≡ with_row old home row.key row.versions)
-    × (with_row new home row.key before.versions ≡ old)
-    × (before.key ≡ row.key) × (0 < length before.versions) × (0 < length row.versions)
-
 -- what is kept once the row is taken back
 abbrev pub taken_back : Rooms → ℕ → List ℕ → Placed → Rooms
 taken_back r home key Nothing = r
 taken_back r home key New = with_row r home key []
 taken_back r home key (Over before) = with_row r home key before.versions
+taken_back r home key (Beside dot) =
+    with_row r home key (without_dots (versions_at r home key) (dot ∷ []))
 
 -- what was put can be taken back
 abbrev pub FitsBack : Rooms → ℕ → List ℕ → Placed → Type 0
 FitsBack r home key Nothing = Unit {0}
 FitsBack r home key New = Unit {0}
+FitsBack r home key (Beside dot) = Unit {0}
 FitsBack r home key (Over before) =
     (before.key ≡ key) × (0 < length before.versions) × IsSome (row_kept r home key)
 

@@ -1,5 +1,5 @@
 -- The slice that is merged is the whole list.
-use Rattle.std.proofs.Common.{◌≡◌, List, subst}
+use Rattle.std.proofs.Common.{List, subst}
 use Rattle.dy_siblings.specs.Siblings.{IsSameRow, newest}
 use Rattle.dy_core.specs.Logs.{Answer, rows_of}
 use Rattle.dy_coord.proofs.get_endings.tell_of.Goals as goal

@@ -1,21 +1,10 @@
 use Rattle.std.proofs.Common.{◌++◌, ◌∷◌, [], sym, ap, ◌∙◌, take}
 use Rattle.std.proofs.lemmas.List.{take_more}
 use Rattle.dy_node_store.specs.Rows.{without_dots}
-use Rattle.dy_shares.specs.Shares.{ReceiptParts}
-use Rattle.dy_node.specs.Stored.{Rooms, Stored, versions_at, with_row}
+use Rattle.dy_node.specs.Stored.{Stored, versions_at, with_row}
 use Rattle.dy_node.specs.Settling.{without_all}
-use Rattle.dy_node.proofs.SettleLemmas.{without_more, without_stays}
+use Rattle.dy_node.proofs.SettleLemmas.{without_more}
 use Rattle.dy_node.proofs.settling.drop_all.Goals as goal
-
--- the receipt is for another home
-pub drop_hint-requires : goal.drop_hint-requires
-drop_hint-requires g c = λ same.
-    let xs = c.args.receipts.now in
-    let at = c.loop-receipt.receipt-index in
-    c.requires at c.receipt-item.result c.loop-receipt-test.true
-    (ap (λ (r : ReceiptParts). r.home) (sym c.receipt-item.is) ∙ sym c.home.ensures ∙ same
-    ∙ ap (λ (r : Rooms). r.node) c.loop-receipt.invariant.rooms
-    ∙ without_stays c.args.stores.now.rooms (take at xs))
 
 -- one dot more is gone
 pub loop-receipt-preserved : goal.loop-receipt-preserved
@@ -28,12 +17,12 @@ loop-receipt-preserved g c =
     let grows = take_more xs at x c.loop-receipt-test.true ∙ ap (λ y. take at xs ++ y ∷ [])
     (sym c.receipt-item.is) in record {
       rooms =
-          ap (λ (s : Stored). s.rooms) c.drop_hint.ensures
+          ap (λ (s : Stored). s.rooms) c.drop_dot.ensures
           ∙ (λ i. with_row (before i) (c.home.ensures i) (c.key.ensures i)
           (without_dots (versions_at (before i) (c.home.ensures i) (c.key.ensures i))
           (c.dot.ensures i ∷ [])))
           ∙ sym (without_more rooms (take at xs) x)
           ∙ ap (without_all rooms) (sym grows);
-      counters = ap (λ (s : Stored). s.counters) c.drop_hint.ensures
+      counters = ap (λ (s : Stored). s.counters) c.drop_dot.ensures
           ∙ c.loop-receipt.invariant.counters;
     }

@@ -1,16 +1,16 @@
 -- What stands in hints is held in the world, so it may be released, and leaves store and world
 -- alike.
-use Rattle.std.proofs.Common.{◌≢◌, None, Some, sym, ap, ◌∙◌, subst, arith}
+use Rattle.std.proofs.Common.{None, Some, sym, ap, ◌∙◌, subst, arith}
 use Rattle.std.specs.List.{All}
 use Rattle.dy_core.specs.Worlds.{layout_of}
-use Rattle.dy_shares.specs.Shares.{NodePart, ReceiptParts, with_steps}
+use Rattle.dy_shares.specs.Shares.{NodePart, with_steps}
 use Rattle.dy_book.specs.Books.{AreOfDistinctDots, BookParts, MayRelease, release_steps}
 use Rattle.dy_book.specs.Books.{with_untold, world_of}
 use Rattle.dy_node.specs.Stored.{Shows}
 use Rattle.dy_node.specs.Settling.{AreReleased, ReleaseRefused, without_all}
 use Rattle.dy_node.proofs.PlanCauses.{release_by, release_done, release_memory}
 use Rattle.dy_node.proofs.Kept.{agreed_on}
-use Rattle.dy_node.proofs.SettleLemmas.{releasable, released_apart, released_nothing}
+use Rattle.dy_node.proofs.SettleLemmas.{releasable, released_nothing}
 use Rattle.dy_node.proofs.SettleLemmas.{settle_shows}
 use Rattle.dy_node.proofs.settling.settle_receipts.Goals as goal
 
@@ -32,13 +32,6 @@ release-requires-clause-each g c =
 pub release-requires-clause-once : goal.release-requires-clause-once
 release-requires-clause-once g c =
     subst AreOfDistinctDots (sym c.as_slice.ensures.value) c.in-Ok.ensures.chosen.apart
-
-pub drop_all-requires : goal.drop_all-requires
-drop_all-requires g c =
-    subst (All (λ (x : ReceiptParts). x.home ≢ c.args.stores.now.rooms.node))
-    (sym c.as_slice-in-Ok-release.ensures.value)
-    (released_apart c.args.stores.now.rooms c.args.receipts.now c.in-Ok.chosen.items
-    c.in-Ok.ensures.chosen)
 
 -- what was released is no longer kept
 pub returns-in-Ok-release-clause-shown : goal.returns-in-Ok-release-clause-shown

@@ -1,37 +1,41 @@
--- By whether a version is left of the merge.
-use Rattle.std.proofs.Common.{◌≡◌, true, false, Some, inr, refl, sym, ap, ◌∙◌, subst}
-use Rattle.std.specs.List.{Contains}
-use Rattle.dy_siblings.specs.Siblings.{Siblings}
-use Rattle.dy_siblings.proofs.Members.{not_in_nil}
-use Rattle.dy_node_store.specs.Absorbing.{IsMergeOf}
-use Rattle.dy_node_store.proofs.RowLemmas.{has_version}
+-- By whether one version comes beside those that are there.
+use Rattle.std.proofs.Common.{◌≡◌, true, false, List, Some, IfSome, IfNone, refl, sym, ◌∙◌, subst}
+use Rattle.dy_siblings.specs.Siblings.{Siblings, IsSameRow, merge, without}
+use Rattle.dy_siblings.specs.Versions.{VersionParts}
+use Rattle.dy_node_store.specs.Absorbing.{IsAbsorbed}
+use Rattle.dy_node_store.proofs.AbsorbLemmas.{filled_before, without_one}
 use Rattle.dy_node_store.proofs.row_maps.merge_into.Goals as goal
 
--- none is
-pub returns-then-is_empty-clause-ok : goal.returns-then-is_empty-clause-ok
-returns-then-is_empty-clause-ok c = (
-  refl,
-  inr (λ v h. not_in_nil v (subst (λ vs. Contains vs v)
-      (c.is_empty.ensures.0 c.if-is_empty.true) ((c.in_ok-merged.ensures.ok v).1 h))),
-)
-
--- one is: the merge is kept
-pub returns-clause-ok : goal.returns-clause-ok
-returns-clause-ok c =
-    let versions = c.in_ok-merged.merged.versions in
-    let key = c.in_ok-merged.ensures.key ∙ c.requires.of_key.0 in
-    let merge_of : IsMergeOf c.args.kept.now c.args.row.now versions = record {
-      one_key = c.requires.of_key;
-      differ = λ same. let both : true ≡ false = sym (c.is_same.ensures.1 same)
-          ∙ c.if-is_same.false in cc;
-      merged = c.in_ok-merged.ensures.ok;
-      filled = has_version _ _ c.is_empty.ensures.1 c.if-is_empty.false;
-    } in (
-      ap Some (sym c.replace-before.ensures.value),
+-- one does
+pub returns-in-Some-clause-ok : goal.returns-in-Some-clause-ok
+returns-in-Some-clause-ok c =
+    let new = c.put_beside.new.self in
+    let old = c.args.kept.now in
+    let back : without new.versions c.in-Some.put.1 ≡ old.versions =
+    subst (λ o. IfSome o (λ p. without new.versions p.1 ≡ old.versions)) c.in-Some.is c.in_ok-put.ensures.back in
+    let key = c.in_ok-put.ensures.key ∙ c.requires.of_key.0 in (
+      old,
+      refl,
       (
-        versions,
-        c.replace-before.ensures.after ∙ (λ i. record { key = key i; versions = versions }),
-        subst (λ (k : Siblings). IsMergeOf k c.args.row.now versions)
-            (sym c.replace-before.ensures.value) merge_of,
+        new.versions,
+        (λ i. record { key = key i; versions = new.versions }),
+        record {
+          one_key = c.requires.of_key;
+          differ = λ same. let both : true ≡ false = sym (c.is_same.ensures.1 same)
+              ∙ c.if-is_same.false in cc;
+          merged = subst (λ o. IfSome o (λ p. IsSameRow new.versions (merge old.versions c.args.row.now.versions)))
+              c.in-Some.is c.in_ok-put.ensures.merge;
+          filled = filled_before new.versions old.versions c.in-Some.put.1 back c.requires.of_key.1;
+        },
+        without_one new.versions c.in-Some.put.1 ∙ back,
       ),
     )
+
+-- none does: what is there stayed
+pub returns-in_ok-placed-in-None-clause-ok : goal.returns-in_ok-placed-in-None-clause-ok
+returns-in_ok-placed-in-None-clause-ok c =
+    let row = c.args.row.now in
+    subst (λ (k : Siblings). IsAbsorbed k c.merge_over.new.kept (λ (vs : List VersionParts). record { key = row.key; versions = vs }) (Some k) row
+    c.in_ok-placed-in-None.placed)
+    (subst (λ o. IfNone o (c.put_beside.new.self ≡ c.args.kept.now)) c.in-None.is c.in_ok-put.ensures.same)
+    c.in_ok-placed-in-None.ensures.ok

@@ -1,7 +1,7 @@
 -- What is planned is of the book that was lent, and past the plan want of memory is all that can
 -- be.
 use Rattle.std.proofs.Common.{◌≡◌, ◌∷◌, [], None, Some, sym, ap, ◌∙◌, subst}
-use Rattle.dy_siblings.specs.Siblings.{Siblings, IsSameRow, merge}
+use Rattle.dy_siblings.specs.Siblings.{IsSameRow, merge}
 use Rattle.dy_siblings.specs.declared.versions.Version.{Version}
 use Rattle.dy_core.specs.Steps.{version_made}
 use Rattle.dy_shares.specs.Shares.{NodePart}
@@ -28,15 +28,6 @@ returns-in-Err-clause-refused g c =
     c.in-Err.ensures.refused
 
 -- it is planned, and want of memory is all that can be
-pub returns-in-Err-whole_row-clause-refused : goal.returns-in-Err-whole_row-clause-refused
-returns-in-Err-whole_row-clause-refused g c =
-    begin_agreed c.agree.new.self c.args.book.now c.agree.new.share c.args.self.now c.args.key.now
-    c.args.context.now (Some OutOfMemory)
-    c.agree.ensures.book (c.agree.ensures.share ∙ ap (λ (n : NodeState). n.part) c.self.view_is)
-    (sym (ap (λ (n : NodeState). n.is_up) c.self.view_is) ∙ c.if-not-self.false)
-    (plan_memory c.agree.new.self c.agree.new.share.node c.args.key.now c.args.context.now
-    c.in-Ok.ensures.refused)
-
 pub returns-in-Err-issue_row-clause-refused : goal.returns-in-Err-issue_row-clause-refused
 returns-in-Err-issue_row-clause-refused g c =
     begin_agreed c.agree.new.self c.args.book.now c.agree.new.share c.args.self.now c.args.key.now
@@ -59,7 +50,7 @@ pub returns-clause-row : goal.returns-clause-row
 returns-clause-row g c =
     let home = c.args.home in
     let key = c.args.key.now in
-    let rows = c.in-Ok-whole_row.rows in
+    let row = c.in-Ok-issue_row.issued.0 in
     let begun = version_begun c.args.book.now c.args.self.now key c.args.context.now c.args.value in
     let version_is : c.in-Ok.planned.0 ≡ version_begun c.args.book.now c.args.self.now key
     c.args.context.now c.args.value =
@@ -70,11 +61,8 @@ returns-clause-row g c =
     c.args.value) c.agree.ensures.share
     ∙ ap (λ (n : NodeState). version_made (world_of c.args.book.now) n.part.node key
     c.args.context.now c.args.value) c.self.view_is in
-    subst (λ (r : Siblings). IsSameRow r.versions
-    (merge (versions_at c.args.self.now.rooms home key) (begun ∷ [])))
-    (sym c.in-Ok-whole_row.ensures.copy)
-    (subst (λ (n : NodeState). IsSameRow rows.0.versions
+    subst (λ (n : NodeState). IsSameRow row.versions
     (merge (versions_at n.rooms home key) (begun ∷ []))) c.self.view_is
-    (subst (λ (v : Version). IsSameRow rows.0.versions
+    (subst (λ (v : Version). IsSameRow row.versions
     (merge (versions_at c.self.inside.stores.rooms home v.key) (v ∷ []))) version_is
-    c.in-Ok-whole_row.ensures.whole))
+    c.in-Ok-issue_row.ensures.whole)

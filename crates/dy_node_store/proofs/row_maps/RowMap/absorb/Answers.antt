@@ -1,5 +1,5 @@
 -- By whether the key has a row.
-use Rattle.std.proofs.Common.{◌≡◌, ◌++◌, true, false, IsSome, IfSome, OnErr, Result, Ok, Err, None, Some, refl, sym, ap, ◌∙◌, subst}
+use Rattle.std.proofs.Common.{◌≡◌, ◌++◌, true, false, IsSome, IfSome, OnErr, Result, Ok, Err, refl, sym, ap, ◌∙◌, subst}
 use Rattle.std.specs.Option.{option_copied_mut}
 use Rattle.std.specs.Ordering.{nat_cmp}
 use Rattle.std.specs.Cmp.Lexicographic.{slice_cmp}
