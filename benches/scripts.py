@@ -22,8 +22,8 @@ TOKENS = ["20", "60", "a0", "d0", "f0"]
 # All of these lie below the positions of all keys, so each key's homes are nodes 0, 1 and 2, and node
 # 0 makes its versions; nodes 3 and 4 stand in.
 LOW_TOKENS = ["00" * 15 + f"{it:02x}" for it in (1, 2, 3, 4, 5)]
-NAMES = [f"mixed-{keys}-{commands}" for keys in (1, 16, 5000) for commands in (1000, 10000, 100000)]
-NAMES += ["mixed-50000-100000", "gets-16-100000"]
+NAMES = [f"mixed-{keys}-{commands}" for keys in (1, 16, 5000, 50000) for commands in (1000, 10000, 100000)]
+NAMES += ["gets-16-100000"]
 NAMES += [f"blind-1-{puts}" for puts in (1000, 2000, 4000, 10000)]
 NAMES += ["blind-1000-20000", "blind-1000-100000", "handoff-10000", "delayed-100000"]
 NAMES += ["puts-5000-100000"]
