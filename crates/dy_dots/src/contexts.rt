@@ -56,6 +56,7 @@ impl Context {
     }
 
     /// Whether the dot is in it. Takes no memory.
+    #[inline(always)]
     pub fn contains(&self, dot: Dot) -> bool
         ensures { result ≡ set.contains self.now dot }
     {

@@ -112,8 +112,17 @@ fn place_of(runs: &[Run], dot: &Run) -> usize
     low
 }
 
-/// Whether the dot is one of the runs'.
+/// Whether the dot is one of the runs'. Most sets that are asked are empty.
+#[inline(always)]
 pub(crate) fn holds(runs: &[Run], dot: &Dot) -> bool
+    requires { AreApart runs.now }
+    ensures { result ≡ in_runs runs.now dot.now }
+{
+    !runs.is_empty() && is_found(runs, dot)
+}
+
+/// The same, looked up by halves.
+fn is_found(runs: &[Run], dot: &Dot) -> bool
     requires { AreApart runs.now }
     ensures { result ≡ in_runs runs.now dot.now }
 {

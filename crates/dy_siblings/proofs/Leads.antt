@@ -1,6 +1,6 @@
 -- Numbers of first bytes are ordered as the bytes are.
 use Rattle.std.proofs.Common.{◌≡◌, ◌<◌, ◌≤◌, ◌+◌, ◌*◌, ◌∷◌, [], List, ℕ, zero, suc, get_or, drop, take, length, true, ◌-◌}
-use Rattle.std.proofs.Common.{refl, sym, ◌∙◌, ap, subst, arith, inl, inr, ⊎_elim, ◌⊎◌, ◌++◌, ◌/◌}
+use Rattle.std.proofs.Common.{refl, sym, ◌∙◌, ap, subst, arith, inl, inr, ⊎_elim, ◌⊎◌, ◌++◌, ◌/◌, ◌^◌}
 use Rattle.std.proofs.lemmas.Bool.{cases_eq, cases_lt}
 use Rattle.std.proofs.lemmas.Grind.{get_or_after_one}
 use Rattle.std.proofs.lemmas.List.{drop-drop, drop_all, drop_more, get_or-drop}
@@ -96,6 +96,15 @@ by_count (suc n) a (x ∷ xs) (y ∷ ys) small others same few =
         | inr ge ↦ (let more = under (omega (arith, other)) in absurd (omega arith))
       ]
     ]
+
+-- numbers are ordered as what is left of them before the last eight bytes, where that differs
+pub by_lead : (m n : ℕ) → (m / 2 ^ 64 ≡ n / 2 ^ 64 → ⊥) →
+    nat_cmp (m / 2 ^ 64) (n / 2 ^ 64) ≡ nat_cmp m n
+by_lead m n differ = elim (cases_lt (m / 2 ^ 64) (n / 2 ^ 64)) [
+  | inl lt ↦ sym (nat_cmp_is (m / 2 ^ 64) (n / 2 ^ 64) Less lt) ∙ nat_cmp_is m n Less (omega (arith, lt))
+  | inr ge ↦ (let gt : n / 2 ^ 64 < m / 2 ^ 64 = omega (arith, ge, differ) in
+      sym (nat_cmp_is (m / 2 ^ 64) (n / 2 ^ 64) Greater gt) ∙ nat_cmp_is m n Greater (omega (arith, gt)))
+]
 
 -- keys' bytes are ordered as their numbers are, unless both are long and begin alike
 pub ordered : (xs ys : List ℕ) → AreBytes xs → AreBytes ys → length xs < 256 → length ys < 256 →

@@ -21,11 +21,12 @@ fn lone<'a>(a: &[Version], b: &'a [Version]) -> Option<(usize, &'a Version)>
     let mut found = None;
     while let Some((theirs, others)) = right.split_first() {
         match left.split_first() {
-            Some((mine, rest)) if !theirs.comes_before(mine) => {
+            Some((mine, rest)) if mine.dot() == theirs.dot() => {
                 left = rest;
-                if mine.dot() == theirs.dot() {
-                    right = others;
-                }
+                right = others;
+            }
+            Some((mine, rest)) if mine.comes_before(theirs) => {
+                left = rest;
             }
             _ => {
                 if found.is_some() {

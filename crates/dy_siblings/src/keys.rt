@@ -1,6 +1,6 @@
 ghost use Rattle.std.specs.Prelude.{◌≡◌, ◌<◌, ◌≤◌, ◌==◌, true, false, ◌⊎◌, ◌↔◌, ℕ, List};
 ghost use Rattle.std.specs.Prelude.{length, get_or, IfOk, IfErr, IfSome, IsErrOf, IsOkUnless};
-ghost use Rattle.std.specs.Prelude.{IsSome};
+ghost use Rattle.std.specs.Prelude.{◌/◌, ◌^◌, IsSome};
 ghost use Rattle.std.specs.Cmp.{partial_order_from_own_ties};
 ghost use Rattle.std.specs.Cmp.Lexicographic.{pointwise, slice_cmp};
 ghost use Rattle.std.specs.Cmp.Rules.{comparing};
@@ -133,6 +133,15 @@ impl Key {
         u128::from_be_bytes(self.front)
     }
 
+    // The number of its first eight bytes, in which most keys differ.
+    fn lead(&self) -> u64
+        ensures value { result ≡ number_of self.now / 2 ^ 64 }
+        ensures small { AreBytes self.now }
+        ensures size { IsKey self.now }
+    {
+        (self.number() >> 64) as u64
+    }
+
     // Whether not all of its bytes lie in place.
     fn is_long(&self) -> bool
         ensures long { result ≡ true → 15 < length self.now }
@@ -140,6 +149,28 @@ impl Key {
         ensures size { IsKey self.now }
     {
         self.whole.is_some()
+    }
+
+    // How it stands to another where both are long. It is a call, so that a look-up has the order
+    // of short keys in itself.
+    #[inline(never)]
+    fn order_to_long(&self, other: &Key) -> Ordering
+        ensures { result ≡ slice_cmp nat_cmp self.now other.now }
+    {
+        let mine = self.number();
+        let theirs = other.number();
+        if mine / 256 == theirs / 256 {
+            return self.as_bytes().cmp(other.as_bytes());
+        }
+        mine.cmp(&theirs)
+    }
+
+    // Whether the other has the same bytes, by all of them.
+    #[inline(never)]
+    fn has_bytes_of(&self, other: &Key) -> bool
+        ensures { result ≡ pointwise ◌==◌ self.now other.now }
+    {
+        self.as_bytes() == other.as_bytes()
     }
 
     /// A copy. Where the bytes lie in place it takes no memory, and else it shares them.
@@ -163,6 +194,7 @@ impl PartialEq for Key {
 
     ghost laws = { Prim.search (comparing, rules) };
 
+    #[inline(always)]
     fn eq(&self, other: &Key) -> bool {
         if self.number() != other.number() {
             return false;
@@ -170,7 +202,7 @@ impl PartialEq for Key {
         if !self.is_long() {
             return true;
         }
-        self.as_bytes() == other.as_bytes()
+        self.has_bytes_of(other)
     }
 }
 
@@ -187,13 +219,16 @@ impl Ord for Key {
 
     ghost matches_eq = { Prim.search (comparing, rules) };
 
+    #[inline(always)]
     fn cmp(&self, other: &Key) -> Ordering {
-        let mine = self.number();
-        let theirs = other.number();
-        if self.is_long() && other.is_long() && mine / 256 == theirs / 256 {
-            return self.as_bytes().cmp(other.as_bytes());
+        if self.is_long() && other.is_long() {
+            return self.order_to_long(other);
         }
-        mine.cmp(&theirs)
+        let (mine, theirs) = (self.lead(), other.lead());
+        if mine != theirs {
+            return mine.cmp(&theirs);
+        }
+        self.number().cmp(&other.number())
     }
 }
 

@@ -162,6 +162,8 @@ impl Row {
             without self.new.versions p.1 ≡ self.old.versions)) }
         ensures place { IfOk result (λ put. IfSome put (λ p. (v : VersionParts)
             × (v.dot ≡ p.1) × (self.new.versions ≡ insert self.old.versions p.0 v))) }
+        ensures beside { IfOk result (λ put. IfSome put (λ p. (v : VersionParts)
+            × (v.dot ≡ p.1) × IsBeside self.old.versions other.now.versions v)) }
         ensures bound { IfOk result (λ put. IfSome put (λ p.
             p.0 ≤ length self.old.versions)) }
         ensures none { IfOk result (λ put. IfNone put

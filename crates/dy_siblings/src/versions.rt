@@ -149,10 +149,19 @@ impl Version {
         ensures { result ≡ (set.is_subset self.now.past other.now.past
             && set.is_subset other.now.past self.now.past) }
     {
-        let (past, others) = (&self.parts.past, &other.parts.past);
-        if past.is_empty() && others.is_empty() {
+        if self.parts.past.is_empty() && other.parts.past.is_empty() {
             return true;
         }
+        self.follows_what(other)
+    }
+
+    // The same, dot by dot.
+    #[inline(never)]
+    fn follows_what(&self, other: &Version) -> bool
+        ensures { result ≡ (set.is_subset self.now.past other.now.past
+            && set.is_subset other.now.past self.now.past) }
+    {
+        let (past, others) = (&self.parts.past, &other.parts.past);
         others.includes(past) && past.includes(others)
     }
 

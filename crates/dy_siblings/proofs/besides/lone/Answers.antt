@@ -1,14 +1,21 @@
-use Rattle.std.proofs.Common.{◌≡◌, ◌∷◌, true, option_map, rules, sym, subst, ◌∙◌, ⊎_elim}
+use Rattle.std.proofs.Common.{◌≡◌, ◌∷◌, true, option_map, rules, sym, subst, ◌∙◌, ◌⊎◌, false, ⊎_elim}
 use Rattle.std.proofs.lemmas.Bool.{true≢false}
 use Rattle.std.proofs.lemmas.List.{nil_from_length}
-use Rattle.dy_dots.specs.Dots.{IsDotBefore, same_dot}
+use Rattle.dy_dots.specs.Dots.{DotNumbers, IsDotBefore, same_dot}
 use Rattle.dy_dots.proofs.SameDots.{same_dot_self}
 use Rattle.dy_siblings.specs.Versions.{VersionParts}
 use Rattle.dy_siblings.specs.Siblings.{IsLone}
 use Rattle.dy_siblings.specs.inside.Merging.{IsFirst, IsPlaceOf}
 use Rattle.dy_siblings.proofs.Lones.{Lones, skip_before, skip_both, take_theirs, two_are_new, found_is_lone, found_has_place, none_is_lone, some_mapped, none_mapped, some_gives, none_gives}
 use Rattle.dy_siblings.proofs.besides.lone.Goals as goal
-use Rattle.dy_siblings.proofs.besides.lone.Goals.{in_default-split_first-via-in-Some-split_first+else-not-comes_before, in_default-split_first-via-in_default-split_first}
+use Rattle.dy_siblings.proofs.besides.lone.Goals.{in_default-split_first-via-in-Some-2+else-comes_before, in_default-split_first-via-in_default-split_first}
+
+-- of two dots that differ
+later : (d e : DotNumbers) → (same_dot e d ≡ false) → IsDotBefore d e ⊎ (d ≡ e) → IsDotBefore d e
+later d e differ cases =
+    ⊎_elim (λ before. before)
+    (λ same. absurd (true≢false (sym (subst (λ x. same_dot e x ≡ true) (sym same) (same_dot_self e)) ∙ differ)))
+    cases
 
 -- both have one dot
 pub loop-theirs-preserved-then-eq : goal.loop-theirs-preserved-then-eq
@@ -20,21 +27,13 @@ loop-theirs-preserved-then-eq c =
     c.in-Some-split_first.mine.now c.in-Some.theirs.now c.in-Some-split_first.rest.now c.in-Some.others.now left_is right_is same c.loop-theirs.invariant
 
 -- that of a comes first
-pub loop-theirs-preserved-else-eq : goal.loop-theirs-preserved-else-eq
-loop-theirs-preserved-else-eq c =
+pub loop-theirs-preserved-then-comes_before : goal.loop-theirs-preserved-then-comes_before
+loop-theirs-preserved-then-comes_before c =
     let left_is : c.loop-theirs.left.now ≡ c.in-Some-split_first.mine.now ∷ c.in-Some-split_first.rest.now = search rules in
     let right_is : c.loop-theirs.right.now ≡ c.in-Some.theirs.now ∷ c.in-Some.others.now = search rules in
     skip_before c.args.a.now c.args.b.now c.loop-theirs.left.now c.loop-theirs.right.now (option_map (λ p. (p.0, p.1.now)) c.loop-theirs.found)
-    c.in-Some-split_first.mine.now c.in-Some.theirs.now c.in-Some-split_first.rest.now c.in-Some.others.now left_is right_is earlier c.loop-theirs.invariant
-  where
-    earlier : IsDotBefore c.in-Some-split_first.mine.now.dot c.in-Some.theirs.now.dot
-    earlier =
-        ⊎_elim
-        (λ before. before)
-        (λ same. absurd (true≢false (
-        sym (subst (λ e. same_dot c.dot.result e ≡ true) (c.dot.ensures.value ∙ same ∙ sym c.dot-in-Some-split_first.ensures.value) (same_dot_self c.dot.result))
-        ∙ sym c.eq.ensures ∙ c.if-eq.false)))
-        (c.comes_before.ensures.no c.if-not-comes_before.true)
+    c.in-Some-split_first.mine.now c.in-Some.theirs.now c.in-Some-split_first.rest.now c.in-Some.others.now left_is right_is
+    (c.comes_before.ensures.yes c.if-comes_before.true) c.loop-theirs.invariant
 
 -- the first of b is the second whose dot a lacks
 pub returns-then-is_some-clause-none : goal.returns-then-is_some-clause-none
@@ -47,8 +46,9 @@ returns-then-is_some-clause-none c =
     first : IsFirst c.in-Some.theirs.now.dot c.loop-theirs.left.now
     first =
         elim c.in_default-split_first.branch [
-          | in_default-split_first-via-in-Some-split_first+else-not-comes_before w ↦
-              subst (IsFirst c.in-Some.theirs.now.dot) (sym w.in-Some-split_first.ensures.cases.0) (w.comes_before.ensures.yes w.if-not-comes_before.false)
+          | in_default-split_first-via-in-Some-2+else-comes_before w ↦
+              subst (IsFirst c.in-Some.theirs.now.dot) (sym w.in-Some-split_first.ensures.cases.0)
+              (later c.in-Some.theirs.now.dot w.in-Some-split_first.mine.now.dot (search rules) (w.comes_before.ensures.no w.if-comes_before.false))
           | in_default-split_first-via-in_default-split_first w ↦
               subst (IsFirst c.in-Some.theirs.now.dot) (sym (nil_from_length _ w.in_default-split_first.ensures.cases)) tt
         ]
@@ -64,8 +64,9 @@ loop-theirs-preserved c =
     first : IsFirst c.in-Some.theirs.now.dot c.loop-theirs.left.now
     first =
         elim c.in_default-split_first.branch [
-          | in_default-split_first-via-in-Some-split_first+else-not-comes_before w ↦
-              subst (IsFirst c.in-Some.theirs.now.dot) (sym w.in-Some-split_first.ensures.cases.0) (w.comes_before.ensures.yes w.if-not-comes_before.false)
+          | in_default-split_first-via-in-Some-2+else-comes_before w ↦
+              subst (IsFirst c.in-Some.theirs.now.dot) (sym w.in-Some-split_first.ensures.cases.0)
+              (later c.in-Some.theirs.now.dot w.in-Some-split_first.mine.now.dot (search rules) (w.comes_before.ensures.no w.if-comes_before.false))
           | in_default-split_first-via-in_default-split_first w ↦
               subst (IsFirst c.in-Some.theirs.now.dot) (sym (nil_from_length _ w.in_default-split_first.ensures.cases)) tt
         ]

@@ -68,5 +68,14 @@ returns-in_ok-insert-in-Some-clause-place c = (
       ∙ ap (λ s. insert s.versions c.in-Some.at c.in-Some.version.now) c.self.view_is,
 )
 
+pub returns-in_ok-insert-in-Some-clause-beside : goal.returns-in_ok-insert-in-Some-clause-beside
+returns-in_ok-insert-in-Some-clause-beside c = (
+  c.in-Some.version.now,
+  sym c.dot.ensures.value,
+  subst (λ s. IsBeside s.versions c.args.other.now.versions c.in-Some.version.now) c.self.view_is
+      (subst (λ s. IsBeside (items_of c.self.inside.versions) s.versions c.in-Some.version.now) c.other.view_is
+      (beside c)),
+)
+
 pub returns-in_ok-insert-in-Some-clause-valid : goal.returns-in_ok-insert-in-Some-clause-valid
 returns-in_ok-insert-in-Some-clause-valid c = siblings c
