@@ -1,5 +1,5 @@
 ghost use Rattle.std.specs.Prelude.{◌≡◌, ◌<◌, ◌-◌, ◌^◌, ◌++◌, None, Some, length, map, min};
-ghost use Rattle.std.specs.Prelude.{IsSome, IfSome, IfOk, OnOk};
+ghost use Rattle.std.specs.Prelude.{IsSome, IfSome, IfOk};
 ghost use Rattle.std.specs.Prelude.{OnErr, IsOk, IsOkUnless};
 ghost use Rattle.std.specs.Option.{option_copied};
 ghost use Rattle.std.specs.FinMap as maps;
@@ -75,23 +75,6 @@ impl HintStore {
             Some(rows) => rows.row(key),
             None => None,
         }
-    }
-
-    /// Puts the row in the place of its key's for the home, and gives back what was there. Takes
-    /// memory only where there was none.
-    pub fn swap_row(&mut self, home: NodeId, row: Row) -> Result<Option<Row>, Fault>
-        requires { 0 < length row.versions }
-        ensures ok { OnOk result (self.new ≡ with_versions_for self.old home row.key row.versions) }
-        ensures before { IfOk result (λ before. before ≡ maps.get self.old (home, row.key)) }
-        ensures valid { IfOk result (λ before. IfSome before (IsRowOf row.key)) }
-        ensures err { OnErr result (self.new ≡ self.old) }
-        ensures absent { OnErr result (maps.get self.old (home, row.key) ≡ None) }
-        ensures memory { IsOkUnless result Fault.OutOfMemory }
-    {
-        let at = home.number() as usize;
-        homes::make_room(self.alloc, &mut self.homes, at)?;
-        let before = self.homes[at].swap_row(row)?;
-        Ok(before)
     }
 
     /// Merges the row into what is kept of its key for the home, in the place of that, and tells

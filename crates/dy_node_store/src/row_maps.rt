@@ -63,29 +63,6 @@ impl RowMap {
         self.rows.get(key)
     }
 
-    /// Puts the row in the place of its key's, and gives back what was there. Takes memory only
-    /// where the key had none.
-    pub fn swap_row(&mut self, row: Row) -> Result<Option<Row>, Fault>
-        requires { 0 < length row.versions }
-        ensures ok { OnOk result (self.new ≡ with_versions self.old row.key row.versions) }
-        ensures before { IfOk result (λ before. before ≡ maps.get self.old row.key) }
-        ensures valid { IfOk result (λ before. IfSome before (IsRowOf row.key)) }
-        ensures err { OnErr result (self.new ≡ self.old) }
-        ensures absent { OnErr result (maps.get self.old row.key ≡ None) }
-        ensures memory { IsOkUnless result Fault.OutOfMemory }
-    {
-        match self.rows.get_mut(row.key()) {
-            Some(kept) => {
-                let before = mem::replace(kept, row);
-                Ok(Some(before))
-            }
-            None => {
-                self.put_new(row)?;
-                Ok(None)
-            }
-        }
-    }
-
     // Puts the row at its key, which has none.
     fn put_new(&mut self, row: Row) -> Result<(), Fault>
         requires absent { maps.get self.old row.key ≡ None }

@@ -59,21 +59,6 @@ impl NodeStore {
         self.rows.row(key)
     }
 
-    /// Puts the row in the place of its key's, and gives back what was there. Takes memory only
-    /// where the key had none.
-    pub fn swap_row(&mut self, row: Row) -> Result<Option<Row>, Fault>
-        requires { 0 < length row.versions }
-        ensures ok { OnOk result (self.new ≡
-            record self.old { rows = with_versions self.old.rows row.key row.versions }) }
-        ensures before { IfOk result (λ before. before ≡ maps.get self.old.rows row.key) }
-        ensures valid { IfOk result (λ before. IfSome before (IsRowOf row.key)) }
-        ensures err { OnErr result (self.new ≡ self.old) }
-        ensures absent { OnErr result (maps.get self.old.rows row.key ≡ None) }
-        ensures memory { IsOkUnless result Fault.OutOfMemory }
-    {
-        self.rows.swap_row(row)
-    }
-
     /// Merges the row into what is kept of its key, in the place of that, and tells what was there.
     /// Takes no memory where the row is kept as it is.
     pub fn absorb(&mut self, row: &Row) -> Result<Placed, Fault>
