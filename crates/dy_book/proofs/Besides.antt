@@ -1,13 +1,15 @@
 -- One holding of a list in order that is replaced by another at the same place.
 use Rattle.std.proofs.Common.{◌≡◌, ℕ, ◌<◌, List, [], ◌∷◌, length, get_or, set, map, refl, sym, ap}
-use Rattle.std.proofs.Common.{◌∙◌, ◌≤◌, zero, suc, arith, insert}
+use Rattle.std.proofs.Common.{◌∙◌, ◌≤◌, zero, suc, arith, insert, Bool, true, false, cond, ◌||◌}
+use Rattle.std.proofs.lemmas.Bool.{false≢true}
 use Rattle.std.specs.declared.cmp.Ordering.TheVariants.{Less, Greater}
 use Rattle.std.specs.Ordering.{match_ordering, ordering_reverse}
-use Rattle.std.specs.List.{AllByRecursion}
+use Rattle.std.specs.List.{AllByRecursion, list_any}
 use Rattle.std.specs.List.Sorted.{IsStrictlySortedBy}
 use Rattle.dy_dots.specs.declared.dots.Dot.{Dot}
 use Rattle.dy_core.specs.Orders.{holding_cmp, put}
 use Rattle.dy_core.specs.declared.holdings.Holding.{Holding}
+use Rattle.dy_core.specs.inside.Meanings.{is_at, row_in}
 use Rattle.dy_core.proofs.Held.{IsSameSpot, holding_cmp_total, tie_from_spots}
 use Rattle.dy_book.specs.inside.Lists.{taken_out, taken_out_at}
 
@@ -17,6 +19,19 @@ all_at : (P : Holding → Type 0) (hs : List Holding) (at : ℕ) (d : Holding) �
 all_at P [] at d all lt = absurd (omega (arith, lt))
 all_at P (y ∷ ys) zero d all lt = all.0
 all_at P (y ∷ ys) (suc at) d all lt = all_at P ys at d all.1 (omega (arith, lt))
+
+-- where no holding is at the place, its row has no version
+pub nothing_there : (holder home : ℕ) (key : List ℕ) (hs : List Holding) →
+    list_any (is_at holder home key) hs ≡ false → row_in hs holder home key ≡ []
+nothing_there holder home key [] e = refl
+nothing_there holder home key (y ∷ ys) e =
+    go (is_at holder home key y) e (nothing_there holder home key ys)
+  where
+    go : (b : Bool) → (b || list_any (is_at holder home key) ys) ≡ false →
+        (list_any (is_at holder home key) ys ≡ false → row_in ys holder home key ≡ []) →
+        cond b y.row.versions (row_in ys holder home key) ≡ []
+    go true e below = absurd (false≢true (sym e))
+    go false e below = below e
 
 -- putting one at the place of a holding replaces that
 pub put_there : (hs : List Holding) (at : ℕ) (d x : Holding) → IsStrictlySortedBy holding_cmp hs →

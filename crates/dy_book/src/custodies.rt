@@ -1,10 +1,11 @@
 // What is held of one key, place by place.
-ghost use Rattle.std.specs.Prelude.{◌≡◌, ◌<◌, ◌++◌, map, length, slice_index_or, true, []};
+ghost use Rattle.std.specs.Prelude.{◌≡◌, ◌<◌, ◌++◌, map, length, slice_index_or, false, true, []};
 ghost use Rattle.std.specs.Prelude.{vec_len, vec_capacity, IfOk, OnOk, OnErr, IfSome, IfNone};
 ghost use Rattle.std.specs.Prelude.{IsOkUnless, MatchOption};
 ghost use Rattle.std.specs.List.{list_any};
 ghost use Rattle.std.specs.List.Sorted.{IsStrictlySortedBy};
-ghost use Rattle.dy_siblings.specs.Siblings.{AreOneByDot, IsSameRow, merge};
+ghost use Rattle.dy_siblings.specs.Siblings.{AreOneByDot, IsBeside, IsSameRow, merge};
+ghost use Rattle.dy_siblings.specs.Versions.{VersionParts};
 ghost use Rattle.dy_core.specs.Orders.{holding_cmp, put};
 ghost use Rattle.dy_core.specs.inside.Meanings.{is_at, row_in};
 ghost use Rattle.dy_core.specs.declared.holdings.Holding.{Holding as HoldingParts};
@@ -123,6 +124,8 @@ impl Custody {
             IsSameRow self.new.row.versions (merge self.old.row.versions row.now.versions))) }
         ensures back { IfOk result (λ put. IfSome put (λ dot.
             without self.new.row.versions dot ≡ self.old.row.versions)) }
+        ensures none { IfOk result (λ put. IfNone put ((v : VersionParts) →
+            IsBeside self.old.row.versions row.now.versions v → ⊥)) }
         ensures same { IfOk result (λ put. IfNone put (self.new ≡ self.old)) }
         ensures err { OnErr result (self.new ≡ self.old) }
         ensures memory { IsOkUnless result Fault.OutOfMemory }
@@ -183,12 +186,10 @@ pub(crate) fn find<'a>(
     ensures some { MatchOption result (row_in places.now holder home key.now ≡ [])
         (λ c. c.now.row.versions ≡ row_in places.now holder home key.now) }
 {
-    for custody in places {
-        if custody.is_at(holder, home, key) {
-            return Some(custody);
-        }
+    match index_of(places, holder, home, key) {
+        Some(at) => Some(&places[at]),
+        None => None,
     }
-    None
 }
 
 // Where in the list the custody at the place is.
@@ -198,6 +199,7 @@ fn index_of(places: &[Custody], holder: NodeId, home: NodeId, key: &Key) -> Opti
         is_at holder home key.now (slice_index_or places.now at c) ≡ true) }
     ensures row { IfSome result (λ at. (c : HoldingParts) →
         row_in places.now holder home key.now ≡ (slice_index_or places.now at c).row.versions) }
+    ensures none { IfNone result (list_any (is_at holder home key.now) places.now ≡ false) }
 {
     for (at, custody) in places.iter().enumerate() {
         if custody.is_at(holder, home, key) {
@@ -224,6 +226,9 @@ pub(crate) fn put_beside(
     ensures back { IfOk result (λ put. IfSome put (λ p.
         taken_out_at places.new p.0 p.1 ≡ places.old)) }
     ensures bound { IfOk result (λ put. IfSome put (λ p. p.0 < length places.new)) }
+    ensures none { IfOk result (λ put. IfNone put ((v : VersionParts) →
+        list_any (is_at holder home row.now.key) places.old ≡ true →
+        IsBeside (row_in places.old holder home row.now.key) row.now.versions v → ⊥)) }
     ensures same { IfOk result (λ put. IfNone put (places.new ≡ places.old)) }
     ensures err { OnErr result (places.new ≡ places.old) }
     ensures memory { IsOkUnless result Fault.OutOfMemory }

@@ -174,11 +174,14 @@ impl<J: Naming> Book<J> {
         Ok(past)
     }
 
-    // A copy of the key, which shares what the index has of it.
+    // A copy of the key, which shares what the index has of it, where it does not lie in place.
     fn own_copy(&self, key: &Key) -> Result<Key, Fault>
         ensures value { IfOk result (λ copy. copy ≡ key.now) }
         ensures memory { IsOkUnless result Fault.OutOfMemory }
     {
+        if let Some(copy) = key.short() {
+            return Ok(copy);
+        }
         match self.keys.get_key_value(key) {
             Some((own, _part)) => own.try_clone(self.alloc),
             None => key.try_clone(self.alloc),

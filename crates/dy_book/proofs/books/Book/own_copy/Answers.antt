@@ -3,9 +3,9 @@ use Rattle.std.proofs.Common.{◌≡◌, List, ℕ, IfOk, sym, subst}
 use Rattle.dy_core.proofs.Held.{keys_tie}
 use Rattle.dy_book.proofs.books.Book.own_copy.Goals as goal
 
-pub returns-in-Some-clause-value : goal.returns-in-Some-clause-value
-returns-in-Some-clause-value g c =
-    let same : c.args.key.now ≡ c.in-Some.own.now =
-    keys_tie c.args.key.now c.in-Some.own.now c.in-Some.ensures.same_key in
+pub returns-in-Some-get_key_value-clause-value : goal.returns-in-Some-get_key_value-clause-value
+returns-in-Some-get_key_value-clause-value g c =
+    let same : c.args.key.now ≡ c.in-Some-get_key_value.own.now =
+    keys_tie c.args.key.now c.in-Some-get_key_value.own.now c.in-Some-get_key_value.ensures.same_key in
     subst (λ (k : List ℕ). IfOk c.try_clone.result (λ copy. copy ≡ k)) (sym same)
     c.try_clone.ensures.value
