@@ -16,7 +16,7 @@ use dy_dots::{Context, Fault};
 use dy_preference::{Preference, preference};
 use dy_shares::{Naming, Seen, SessionShare};
 use dy_siblings::{Key, Row, Value};
-use dy_transport::Transport;
+use dy_transport::{AnswerVec, Transport};
 use std::sync::Wait;
 
 impl<J: Naming> Cluster<J> {
@@ -36,7 +36,7 @@ impl<J: Naming> Cluster<J> {
         PutFault {
             fault,
             dot: None,
-            answers: Vec::new(self.alloc),
+            answers: AnswerVec::new(self.alloc),
         }
     }
 
@@ -47,7 +47,7 @@ impl<J: Naming> Cluster<J> {
     {
         GetFault {
             fault,
-            answers: Vec::new(self.alloc),
+            answers: AnswerVec::new(self.alloc),
         }
     }
 

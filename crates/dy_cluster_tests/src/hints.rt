@@ -5,7 +5,7 @@ use crate::workers::with_five_workers;
 use dy_cluster::{Client, Cluster, Connection, Fault, Naming, NodeId, Transport};
 use dy_handoff::{Pass, pass, worker};
 use dy_mailboxes::Open;
-use dy_transport::AnswerRead;
+use dy_transport::AnswerVec;
 use std::alloc::Global;
 use std::sync::atomic::{AtomicU64, Ordering};
 use std::sync::{Mutex, Wait};
@@ -45,7 +45,7 @@ fn turn<J: Naming, T: Transport<J>, R: Wait>(
     rt: &R,
     alloc: Global,
     connection: &mut Connection<'_, J, T>,
-) -> Result<Vec<AnswerRead>, Fault> {
+) -> Result<AnswerVec, Fault> {
     let done = get_over(rt, alloc, connection)?;
     put_over(rt, alloc, connection, 2, &done.context)
 }

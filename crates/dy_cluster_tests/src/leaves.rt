@@ -12,7 +12,7 @@ use dy_cluster::{
     Transport, Value,
 };
 use dy_mailboxes::{Open, Post};
-use dy_transport::AnswerRead;
+use dy_transport::AnswerVec;
 use std::alloc::Global;
 use std::marker::Brand;
 use std::sync::{Mutex, Wait};
@@ -30,7 +30,7 @@ fn put_at<J: Naming, T: Transport<J>, R: Wait>(
     key: &Key,
     context: &Context,
     value: Value,
-) -> Result<Vec<AnswerRead>, Fault>
+) -> Result<AnswerVec, Fault>
     requires { T.told transport.old ≡ nothing_told MAX_NODES }
 {
     match cluster.put(rt, transport, w, session, key, context, Some(value)) {
@@ -47,7 +47,7 @@ fn put_a<J: Naming, T: Transport<J> + Drop, R: Wait>(
     mut transport: T,
     w: u8,
     session: &mut Session<J>,
-) -> Result<Vec<AnswerRead>, Fault>
+) -> Result<AnswerVec, Fault>
     requires { T.told transport ≡ nothing_told MAX_NODES }
 {
     let key = Key::new(alloc, b"a")?;
@@ -73,7 +73,7 @@ fn put_over_post<J: Naming, R: Wait>(
     post: Post<J>,
     w: u8,
     session: &mut Session<J>,
-) -> Result<Vec<AnswerRead>, Fault> {
+) -> Result<AnswerVec, Fault> {
     let mailboxes = cluster.mailboxes(post)?;
     put_a(rt, alloc, cluster, mailboxes, w, session)
 }

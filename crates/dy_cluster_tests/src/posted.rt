@@ -1,7 +1,7 @@
 // Puts and gets of the key `a` over a connection, and their answers as texts.
 use dy_cluster::{Connection, Context, Fault, Key, Naming, Transport, Value};
 use dy_coord::GetDone;
-use dy_transport::AnswerRead;
+use dy_transport::{AnswerRead, AnswerVec};
 use std::alloc::Global;
 use std::sync::{Mutex, Wait};
 
@@ -12,7 +12,7 @@ pub fn put_over<J: Naming, T: Transport<J>, R: Wait>(
     connection: &mut Connection<'_, J, T>,
     w: u8,
     context: &Context,
-) -> Result<Vec<AnswerRead>, Fault> {
+) -> Result<AnswerVec, Fault> {
     let key = Key::new(alloc, b"a")?;
     let value = Value::new(alloc, b"x".as_slice())?;
     let done = connection.put_to(rt, w, &key, context, value)?;

@@ -9,7 +9,7 @@ use dy_core::{Place, PlaceVec};
 use dy_dots::{Context, Dot, Fault};
 use dy_shares::{Naming, Receipt, Seen};
 use dy_siblings::{Key, Row, Value};
-use dy_transport::AnswerRead;
+use dy_transport::AnswerVec;
 use std::alloc::Global;
 
 /// A get that was answered: the merged row and its context, how many steps its session knew of
@@ -21,7 +21,7 @@ pub struct GetDone<J: Naming> {
     pub since: usize,
     pub from: PlaceVec,
     pub seen: Vec<Seen<J>>,
-    pub answers: Vec<AnswerRead>,
+    pub answers: AnswerVec,
 }
 
 impl<J: Naming> GetDone<J> {

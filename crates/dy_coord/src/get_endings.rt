@@ -13,7 +13,7 @@ use dy_dots::{Context, Fault};
 use dy_quorum::{Gathering, merge_all};
 use dy_shares::{Naming, Seen, SessionShare};
 use dy_siblings::Row;
-use dy_transport::AnswerRead;
+use dy_transport::AnswerVec;
 use std::alloc::Global;
 
 // Merges the rows of these answers, and tells the session of them.
@@ -76,7 +76,7 @@ fn tell<J: Naming>(
 pub(crate) fn finish<J: Naming>(
     alloc: Global,
     gathering: Gathering<J>,
-    answers: Vec<AnswerRead>,
+    answers: AnswerVec,
     session: &mut SessionShare<J>,
 ) -> Result<GetDone<J>, GetFault>
     requires some { 1 ≤ J.r }

@@ -1,14 +1,14 @@
 ghost use Rattle.std.specs.Prelude.{◌≡◌, []};
 
 use dy_dots::Fault;
-use dy_transport::AnswerRead;
+use dy_transport::AnswerVec;
 use std::alloc::Global;
 
 /// A get that was refused, with each answer that was read.
 #[derive(Drop)]
 pub struct GetFault {
     pub fault: Fault,
-    pub answers: Vec<AnswerRead>,
+    pub answers: AnswerVec,
 }
 
 impl From<GetFault> for Fault {
@@ -27,7 +27,7 @@ impl GetFault {
     {
         GetFault {
             fault,
-            answers: Vec::new(alloc),
+            answers: AnswerVec::new(alloc),
         }
     }
 }

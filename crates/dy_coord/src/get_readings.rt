@@ -1,5 +1,5 @@
 ghost use Rattle.std.specs.Prelude.{◌≡◌, ◌<◌, ◌≤◌, ◌+◌, ◌*◌, ℕ, List, [], ◌∷◌, ◌++◌, map};
-ghost use Rattle.std.specs.Prelude.{length, vec_len, vec_capacity, IfNone, IfSome};
+ghost use Rattle.std.specs.Prelude.{length, IfNone, IfSome};
 ghost use Rattle.std.specs.List.{All, Contains};
 ghost use Rattle.dy_dots.specs.declared.nodes.TheConstants.{MAX_NODES};
 ghost use Rattle.dy_preference.specs.Preferences.{IsPreferred, home_for};
@@ -21,7 +21,7 @@ use dy_quorum::Gathering;
 use dy_reads::{Request, ask_homes, read_next};
 use dy_shares::{Naming, Seen, Since};
 use dy_siblings::Key;
-use dy_transport::{AnswerKind, AnswerRead, Transport};
+use dy_transport::{AnswerKind, AnswerRead, AnswerVec, Transport};
 use std::sync::Wait;
 
 // The row in an answer, where it is one of rows.
@@ -44,13 +44,13 @@ fn read_rows<J: Naming, T: Transport<J>, R: Wait>(
     since: &Since<J>,
     assign: &mut Assign<'_>,
     gathering: &mut Gathering<J>,
-    answers: &mut Vec<AnswerRead>,
+    answers: &mut AnswerVec,
 )
     requires fresh { (T.told transport.old).replies ≡ [] }
     requires room { length (T.told transport.old).asks + length assign.old
         ≤ (T.told transport.old).room }
-    requires answers_room { vec_len answers.old
-        + 2 * (length (T.told transport.old).asks + length assign.old) ≤ vec_capacity answers.old }
+    requires answers_room { length answers.old.items
+        + 2 * (length (T.told transport.old).asks + length assign.old) ≤ answers.old.capacity }
     requires gathering_room { 1 + 2 * (length (T.told transport.old).asks + length assign.old)
         ≤ gathering.old.room }
     requires one { length gathering.old.seens ≡ 1 }
@@ -99,7 +99,7 @@ pub(crate) fn gather<J: Naming, T: Transport<J>, R: Wait>(
     coordinator: NodeId,
     own: Seen<J>,
     gathering: &mut Gathering<J>,
-    answers: &mut Vec<AnswerRead>,
+    answers: &mut AnswerVec,
 )
     requires valid { IsPreferred list.now }
     requires fresh_asks { (T.told transport.old).asks ≡ [] }
@@ -110,7 +110,7 @@ pub(crate) fn gather<J: Naming, T: Transport<J>, R: Wait>(
     requires none { gathering.old.seens ≡ [] }
     requires r { 1 ≤ gathering.old.r }
     requires no_answers { answers.old.items ≡ [] }
-    requires answers_room { 2 * length list.now.nodes ≤ vec_capacity answers.old }
+    requires answers_room { 2 * length list.now.nodes ≤ answers.old.capacity }
     requires gathering_room { 2 * length list.now.nodes ≤ gathering.old.room }
     ensures collects { Collects list.now key.now gathering.old.r since.now coordinator own
         (T.told transport.new) gathering.new.seens answers.new.items }

@@ -1,5 +1,4 @@
 ghost use Rattle.std.specs.Prelude.{◌≡◌, ◌≤◌, ◌*◌, [], length, IfOk, IfErr, OnErr, IsOkUnless};
-ghost use Rattle.std.specs.Prelude.{vec_capacity};
 ghost use Rattle.dy_dots.specs.declared.nodes.TheConstants.{MAX_NODES};
 ghost use Rattle.dy_preference.specs.Preferences.{IsPreferred};
 ghost use Rattle.dy_shares.specs.Shares.{since_of, with_get};
@@ -18,7 +17,7 @@ use dy_quorum::Gathering;
 use dy_reads::{Somewhere, look_somewhere};
 use dy_shares::{Naming, SessionShare};
 use dy_siblings::Key;
-use dy_transport::{AnswerRead, Transport};
+use dy_transport::{AnswerVec, Transport};
 use std::alloc::Global;
 use std::sync::Wait;
 
@@ -27,16 +26,16 @@ fn prepare<J: Naming>(
     alloc: Global,
     list: &Preference,
     r: u8,
-) -> Result<(Vec<AnswerRead>, Gathering<J>), Fault>
+) -> Result<(AnswerVec, Gathering<J>), Fault>
     ensures none { IfOk result (λ p. p.0.items ≡ []) }
-    ensures room { IfOk result (λ p. 2 * length list.now.nodes ≤ vec_capacity p.0) }
+    ensures room { IfOk result (λ p. 2 * length list.now.nodes ≤ p.0.capacity) }
     ensures empty { IfOk result (λ p. p.1
         ≡ record { r = r; room = 2 * length list.now.nodes; seens = [] }) }
     ensures valid { IsPreferred list.now }
     ensures memory { IsOkUnless result Fault.OutOfMemory }
 {
     let room = most_answers(list);
-    let answers = Vec::with_capacity(alloc, room)?;
+    let answers = AnswerVec::with_capacity(alloc, room)?;
     let gathering = Gathering::new(alloc, r as usize, room)?;
     Ok((answers, gathering))
 }

@@ -1,5 +1,5 @@
 ghost use Rattle.std.specs.Prelude.{◌≡◌, ◌≤◌, ◌+◌, ◌*◌, ◌++◌, [], ◌∷◌, ℕ, IsTrue, length, map};
-ghost use Rattle.std.specs.Prelude.{nat_eq, vec_capacity, vec_len};
+ghost use Rattle.std.specs.Prelude.{nat_eq};
 ghost use Rattle.std.specs.List.{All, IsDistinct};
 ghost use Rattle.dy_dots.specs.Dots.{same_dot};
 ghost use Rattle.dy_siblings.specs.Siblings.{has_dot};
@@ -21,7 +21,7 @@ use dy_quorum::Tally;
 use dy_reads::{Request, read_next};
 use dy_shares::{Naming, Receipt};
 use dy_siblings::Row;
-use dy_transport::{AnswerRead, Transport};
+use dy_transport::{AnswerVec, Transport};
 use std::sync::Wait;
 
 // How many answers a put, or a get, makes room for: it reads two of each node at most.
@@ -72,13 +72,13 @@ pub(crate) fn read_put<J: Naming, T: Transport<J>, R: Wait>(
     held: NodeId,
     assign: &mut Assign<'_>,
     tally: &mut Tally<J>,
-    answers: &mut Vec<AnswerRead>,
+    answers: &mut AnswerVec,
 )
     requires fresh { (T.told transport.old).replies ≡ [] }
     requires room { length (T.told transport.old).asks + length assign.old
         ≤ (T.told transport.old).room }
-    requires answers_room { vec_len answers.old
-        + 2 * (length (T.told transport.old).asks + length assign.old) ≤ vec_capacity answers.old }
+    requires answers_room { length answers.old.items
+        + 2 * (length (T.told transport.old).asks + length assign.old) ≤ answers.old.capacity }
     requires tally_room { 1 + 2 * (length (T.told transport.old).asks + length assign.old)
         ≤ tally.old.room }
     requires dot { IsTrue (has_dot row.now.versions dot) }

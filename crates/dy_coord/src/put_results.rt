@@ -3,7 +3,7 @@ ghost use Rattle.dy_shares.specs.Shares.{own_homes};
 
 use dy_dots::{Dot, Fault};
 use dy_shares::{Naming, Receipt};
-use dy_transport::AnswerRead;
+use dy_transport::AnswerVec;
 use std::alloc::Global;
 
 /// A put that was acknowledged: its dot, the number of the step of its ack, the receipts that were
@@ -13,7 +13,7 @@ pub struct PutDone<J: Naming> {
     pub dot: Dot,
     pub at: usize,
     pub spent: Vec<Receipt<J>>,
-    pub answers: Vec<AnswerRead>,
+    pub answers: AnswerVec,
 }
 
 impl<J: Naming> PutDone<J> {
@@ -38,7 +38,7 @@ impl<J: Naming> PutDone<J> {
 pub struct PutFault {
     pub fault: Fault,
     pub dot: Option<Dot>,
-    pub answers: Vec<AnswerRead>,
+    pub answers: AnswerVec,
 }
 
 impl From<PutFault> for Fault {
@@ -59,7 +59,7 @@ impl PutFault {
         PutFault {
             fault,
             dot: None,
-            answers: Vec::new(alloc),
+            answers: AnswerVec::new(alloc),
         }
     }
 }

@@ -1,5 +1,5 @@
 ghost use Rattle.std.specs.Prelude.{◌≡◌, ◌<◌, ◌≤◌, ◌+◌, ◌*◌, [], ℕ, length, IsTrue, IfOk};
-ghost use Rattle.std.specs.Prelude.{IsOkUnless, OnErr, vec_capacity};
+ghost use Rattle.std.specs.Prelude.{IsOkUnless, OnErr};
 ghost use Rattle.dy_dots.specs.declared.faults.Fault.TheVariants as Fault;
 ghost use Rattle.dy_dots.specs.declared.nodes.TheConstants.{MAX_NODES};
 ghost use Rattle.dy_siblings.specs.Siblings.{has_dot};
@@ -24,7 +24,7 @@ use dy_quorum::Tally;
 use dy_reads::{Request, Somewhere, ask_homes, begin_somewhere};
 use dy_shares::{Naming, Receipt, SessionShare};
 use dy_siblings::{Key, Row, Value};
-use dy_transport::{AnswerKind, AnswerRead, Transport};
+use dy_transport::{AnswerKind, AnswerRead, AnswerVec, Transport};
 use std::alloc::Global;
 use std::sync::Wait;
 
@@ -33,13 +33,13 @@ fn prepare<J: Naming>(
     alloc: Global,
     list: &Preference,
     w: u8,
-) -> Result<(Vec<AnswerRead>, Tally<J>), Fault>
-    ensures ok { IfOk result (λ p. (p.0.items ≡ []) × (2 * length list.now.nodes ≤ vec_capacity p.0)
+) -> Result<(AnswerVec, Tally<J>), Fault>
+    ensures ok { IfOk result (λ p. (p.0.items ≡ []) × (2 * length list.now.nodes ≤ p.0.capacity)
         × (p.1 ≡ record { w = w; room = 2 * length list.now.nodes; added = [] })) }
     ensures memory { IsOkUnless result Fault.OutOfMemory }
 {
     let room = most_answers(list);
-    let answers = Vec::with_capacity(alloc, room)?;
+    let answers = AnswerVec::with_capacity(alloc, room)?;
     let tally = Tally::new(alloc, w as usize, room)?;
     Ok((answers, tally))
 }
@@ -54,7 +54,7 @@ fn spread<J: Naming, T: Transport<J>, R: Wait>(
     dot: Dot,
     own: Receipt<J>,
     tally: &mut Tally<J>,
-    answers: &mut Vec<AnswerRead>,
+    answers: &mut AnswerVec,
 )
     requires fresh_asks { (T.told transport.old).asks ≡ [] }
     requires fresh_replies { (T.told transport.old).replies ≡ [] }
@@ -67,7 +67,7 @@ fn spread<J: Naming, T: Transport<J>, R: Wait>(
         ≡ receipt_parts row.now.key dot coordinator (home_for (homes_in list.now) coordinator) }
     requires none { tally.old.added ≡ [] }
     requires no_answers { answers.old.items ≡ [] }
-    requires answers_room { 2 * length list.now.nodes ≤ vec_capacity answers.old }
+    requires answers_room { 2 * length list.now.nodes ≤ answers.old.capacity }
     requires tally_room { 2 * length list.now.nodes ≤ tally.old.room }
     ensures spreads { Spreads list.now row.now dot coordinator
         (T.told transport.new) tally.new.added answers.new.items }
@@ -109,7 +109,7 @@ fn conclude<J: Naming, T: Transport<J>, R: Wait>(
     dot: Dot,
     w: u8,
     tally: Tally<J>,
-    answers: Vec<AnswerRead>,
+    answers: AnswerVec,
     session: &mut SessionShare<J>,
 ) -> Result<PutDone<J>, PutFault>
     requires room { length (T.told transport.old).tries

@@ -9,7 +9,7 @@ use crate::refusals::Refusal;
 use dy_core::PlaceVec;
 use dy_dots::{Context, Dot, Fault, NodeId};
 use dy_siblings::{Row, Version};
-use dy_transport::AnswerRead;
+use dy_transport::AnswerVec;
 use std::fmt;
 
 /// The word that a command's line begins with.
@@ -88,7 +88,7 @@ pub enum Outcome {
     Stored {
         word: Word,
         dot: Dot,
-        answers: Vec<AnswerRead>,
+        answers: AnswerVec,
     },
     /// A get was answered: its context, whose rows were used, and the merged row.
     Read {
@@ -100,7 +100,7 @@ pub enum Outcome {
     Lacking {
         word: Word,
         dot: Option<Dot>,
-        answers: Vec<AnswerRead>,
+        answers: AnswerVec,
     },
     /// The command was refused, a put or a delete maybe after its version was made.
     Refused {

@@ -1,5 +1,5 @@
 ghost use Rattle.std.specs.Prelude.{◌≡◌, ◌<◌, ◌≤◌, ◌+◌, ◌*◌, ℕ, [], ◌∷◌, ◌++◌, length};
-ghost use Rattle.std.specs.Prelude.{vec_len, vec_capacity, IfNone, IfSome};
+ghost use Rattle.std.specs.Prelude.{IfNone, IfSome};
 ghost use Rattle.std.specs.List.{All};
 ghost use Rattle.dy_transport.specs.Told.{AllAnswered, Told, with_none};
 ghost use Rattle.dy_reads.specs.Lists.{homes_in};
@@ -12,7 +12,7 @@ use dy_dots::NodeId;
 use dy_node::Answer;
 use dy_preference::{Assign, Preference};
 use dy_shares::Naming;
-use dy_transport::{AnswerKind, AnswerRead, Transport};
+use dy_transport::{AnswerKind, AnswerRead, AnswerVec, Transport};
 use std::sync::Wait;
 
 /// Asks each home for itself, but for the one that the coordinator holds for, before any answer is
@@ -74,13 +74,13 @@ pub fn read_next<J: Naming, T: Transport<J>, R: Wait>(
     transport: &mut T,
     request: &Request<'_, J>,
     assign: &mut Assign<'_>,
-    answers: &mut Vec<AnswerRead>,
+    answers: &mut AnswerVec,
 ) -> Option<(Place, Answer<J>)>
     requires room { length (T.told transport.old).asks + length assign.old
         ≤ (T.told transport.old).room }
     requires may_ask { MayStandIn J.ring J.n request.now (T.told transport.old).asks assign.old }
     requires answers_room { MayCome (T.told transport.old) →
-        vec_len answers.old < vec_capacity answers.old }
+        length answers.old.items < answers.old.capacity }
     ensures none { IfNone result ((T.told transport.new ≡ with_none (T.told transport.old))
         × AllAnswered (T.told transport.new)
         × (assign.new ≡ assign.old) × (answers.new ≡ answers.old)) }
@@ -91,8 +91,8 @@ pub fn read_next<J: Naming, T: Transport<J>, R: Wait>(
     ensures listed { IfSome result
         (λ r. answers.new.items
         ≡ answers.old.items ++ answer_read r.0.holder r.0.home r.1 ∷ []) }
-    ensures count { IfSome result (λ _. vec_len answers.new ≡ vec_len answers.old + 1) }
-    ensures capacity { vec_capacity answers.new ≡ vec_capacity answers.old }
+    ensures count { IfSome result (λ _. length answers.new.items ≡ length answers.old.items + 1) }
+    ensures capacity { answers.new.capacity ≡ answers.old.capacity }
 {
     // Taken apart, since the proof covers no copy of a place while the answer beside it is lent.
     let Some((Place { holder, home }, answer)) = transport.next_reply(rt) else {

@@ -43,7 +43,7 @@ kind_text Stored = codes "stored"
 kind_text Rows = codes "rows"
 kind_text Down = codes "down"
 kind_text NoAnswer = codes "noanswer"
-kind_text (Refused f) = codes "E" ++ decimal (fault_number f)
+kind_text (Refused number) = codes "E" ++ decimal number
 
 module _ {J : Type 0} where
   -- the kind of an answer
@@ -52,4 +52,4 @@ module _ {J : Type 0} where
   kind_of (answer.Rows seen) = Rows
   kind_of answer.Down = Down
   kind_of answer.NoAnswer = NoAnswer
-  kind_of (answer.Refused f) = Refused f
+  kind_of (answer.Refused f) = Refused (fault_number f)

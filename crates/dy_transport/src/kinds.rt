@@ -5,17 +5,19 @@ use dy_core::Place;
 use dy_dots::Fault;
 use dy_node::Answer;
 use dy_shares::Naming;
+use smallvec::SmallVec;
 use std::fmt;
 
 /// What kind of answer it was, without what came with it. It prints as `stored`, `rows`, `down`,
 /// `noanswer`, or the number of the refusal, as `E12`.
-#[derive(Clone, Copy, Debug, PartialEq, Eq)]
+#[derive(Clone, Copy, Debug, Default, PartialEq, Eq)]
 pub enum AnswerKind {
     Stored,
     Rows,
     Down,
+    #[default]
     NoAnswer,
-    Refused(Fault),
+    Refused(u8),
 }
 
 impl AnswerKind {
@@ -28,7 +30,7 @@ impl AnswerKind {
             Answer::Rows(_) => AnswerKind::Rows,
             Answer::Down => AnswerKind::Down,
             Answer::NoAnswer => AnswerKind::NoAnswer,
-            Answer::Refused(fault) => AnswerKind::Refused(*fault),
+            Answer::Refused(fault) => AnswerKind::Refused(number_of(*fault)),
         }
     }
 }
@@ -42,7 +44,7 @@ impl fmt::Display for AnswerKind {
             AnswerKind::Rows => f.write_str("rows"),
             AnswerKind::Down => f.write_str("down"),
             AnswerKind::NoAnswer => f.write_str("noanswer"),
-            AnswerKind::Refused(fault) => write!(f, "E{}", number_of(*fault)),
+            AnswerKind::Refused(number) => write!(f, "E{number}"),
         }
     }
 }
@@ -75,8 +77,12 @@ fn number_of(fault: Fault) -> u8
 }
 
 /// An answer as a call lists it: who answered for which home, and what kind of answer it was.
-#[derive(Clone, Copy, Debug, PartialEq, Eq)]
+#[derive(Clone, Copy, Debug, Default, PartialEq, Eq)]
 pub struct AnswerRead {
     pub place: Place,
     pub kind: AnswerKind,
 }
+
+/// The answers of a call, in the value itself where they are at most twelve: two of each of six
+/// nodes, where a call reads no more of one.
+pub type AnswerVec = SmallVec<AnswerRead, 12>;

@@ -14,7 +14,7 @@ mod tries;
 
 pub use asked::{Asked, What};
 pub use directs::Direct;
-pub use kinds::{AnswerKind, AnswerRead};
+pub use kinds::{AnswerKind, AnswerRead, AnswerVec};
 pub use lines::{Line, Waiting};
 pub use reaches::Reach;
 pub use replies::Reply;

@@ -1,6 +1,6 @@
 -- There is room for all that may be asked and read, and what was read is the coordinator's own row
 -- and what the replies bring.
-use Rattle.std.proofs.Common.{◌≡◌, ◌≤◌, ◌∷◌, List, length, arith, sym, ◌∙◌}
+use Rattle.std.proofs.Common.{◌≡◌, ◌≤◌, ◌∷◌, List, length, arith, sym, ◌∙◌, length-append}
 use Rattle.std.proofs.Common.{[], refl, ap, subst}
 use Rattle.std.proofs.lemmas.List.Elements.{All-cons, All-nil}
 use Rattle.std.specs.List.{All, Contains}
@@ -51,9 +51,9 @@ read_rows-requires-clause-answers_room g c =
       c.requires.fresh_asks,
       c.home_for-held.ensures.value,
       c.new-assign.ensures.value,
-      c.push_reserved.ensures.len,
+      ap length c.push_reserved.ensures.items ∙ length-append c.args.answers.now.items _,
       c.push_reserved.ensures.capacity,
-    ) (omega (arith, c.args.answers.now.ok))
+    ) (omega arith)
 
 pub read_rows-requires-clause-gathering_room : goal.read_rows-requires-clause-gathering_room
 read_rows-requires-clause-gathering_room g c =

@@ -1,4 +1,4 @@
-use Rattle.std.proofs.Common.{◌≡◌, ◌≤◌, ◌+◌, ◌++◌, List, ℕ, length, map, vec_len, vec_capacity}
+use Rattle.std.proofs.Common.{◌≡◌, ◌≤◌, ◌+◌, ◌++◌, List, ℕ, length, map}
 use Rattle.std.specs.List.{All, Contains}
 use Rattle.dy_quorum.specs.Gatherings.{first_answers}
 use Rattle.dy_transport.specs.Snapshots.{snapshot_of}
@@ -28,6 +28,6 @@ invariant-reading g l =
           All (λ a. Contains homes a.home) told.asks
           × All (λ s. Contains homes s.home) l.gathering.seens;
       answers : l.answers.items ≡ l.initial.answers.items ++ map as_read told.replies;
-      answers_len : vec_len l.answers ≡ vec_len l.initial.answers + length told.replies;
-      answers_room : vec_capacity l.answers ≡ vec_capacity l.initial.answers;
+      answers_len : length l.answers.items ≡ length l.initial.answers.items + length told.replies;
+      answers_room : l.answers.capacity ≡ l.initial.answers.capacity;
     }

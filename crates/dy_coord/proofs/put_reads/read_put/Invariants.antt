@@ -1,4 +1,4 @@
-use Rattle.std.proofs.Common.{◌≡◌, ◌≤◌, ◌+◌, ◌++◌, ◌∷◌, length, map, vec_len, vec_capacity}
+use Rattle.std.proofs.Common.{◌≡◌, ◌≤◌, ◌+◌, ◌++◌, ◌∷◌, length, map}
 use Rattle.dy_shares.specs.Shares.{receipt_parts}
 use Rattle.dy_transport.specs.Snapshots.{snapshot_of}
 use Rattle.dy_transport.specs.declared.asked.What.TheVariants.{Store}
@@ -25,6 +25,6 @@ invariant-reading g l =
       tally_room : l.tally.room ≡ l.initial.tally.room;
       w : l.tally.w ≡ l.initial.tally.w;
       answers : l.answers.items ≡ l.initial.answers.items ++ map as_read told.replies;
-      answers_len : vec_len l.answers ≡ vec_len l.initial.answers + length told.replies;
-      answers_room : vec_capacity l.answers ≡ vec_capacity l.initial.answers;
+      answers_len : length l.answers.items ≡ length l.initial.answers.items + length told.replies;
+      answers_room : l.answers.capacity ≡ l.initial.answers.capacity;
     }

@@ -1,6 +1,6 @@
 -- From the homes on: those asked and those left are few and all different, may hold, and are asked
 -- for one row; so a put reads until nothing is left, by the rule.
-use Rattle.std.proofs.Common.{◌≡◌, ◌++◌, ◌∷◌, ℕ, List, length, nat_eq, arith, sym, ◌∙◌, refl, ap}
+use Rattle.std.proofs.Common.{◌≡◌, ◌++◌, ◌∷◌, ℕ, List, length, nat_eq, arith, sym, ◌∙◌, refl, ap, length-append}
 use Rattle.std.proofs.Common.{subst}
 use Rattle.std.specs.List.{All, IsDistinct}
 use Rattle.dy_preference.specs.Preferences.{home_for, stand_ins_of}
@@ -51,9 +51,9 @@ read_put-requires-clause-answers_room g c =
       c.requires.fresh_asks,
       c.home_for-held.ensures.value,
       c.new-assign.ensures.value,
-      c.push_reserved.ensures.len,
+      ap length c.push_reserved.ensures.items ∙ length-append c.args.answers.now.items _,
       c.push_reserved.ensures.capacity,
-    ) (omega (arith, c.args.answers.now.ok))
+    ) (omega arith)
 
 pub read_put-requires-clause-tally_room : goal.read_put-requires-clause-tally_room
 read_put-requires-clause-tally_room g c =
