@@ -42,7 +42,7 @@ pub record HasCover (layout : Layout) (w : World) (key : List ℕ) (d : Dot) (co
   pub places : List Place
   pub is_cover : IsCover layout w key d count places
 
--- each ack that w homes were told of has a cover of w places (Dynamo, sections 4.5 and 4.6)
+-- each ack has a cover of w places, as many as its put named homes (Dynamo, sections 4.5 and 4.6)
 abbrev pub AcksAreCovered : Layout → World → Type 0
 AcksAreCovered layout w = All (λ a. HasCover layout w a.key a.dot a.w) w.acks
 
