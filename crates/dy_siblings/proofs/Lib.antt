@@ -9,3 +9,4 @@ pub mod Walking
 pub mod Merges
 pub mod Agreeing
 pub mod Conflicts
+pub mod Following

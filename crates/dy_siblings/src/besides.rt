@@ -1,8 +1,9 @@
 // The one version that a row has more than another, side by side with all of that.
-ghost use Rattle.std.specs.Prelude.{◌≡◌, ◌||◌, IfSome, IfNone};
+ghost use Rattle.std.specs.Prelude.{◌≡◌, ◌||◌, IfSome, IfNone, false};
 ghost use Rattle.std.specs.List.{list_any};
 ghost use Rattle.dy_siblings.specs.Siblings.{IsBeside, IsLone, Rise};
 ghost use Rattle.dy_siblings.specs.Versions.{VersionParts, precedes};
+ghost use Rattle.dy_siblings.specs.inside.Lists.{FollowNothing};
 ghost use Rattle.dy_siblings.specs.inside.Merging.{IsPlaceOf};
 
 use crate::versions::Version;
@@ -54,17 +55,24 @@ fn is_followed(version: &Version, versions: &[Version]) -> bool
     versions.iter().any(|other| version.precedes(other))
 }
 
-// Whether one of the versions follows this one, or is followed by it.
-fn is_related(versions: &[Version], version: &Version) -> bool
+// Whether one of the versions follows this one, or is followed by it. Where none may follow any,
+// none is asked.
+fn is_related(versions: &[Version], may_follow: bool, version: &Version) -> bool
+    requires { may_follow ≡ false → FollowNothing versions.now }
     ensures { result ≡
         list_any (λ u. precedes u version.now || precedes version.now u) versions.now }
 {
-    follows_one(version, versions) || is_followed(version, versions)
+    follows_one(version, versions) || (may_follow && is_followed(version, versions))
 }
 
 /// The one version that the second list has more, side by side with all of the first, and its
 /// place among those.
-pub(crate) fn beside<'a>(a: &[Version], b: &'a [Version]) -> Option<(usize, &'a Version)>
+pub(crate) fn beside<'a>(
+    a: &[Version],
+    may_follow: bool,
+    b: &'a [Version],
+) -> Option<(usize, &'a Version)>
+    requires pastless { may_follow ≡ false → FollowNothing a.now }
     requires a_rises { Rise a.now }
     requires b_rises { Rise b.now }
     ensures some { IfSome result (λ p. IsBeside a.now b.now p.1.now) }
@@ -72,7 +80,7 @@ pub(crate) fn beside<'a>(a: &[Version], b: &'a [Version]) -> Option<(usize, &'a 
     ensures none { IfNone result ((v : VersionParts) → IsBeside a.now b.now v → ⊥) }
 {
     let (at, version) = lone(a, b)?;
-    if is_related(a, version) {
+    if is_related(a, may_follow, version) {
         return None;
     }
     Some((at, version))

@@ -18,11 +18,13 @@ use std::slice;
 pub struct Row {
     key: Key,
     versions: Versions,
+    // Where it is false, no version follows another. Rows of blind puts need not look for it then.
+    may_follow: bool,
 }
 
 impl Model for Row {
-    ghost use Rattle.dy_siblings.specs.Siblings.{Siblings, siblings_code, IsSiblingSet};
-    ghost use Rattle.dy_siblings.specs.inside.Lists.{items_of};
+    ghost use Rattle.dy_siblings.specs.Siblings.{Siblings, siblings_code};
+    ghost use Rattle.dy_siblings.specs.inside.Lists.{items_of, IsRow};
 
     ghost Value = { Siblings };
 
@@ -30,7 +32,7 @@ impl Model for Row {
 
     ghost view = { λ row. record { key = row.key; versions = items_of row.versions } };
 
-    ghost invariant = { λ row. IsSiblingSet row.key (items_of row.versions) };
+    ghost invariant = { λ row. IsRow row.key (items_of row.versions) row.may_follow };
 }
 
 impl Row {
@@ -46,6 +48,7 @@ impl Row {
         Row {
             key,
             versions: Versions::Few(None),
+            may_follow: false,
         }
     }
 
@@ -56,9 +59,11 @@ impl Row {
         ensures memory { IsOkUnless result Fault.OutOfMemory }
     {
         let key = version.key().try_clone(alloc)?;
+        let may_follow = !version.past().is_empty();
         Ok(Row {
             key,
             versions: Versions::Few(Some(version)),
+            may_follow,
         })
     }
 
@@ -126,7 +131,11 @@ impl Row {
     {
         let key = self.key.try_clone(alloc)?;
         let versions = merging::merged(alloc, self.versions.as_slice(), other.versions.as_slice())?;
-        Ok(Row { key, versions })
+        Ok(Row {
+            key,
+            versions,
+            may_follow: self.may_follow | other.may_follow,
+        })
     }
 
     /// Keeps of the versions of both rows those whose dot lies in the past of none of them. Takes
@@ -147,6 +156,7 @@ impl Row {
             return Ok(());
         }
         self.versions = merging::merged(alloc, mine, other.versions.as_slice())?;
+        self.may_follow = self.may_follow | other.may_follow;
         Ok(())
     }
 
@@ -174,10 +184,12 @@ impl Row {
         ensures err { OnErr result (self.new ≡ self.old) }
         ensures memory { IsOkUnless result Fault.OutOfMemory }
     {
-        match besides::beside(self.versions.as_slice(), other.versions.as_slice()) {
+        let own = self.versions.as_slice();
+        match besides::beside(own, self.may_follow, other.versions.as_slice()) {
             Some((at, version)) => {
                 let copy = version.try_clone(alloc)?;
                 self.versions.insert(alloc, at, copy)?;
+                self.may_follow = self.may_follow | !version.past().is_empty();
                 Ok(Some((at, version.dot())))
             }
             None => Ok(None),
@@ -226,6 +238,7 @@ impl Row {
         Ok(Row {
             key: self.key.try_clone(alloc)?,
             versions: merging::copied(alloc, self.versions.as_slice())?,
+            may_follow: self.may_follow,
         })
     }
 }

@@ -21,10 +21,10 @@ returns-then-eq c = (
     key = sym (ap (λ s. s.key) c.self.view_is) ∙ inside_key ∙ ap (λ s. s.key) c.other.view_is
 
     mine : Rise c.args.self.now.versions
-    mine = subst (λ s. Rise s.versions) c.self.view_is c.self.invariant.rise
+    mine = subst (λ s. Rise s.versions) c.self.view_is c.self.invariant.siblings.rise
 
     theirs : Rise c.args.other.now.versions
-    theirs = subst (λ s. Rise s.versions) c.other.view_is c.other.invariant.rise
+    theirs = subst (λ s. Rise s.versions) c.other.view_is c.other.invariant.siblings.rise
 
     conflict_is : c.lists_conflict.result ≡ do_lists_conflict c.args.self.now.versions c.args.other.now.versions
     conflict_is =

@@ -4,19 +4,27 @@ use Rattle.dy_siblings.specs.inside.Merging.{IsMerge}
 use Rattle.dy_siblings.specs.Siblings.{IsSameRow, IsSiblingSet, merge}
 use Rattle.dy_siblings.proofs.Walking.{merge_siblings}
 use Rattle.dy_siblings.proofs.Merges.{unmerged}
+use Rattle.dy_siblings.proofs.Following.{merge_follows_nothing, neither}
 use Rattle.dy_siblings.proofs.rows.Row.merge.Goals as goal
-use Rattle.dy_siblings.proofs.rows.Row.merge.Goals.{Joined-self-branch}
+use Rattle.dy_siblings.proofs.rows.Row.merge.Goals.{After-self-2-1}
 
-is_merge : (c : Joined-self-branch) → IsMerge (items_of c.self.inside.versions) (items_of c.other.inside.versions) (items_of c.in_ok-self-inside.field-0)
+is_merge : (c : After-self-2-1) → IsMerge (items_of c.self.inside.versions) (items_of c.other.inside.versions) (items_of c.in_ok-self-inside.field-0)
 is_merge c =
     subst (λ x. IsMerge x (items_of c.other.inside.versions) (items_of c.in_ok-self-inside.field-0)) c.as_slice-mine.ensures
     (subst (λ y. IsMerge c.as_slice-mine.result.now y (items_of c.in_ok-self-inside.field-0)) c.as_slice.ensures c.in_ok-self-inside.ensures.ok)
 
 pub invariant_of-self : goal.invariant_of-self
-invariant_of-self c =
-    merge_siblings c.self.inside.key (items_of c.self.inside.versions) (items_of c.other.inside.versions) (items_of c.in_ok-self-inside.field-0) (is_merge c) c.self.invariant
-    (subst (λ key. IsSiblingSet key (items_of c.other.inside.versions))
-    (ap (λ s. s.key) c.other.view_is ∙ sym c.requires.one_key ∙ sym (ap (λ s. s.key) c.self.view_is)) c.other.invariant)
+invariant_of-self c = record {
+  siblings = merge_siblings c.self.inside.key (items_of c.self.inside.versions) (items_of c.other.inside.versions)
+      (items_of c.in_ok-self-inside.field-0) (is_merge c) c.self.invariant.siblings
+      (subst (λ key. IsSiblingSet key (items_of c.other.inside.versions))
+      (ap (λ s. s.key) c.other.view_is ∙ sym c.requires.one_key ∙ sym (ap (λ s. s.key) c.self.view_is))
+      c.other.invariant.siblings);
+  pastless = λ no. let both = neither c.self.inside.may_follow c.other.inside.may_follow no in
+      merge_follows_nothing (items_of c.self.inside.versions) (items_of c.other.inside.versions)
+      (items_of c.in_ok-self-inside.field-0) (is_merge c)
+      (c.self.invariant.pastless both.0) (c.other.invariant.pastless both.1);
+}
 
 pub returns-clause-ok : goal.returns-clause-ok
 returns-clause-ok c =
@@ -25,11 +33,11 @@ returns-clause-ok c =
     (is_merge c).1
 
 pub returns-clause-valid : goal.returns-clause-valid
-returns-clause-valid c = invariant_of-self c
+returns-clause-valid c = (invariant_of-self c).siblings
 
 -- what is merged with no version stays
 pub returns-then-is_empty-clause-valid : goal.returns-then-is_empty-clause-valid
-returns-then-is_empty-clause-valid c = subst (λ s. IsSiblingSet s.key s.versions) c.self.view_is c.self.invariant
+returns-then-is_empty-clause-valid c = subst (λ s. IsSiblingSet s.key s.versions) c.self.view_is c.self.invariant.siblings
 
 pub returns-then-is_empty-clause-ok : goal.returns-then-is_empty-clause-ok
 returns-then-is_empty-clause-ok c =
