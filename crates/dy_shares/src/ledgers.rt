@@ -116,13 +116,6 @@ impl<J: Naming> Ledger<J> {
         Ok(SessionShare::new(self.alloc, number, share, self.chronicle.front()))
     }
 
-    /// How many sessions were opened. Takes no memory.
-    pub fn sessions(&self) -> usize
-        ensures { result ≡ self.now.sessions }
-    {
-        self.sessions
-    }
-
     /// The share lent is the node's part of the log. Takes no memory.
     pub fn agree(&mut self, share: &mut NodeShare<J>)
         ensures log { self.new ≡ self.old }

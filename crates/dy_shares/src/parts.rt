@@ -164,12 +164,6 @@ impl BlankRoll {
 }
 
 impl<J: Naming> Share<J> {
-    pub(crate) fn index(&self) -> usize
-        ensures { result ≡ self.now.index }
-    {
-        self.index
-    }
-
     pub(crate) fn abandon(self) {
         let Share {
             index: _,
