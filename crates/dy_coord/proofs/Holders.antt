@@ -1,7 +1,7 @@
 -- The receipts of a put: each is of its key and dot, and no holder has two homes, since the
 -- coordinator, those asked and those that may still be asked are all different.
 use Rattle.std.proofs.Common.{◌≡◌, ◌++◌, ◌∷◌, [], ◌<◌, ◌≤◌, ◌+◌, List, ℕ, true, zero, suc, Some}
-use Rattle.std.proofs.Common.{None, Option, length, nat_eq, get_or, refl, sym, ◌∙◌, ap, subst}
+use Rattle.std.proofs.Common.{if◌then◌else◌, false, None, Option, length, nat_eq, get_or, refl, sym, ◌∙◌, ap, subst}
 use Rattle.std.proofs.Common.{arith, length-append, append_assoc, inl, inr, ◌⊎◌, IsTrue}
 use Rattle.std.proofs.lemmas.Bool.{cases_Bool, cases_order, true≢false}
 use Rattle.std.proofs.lemmas.Bool.Decides.{Decides-eqb}
@@ -31,7 +31,7 @@ use Rattle.dy_transport.specs.declared.replies.Reply.{Reply}
 use Rattle.dy_reads.specs.Rules.{IsReplyTo, nodes_asked}
 use Rattle.dy_reads.proofs.Lists.{Apart}
 use Rattle.dy_coord.specs.Puts.{receipt_read, receipts_read}
-use Rattle.dy_coord.specs.inside.PutReads.{first_of, receipt_at}
+use Rattle.dy_coord.specs.inside.PutReads.{last_of, receipt_at}
 
 -- an ask to that node for that home
 abbrev Known : List Asked → ℕ → ℕ → Type 0
@@ -84,18 +84,39 @@ what_at what (b ∷ asks) zero a whats e = let s : b ≡ a = cc in ap (λ (x : A
 what_at what (b ∷ asks) (suc k) a whats e = what_at what asks k a (All-tail (λ (x : Asked). x.what ≡
     what) b asks whats) e
 
+-- where a receipt is put at the end
+pub last_more : (dot : Dot) (xs : List ReceiptParts) (x : ReceiptParts) →
+    last_of dot (xs ++ x ∷ []) ≡ (if same_dot x.dot dot then Some x else last_of dot xs)
+last_more dot [] x = refl
+last_more dot (y ∷ ys) x = elim (cases_Bool (same_dot x.dot dot)) [
+  | inl t ↦ rw (last_more dot ys x, t) refl
+  | inr f ↦ rw (last_more dot ys x, f) refl
+]
+
+-- no receipt is of a dot that no version has
+no_receipt : (dot : Dot) (holder home : ℕ) (vs : List Version) → has_dot vs dot ≡ false →
+    last_of dot (receipts_of vs holder home) ≡ None
+no_receipt dot holder home [] e = refl
+no_receipt dot holder home (v ∷ vs) e = elim (cases_Bool (same_dot v.dot dot)) [
+  | inl t ↦ absurd (true≢false (rw t at e))
+  | inr f ↦ (let rest : has_dot vs dot ≡ false = rw f at e in
+      rw (no_receipt dot holder home vs rest, f) refl)
+]
+
 -- the receipts of a row's versions have one of the dot, of the row's key
-first_receipt : (key : List ℕ) (dot : Dot) (holder home : ℕ) (vs : List Version) →
+last_receipt : (key : List ℕ) (dot : Dot) (holder home : ℕ) (vs : List Version) →
     All (λ v. v.key ≡ key) vs → IsTrue (has_dot vs dot)
-    → first_of dot (receipts_of vs holder home) ≡ Some (receipt_parts key dot holder home)
-first_receipt key dot holder home [] of has = absurd (true≢false (sym has))
-first_receipt key dot holder home (v ∷ vs) of has = elim (cases_Bool (same_dot v.dot dot)) [
-  | inl t ↦ (let k : v.key ≡ key = All-head (λ (x : Version). x.key ≡ key) v vs of in
-      let d : v.dot ≡ dot = same_dot_is v.dot dot t in
-      rw t (λ i. Some (receipt_parts (k i) (d i) holder home)))
-  | inr f ↦ (let rest : IsTrue (has_dot vs dot) = rw f at has in
-      rw f (first_receipt key dot holder home vs (All-tail (λ (x : Version). x.key ≡ key) v vs of)
-      rest))
+    → last_of dot (receipts_of vs holder home) ≡ Some (receipt_parts key dot holder home)
+last_receipt key dot holder home [] of has = absurd (true≢false (sym has))
+last_receipt key dot holder home (v ∷ vs) of has = elim (cases_Bool (has_dot vs dot)) [
+  | inl t ↦ (let rest = All-tail (λ (x : Version). x.key ≡ key) v vs of in
+      rw (last_receipt key dot holder home vs rest t) refl)
+  | inr f ↦ elim (cases_Bool (same_dot v.dot dot)) [
+    | inl t ↦ (let k : v.key ≡ key = All-head (λ (x : Version). x.key ≡ key) v vs of in
+        let d : v.dot ≡ dot = same_dot_is v.dot dot t in
+        rw (no_receipt dot holder home vs f, t) (λ i. Some (receipt_parts (k i) (d i) holder home)))
+    | inr g ↦ absurd (true≢false (sym has ∙ rw g f))
+  ]
 ]
 
 -- a version of the row has the dot
@@ -182,7 +203,7 @@ module _ {J : Type 0} where
   one_what to home w row dot (Stored list) e of has f =
       let P : What → Type 0 = λ y. FitsWhat {J = J} to home y (Stored list) in
       let g : list.items ≡ receipts_of row.versions to home = subst P e f in
-      inl (ap (first_of dot) g ∙ first_receipt row.key dot to home row.versions of has, refl)
+      inl (ap (last_of dot) g ∙ last_receipt row.key dot to home row.versions of has, refl)
   one_what to home w row dot (Rows seen) e of has f = inr (refl, refl)
   one_what to home w row dot Down e of has f = inr (refl, refl)
   one_what to home w row dot NoAnswer e of has f = inr (refl, refl)

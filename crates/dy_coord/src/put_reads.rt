@@ -12,7 +12,7 @@ ghost use Rattle.dy_quorum.specs.Tallies.{DoAgree};
 ghost use Rattle.dy_reads.specs.Rules.{HasRead, IsReadOut, MayStandIn, as_read, nodes_asked};
 ghost use Rattle.dy_reads.specs.declared.requests.Request.TheVariants as request;
 ghost use Rattle.dy_coord.specs.Puts.{receipts_read};
-ghost use Rattle.dy_coord.specs.inside.PutReads.{first_of, receipt_at};
+ghost use Rattle.dy_coord.specs.inside.PutReads.{last_of, receipt_at};
 
 use dy_dots::{Dot, NodeId};
 use dy_node::Answer;
@@ -39,11 +39,12 @@ fn is_of<J: Naming>(receipt: &Receipt<J>, dot: Dot) -> bool
     receipt.dot() == dot
 }
 
-// The first of these receipts that is of the dot.
-fn receipt_of_dot<J: Naming>(receipts: Vec<Receipt<J>>, dot: Dot) -> Option<Receipt<J>>
-    ensures { result ≡ first_of dot receipts.items }
+// The last of these receipts that is of the dot. Those of a new version are among the last: so few
+// are looked at, however many there are.
+fn receipt_of_dot<J: Naming>(mut receipts: Vec<Receipt<J>>, dot: Dot) -> Option<Receipt<J>>
+    ensures { result ≡ last_of dot receipts.items }
 {
-    for receipt in receipts {
+    while let Some(receipt) = receipts.pop() {
         if is_of(&receipt, dot) {
             return Some(receipt);
         }

@@ -1,5 +1,6 @@
 -- What a put takes from an answer.
 use Rattle.std.specs.Prelude.{List, [], ◌∷◌, Option, Some, None, if◌then◌else◌}
+use Rattle.std.specs.Option.{option_or}
 use Rattle.dy_dots.specs.Dots.{same_dot}
 use Rattle.dy_dots.specs.declared.dots.Dot.{Dot}
 use Rattle.dy_shares.specs.Shares.{ReceiptParts}
@@ -8,15 +9,15 @@ use Rattle.dy_node.specs.declared.asks.Answer.TheVariants.{Stored, Rows, Down, N
 use Rattle.dy_transport.specs.Told.{Told}
 use Rattle.dy_transport.specs.declared.tries.Try.{Try}
 
--- the first of these receipts that is of the dot
-abbrev pub first_of : Dot → List ReceiptParts → Option ReceiptParts
-first_of dot [] = None
-first_of dot (x ∷ xs) = if same_dot x.dot dot then Some x else first_of dot xs
+-- the last of these receipts that is of the dot
+abbrev pub last_of : Dot → List ReceiptParts → Option ReceiptParts
+last_of dot [] = None
+last_of dot (x ∷ xs) = option_or (last_of dot xs) (if same_dot x.dot dot then Some x else None)
 
 module _ {J : Type 0} where
   -- the receipt of the dot in an answer, where the node holds the row
   abbrev pub receipt_at : Dot → Answer J → Option ReceiptParts
-  receipt_at dot (Stored list) = first_of dot list.items
+  receipt_at dot (Stored list) = last_of dot list.items
   receipt_at dot (Rows seen) = None
   receipt_at dot Down = None
   receipt_at dot NoAnswer = None
