@@ -9,4 +9,6 @@ mod draws;
 #[cfg(test)]
 mod faults;
 #[cfg(test)]
+mod versions;
+#[cfg(test)]
 mod worlds;

@@ -131,6 +131,15 @@ fn counts(
     Ok((world.held().len(), covers, world.acked().len(), settled))
 }
 
+/// Whether it is a world of three nodes and two homes a key, where the version of the dot was made
+/// and the key is settled.
+fn is_told(world: &World, key: &Key, dot: Dot) -> bool {
+    world.ring().nodes() == 3
+        && world.n() == 2
+        && world.is_issued(key, dot)
+        && world.is_settled(key)
+}
+
 /// The empty world, with two homes a key. The tokens of the nodes 2, 0 and 1 lie at 2ad0.., ea05..
 /// and f3ed.., and the key `a` at 0cc1.. (RFC 1321, A.5): these are its nodes, in this order.
 fn empty_world(alloc: Global) -> Result<World, Fault> {
@@ -141,15 +150,16 @@ fn empty_world(alloc: Global) -> Result<World, Fault> {
     run_steps(alloc, ring, 2, Vec::new(alloc))
 }
 
-/// What is counted once each step is made.
+/// What is counted once each step is made, and whether the world tells of it.
 fn played(
     alloc: Global,
     key: &Key,
     dot: Dot,
-) -> Result<(usize, (usize, usize, usize, usize)), Fault> {
+) -> Result<(usize, (usize, usize, usize, usize), bool), Fault> {
     let mut world = empty_world(alloc)?;
     let made = count_made(alloc, &mut world, key, dot)?;
-    Ok((made, counts(alloc, &world, key, dot)?))
+    let counts = counts(alloc, &world, key, dot)?;
+    Ok((made, counts, is_told(&world, key, dot)))
 }
 
 #[test]
@@ -157,6 +167,6 @@ fn a_world_makes_each_kind_of_step(rt: HostRuntime) -> Result<(), Fail> {
     let key = Key::new(rt.alloc(), b"a".as_slice())?;
     let dot = Dot::new(NodeId::nth(2), 1).ok_or("a dot")?;
     let told = played(rt.alloc(), &key, dot)?;
-    assert!(rt; told == (7, (2, 2, 1, 1)));
+    assert!(rt; told == (7, (2, 2, 1, 1), true));
     Ok(())
 }

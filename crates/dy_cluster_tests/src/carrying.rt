@@ -1,10 +1,10 @@
 // What was present in a cluster that was closed, carried over into a new one.
-use crate::rings::{five_nodes, options};
+use crate::posted::with_values;
+use crate::rings::with_five_nodes;
 use dy_cluster::{
     Closed, Cluster, Connection, Context, Fault, Key, Naming, NodeId, Session, Transport, Value,
-    Work, carry_over, with_cluster,
+    Work, carry_over,
 };
-use dy_dots::Dot;
 use std::alloc::Global;
 use std::sync::Wait;
 use std::test::Fail;
@@ -99,15 +99,6 @@ impl Work for Filling {
     }
 }
 
-// The text, and behind it each value.
-fn with_values(mut text: String, values: &[(Dot, &Value)]) -> Result<String, Fault> {
-    for (_dot, value) in values {
-        text.push_str(" ")?;
-        text.push_str(std::str::from_utf8(value.as_bytes()).unwrap_or("?"))?;
-    }
-    Ok(text)
-}
-
 // How many versions a get of the key gives, and each value.
 fn text_at<J: Naming, T: Transport<J>, R: Wait>(
     rt: &R,
@@ -168,7 +159,7 @@ impl Work for Carrying {
 #[test]
 fn what_is_present_is_carried_over(rt: HostRuntime) -> Result<(), Fail> {
     let alloc = rt.alloc();
-    let closed = with_cluster(&rt, alloc, five_nodes(alloc)?, options(), &mut Filling)?;
+    let closed = with_five_nodes(&rt, alloc, &mut Filling)?;
     assert!(rt; closed.audit.acked.len() == 6);
     let mut carrying = Carrying {
         closed,
@@ -177,7 +168,7 @@ fn what_is_present_is_carried_over(rt: HostRuntime) -> Result<(), Fail> {
         deleted: None,
         hinted: None,
     };
-    let over = with_cluster(&rt, alloc, five_nodes(alloc)?, options(), &mut carrying)?;
+    let over = with_five_nodes(&rt, alloc, &mut carrying)?;
     assert!(rt; carrying.count == Some(3));
     assert!(rt; carrying.siblings.as_deref() == Some("2 x y"));
     assert!(rt; carrying.deleted.as_deref() == Some("0"));

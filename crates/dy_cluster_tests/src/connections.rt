@@ -1,22 +1,16 @@
 // Connections: what their calls give, and what a get mends.
 ghost use Rattle.std.specs.Prelude.{◌<◌, vec_capacity, vec_len};
 
-use crate::rings::{five_nodes, options};
+use crate::posted::with_values;
+use crate::rings::{options, with_five_nodes};
 use dy_cluster::{
-    Closed, Cluster, Connection, Context, Fault, GetDone, Key, Naming, NodeId, Session, Transport,
-    Value, Work, with_cluster,
+    Cluster, Connection, Context, Fault, GetDone, Key, Naming, NodeId, PutDone, Session, Transport,
+    Value, Work,
 };
-use dy_dots::Dot;
 use dy_mailboxes::Post;
 use std::alloc::Global;
 use std::sync::Wait;
 use std::test::Fail;
-
-// Does the work on the cluster that all tests use.
-fn with_five_nodes<W: Work, R: Wait>(rt: &R, alloc: Global, work: &mut W) -> Result<Closed, Fault> {
-    let ring = five_nodes(alloc)?;
-    with_cluster(rt, alloc, ring, options(), work)
-}
 
 // What is called over a connection.
 trait Calling {
@@ -50,19 +44,10 @@ fn put<J: Naming, T: Transport<J>, R: Wait>(
     alloc: Global,
     connection: &mut Connection<'_, J, T>,
     key: &Key,
-) -> Result<(), Fault> {
+) -> Result<PutDone<J>, Fault> {
     let value = Value::new(alloc, b"x".as_slice())?;
-    connection.put(rt, key, &Context::new(alloc), value)?;
-    Ok(())
-}
-
-// The text, and behind it each value.
-fn with_values(mut text: String, values: &[(Dot, &Value)]) -> Result<String, Fault> {
-    for (_dot, value) in values {
-        text.push_str(" ")?;
-        text.push_str(std::str::from_utf8(value.as_bytes()).unwrap_or("?"))?;
-    }
-    Ok(text)
+    let done = connection.put(rt, key, &Context::new(alloc), value)?;
+    Ok(done)
 }
 
 // How many versions a get gave, whether all that was stale is mended, and each value.
@@ -72,24 +57,26 @@ fn text_of<J: Naming>(alloc: Global, done: &GetDone<J>, is_mended: bool) -> Resu
     with_values(text, values.as_slice())
 }
 
-// A get, what is told of it, and its context.
+// A get, and what is told of it.
 fn get<J: Naming, T: Transport<J>, R: Wait>(
     rt: &R,
     alloc: Global,
     connection: &mut Connection<'_, J, T>,
     key: &Key,
     told: &mut Option<String>,
-) -> Result<Context, Fault> {
+) -> Result<GetDone<J>, Fault> {
     let done = connection.get(rt, key)?;
     *told = text_of(alloc, &done, connection.is_mended).ok();
-    Ok(done.context)
+    Ok(done)
 }
 
-// What is told of two gets: one behind a put, and one behind a delete.
+// What is told of two gets: one behind a put, and one behind a delete. And whether the first one is
+// sure to have the put.
 #[derive(Drop)]
 struct Calls {
     put: Option<String>,
     deleted: Option<String>,
+    is_sure: bool,
 }
 
 impl Calling for Calls {
@@ -100,9 +87,10 @@ impl Calling for Calls {
         connection: &mut Connection<'_, J, T>,
     ) -> Result<(), Fault> {
         let key = Key::new(alloc, b"a")?;
-        put(rt, alloc, connection, &key)?;
-        let context = get(rt, alloc, connection, &key, &mut self.put)?;
-        connection.delete(rt, &key, &context)?;
+        let put = put(rt, alloc, connection, &key)?;
+        let done = get(rt, alloc, connection, &key, &mut self.put)?;
+        self.is_sure = done.sees(&put, &options());
+        connection.delete(rt, &key, &done.context)?;
         get(rt, alloc, connection, &key, &mut self.deleted)?;
         Ok(())
     }
@@ -123,15 +111,17 @@ impl Work for Calls {
 }
 
 // A put, a get, a delete and a get over one connection, whose session is handed in: the first get
-// gives the value, and the second one a version that is none.
+// gives the value, and says that it is sure to, and the second one a version that is none.
 #[test]
 fn a_connection_puts_gets_and_deletes(rt: HostRuntime) -> Result<(), Fail> {
     let mut calls = Calls {
         put: None,
         deleted: None,
+        is_sure: false,
     };
     let closed = with_five_nodes(&rt, rt.alloc(), &mut calls)?;
     assert!(rt; calls.put.as_deref() == Some("1 true x"));
+    assert!(rt; calls.is_sure);
     assert!(rt; calls.deleted.as_deref() == Some("1 true"));
     assert!(rt; closed.audit.acked.len() == 2);
     assert!(rt; closed.audit.gets == 2);

@@ -1,6 +1,7 @@
-// Puts and gets of the key `a` over a connection, and their answers as texts.
+// Puts and gets of the key `a` over a connection, and answers and values as texts.
 use dy_cluster::{Connection, Context, Fault, Key, Naming, Transport, Value};
 use dy_coord::GetDone;
+use dy_dots::Dot;
 use dy_transport::{AnswerRead, AnswerVec};
 use std::alloc::Global;
 use std::sync::{Mutex, Wait};
@@ -28,6 +29,15 @@ pub fn get_over<J: Naming, T: Transport<J>, R: Wait>(
     let key = Key::new(alloc, b"a")?;
     let done = connection.get_unrepaired(rt, &key)?;
     Ok(done)
+}
+
+// The text, and behind it each value.
+pub fn with_values(mut text: String, values: &[(Dot, &Value)]) -> Result<String, Fault> {
+    for (_dot, value) in values {
+        text.push_str(" ")?;
+        text.push_str(std::str::from_utf8(value.as_bytes()).unwrap_or("?"))?;
+    }
+    Ok(text)
 }
 
 // The answers' texts, in their order.

@@ -1,7 +1,8 @@
 use dy_book::{MAX_STEPS, MAX_VERSIONS};
-use dy_cluster::{Fault, Options, Ring};
+use dy_cluster::{Closed, Fault, Options, Ring, Work, with_cluster};
 use dy_dots::MAX_COUNTER;
 use std::alloc::Global;
+use std::sync::Wait;
 
 // A ring of five nodes. The key `a` lies at 0cc1.. (RFC 1321, A.5), so its nodes are 0 to 4, in
 // this order.
@@ -31,4 +32,14 @@ pub fn options() -> Options {
         versions_limit: MAX_VERSIONS,
         steps_limit: MAX_STEPS,
     }
+}
+
+// Does the work on the cluster that all tests use.
+pub fn with_five_nodes<W: Work, R: Wait>(
+    rt: &R,
+    alloc: Global,
+    work: &mut W,
+) -> Result<Closed, Fault> {
+    let ring = five_nodes(alloc)?;
+    with_cluster(rt, alloc, ring, options(), work)
 }
