@@ -64,6 +64,7 @@ impl<'a, J: Naming, T: Transport<J>> Connection<'a, J, T> {
             × EndsBehindNothing (setting J J.ring J.n J.r) self.old.w present.now
             self.old.session self.old.session (Err refused)) }
         ensures w { self.new.w ≡ self.old.w }
+        ensures mended { self.new.is_mended ≡ self.old.is_mended }
     {
         self.put(rt, &present.key, none, value)
     }
@@ -81,6 +82,7 @@ impl<'a, J: Naming, T: Transport<J>> Connection<'a, J, T> {
         ensures err { IfErr result (StopsAt (setting J J.ring J.n J.r) self.old.w values.now
             self.old.session self.new.session) }
         ensures w { self.new.w ≡ self.old.w }
+        ensures mended { self.new.is_mended ≡ self.old.is_mended }
     {
         let mut copies = match copies_of(alloc, values) {
             Ok(copies) => copies,
@@ -119,6 +121,7 @@ pub fn carry_over<J: Naming, T: Transport<J>, R: Wait>(
     ensures err { IfErr result (StopsCarrying (setting J J.ring J.n J.r) connection.old.w
         closed.now.audit.held.items connection.old.session connection.new.session) }
     ensures w { connection.new.w ≡ connection.old.w }
+    ensures mended { connection.new.is_mended ≡ connection.old.is_mended }
 {
     let values = match closed.values(alloc) {
         Ok(values) => values,

@@ -7,6 +7,7 @@ ghost use Rattle.dy_reads.specs.Lists.{homes_in};
 ghost use Rattle.dy_quorum.specs.Gatherings.{first_answers};
 ghost use Rattle.dy_coord.specs.Gets.{IsGot};
 ghost use Rattle.dy_coord.specs.PutDones.{IsPutDone};
+ghost use Rattle.dy_repair.specs.Stales.{AreCurrent};
 ghost use Rattle.dy_cluster.specs.Connections.{IsMended, IsRefusedAnew, PutEndsAnew};
 ghost use Rattle.dy_cluster.specs.Lists.{list_of};
 ghost use Rattle.dy_cluster.specs.Tellings.{IsUntold};
@@ -121,6 +122,7 @@ impl<'a, J: Naming, T: Transport<J>> Connection<'a, J, T> {
             (IsPutDone self.old.session self.new.session key.now self.old.w) }
         ensures err { OnErr result (self.new.session ≡ self.old.session) }
         ensures w { self.new.w ≡ self.old.w }
+        ensures mended { self.new.is_mended ≡ self.old.is_mended }
     {
         self.put_to(rt, self.w, key, context, value)
     }
@@ -140,6 +142,7 @@ impl<'a, J: Naming, T: Transport<J>> Connection<'a, J, T> {
         ensures ok { IfOk result (IsPutDone self.old.session self.new.session key.now w) }
         ensures err { OnErr result (self.new.session ≡ self.old.session) }
         ensures w { self.new.w ≡ self.old.w }
+        ensures mended { self.new.is_mended ≡ self.old.is_mended }
     {
         self.write(rt, w, key, context, Some(value))
     }
@@ -159,6 +162,7 @@ impl<'a, J: Naming, T: Transport<J>> Connection<'a, J, T> {
             (IsPutDone self.old.session self.new.session key.now self.old.w) }
         ensures err { OnErr result (self.new.session ≡ self.old.session) }
         ensures w { self.new.w ≡ self.old.w }
+        ensures mended { self.new.is_mended ≡ self.old.is_mended }
     {
         self.write(rt, self.w, key, context, None)
     }
@@ -178,6 +182,7 @@ impl<'a, J: Naming, T: Transport<J>> Connection<'a, J, T> {
         ensures ok { IfOk result (IsPutDone self.old.session self.new.session key.now w) }
         ensures err { OnErr result (self.new.session ≡ self.old.session) }
         ensures w { self.new.w ≡ self.old.w }
+        ensures mended { self.new.is_mended ≡ self.old.is_mended }
     {
         if let Err(fault) = self.transport.renew(rt) {
             return Err(self.cluster.unlisted(fault));
@@ -207,6 +212,9 @@ impl<'a, J: Naming, T: Transport<J>> Connection<'a, J, T> {
             (since_of self.old.session) (T.told self.old.transport)
             (T.told self.new.transport)) }
         ensures w { self.new.w ≡ self.old.w }
+        ensures current { IfOk result (λ done.
+            AreCurrent done.row done.seen.items → IsTrue self.new.is_mended) }
+        ensures mended { OnErr result (self.new.is_mended ≡ self.old.is_mended) }
     {
         let done = self.get_unrepaired(rt, key)?;
         self.is_mended = self.mend(rt, &done).is_ok();
@@ -224,6 +232,7 @@ impl<'a, J: Naming, T: Transport<J>> Connection<'a, J, T> {
             (since_of self.old.session) (T.told self.old.transport)
             (T.told self.new.transport)) }
         ensures w { self.new.w ≡ self.old.w }
+        ensures mended { self.new.is_mended ≡ self.old.is_mended }
     {
         if let Err(fault) = self.transport.renew(rt) {
             return Err(self.cluster.ungot(fault));
@@ -238,9 +247,12 @@ impl<'a, J: Naming, T: Transport<J>> Connection<'a, J, T> {
         ensures ok { IfOk result (λ _. IsMended
             (homes_in (list_of J.ring J.n done.now.row.key)) done.now.row done.now.seen.items
             (T.told self.old.transport) (T.told self.new.transport)) }
+        ensures stale { IfErr result (λ _.
+            AreCurrent done.now.row done.now.seen.items → ⊥) }
         ensures memory { IsOkUnless result Fault.OutOfMemory }
         ensures session { self.new.session ≡ self.old.session }
         ensures w { self.new.w ≡ self.old.w }
+        ensures mended { self.new.is_mended ≡ self.old.is_mended }
     {
         if are_current(done.seen.as_slice(), &done.row) {
             return Ok(());

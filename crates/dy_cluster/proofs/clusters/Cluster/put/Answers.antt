@@ -1,4 +1,4 @@
-use Rattle.std.proofs.Common.{◌≡◌, ◌≤◌, ◌<◌, inl, inr, refl, subst, arith}
+use Rattle.std.proofs.Common.{◌≡◌, ◌<◌, inl, inr, refl, subst, arith}
 use Rattle.dy_preference.specs.Preferences.{Preferred}
 use Rattle.dy_coord.specs.PutEnds.{PutEnds}
 use Rattle.dy_cluster.proofs.clusters.Cluster.put.Goals as goal
