@@ -5,6 +5,7 @@ ghost use Rattle.dy_transport.specs.Told.{nothing_told};
 use crate::at_nodes::{set_delay, set_up, write_rows};
 use crate::calls::{hand_over_one, put_directly};
 use crate::lossy::put_lossy;
+use crate::records::put_and_look_up;
 use crate::stages::Stage;
 use crate::texts::{write_list, write_pass, write_put};
 use crate::wrapped::{Meanwhile, Wrapped, pass_wrapped, put_wrapped, wrapped_on};
@@ -16,7 +17,9 @@ use std::sync::Wait;
 #[derive(Clone, Copy)]
 pub enum Deed {
     Put(u8),
-    // The same over a line on which node 1's answers are lost.
+    // The same, and then what the book says of it.
+    PutAndLookUp(u8),
+    // A put over a line on which node 1's answers are lost.
     PutLossy(u8),
     // The same over a transport that lists what came of it, and before it is told node 0 comes up,
     // and node 3 hands over to it.
@@ -129,6 +132,7 @@ fn done<J: Naming, R: Wait>(
 ) -> Result<(), Fault> {
     match deed {
         Deed::Put(w) => put_and_write(rt, stage, session, w, out),
+        Deed::PutAndLookUp(w) => put_and_look_up(rt, stage, session, w, out),
         Deed::PutLossy(w) => put_lossy_and_write(rt, stage, session, w, out),
         Deed::PutWhileHandedOver(w) => {
             put_while_and_write(rt, stage, session, w, Meanwhile::HandOver, out)

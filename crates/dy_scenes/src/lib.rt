@@ -18,6 +18,8 @@ mod members;
 #[cfg(test)]
 mod plays;
 #[cfg(test)]
+mod records;
+#[cfg(test)]
 mod stages;
 #[cfg(test)]
 mod texts;

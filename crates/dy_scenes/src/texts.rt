@@ -27,7 +27,7 @@ fn write_answers(out: &mut String, answers: &[AnswerRead]) -> Result<(), Fault> 
 }
 
 // The dot, where there is one.
-fn write_dot(out: &mut String, dot: Option<Dot>) -> Result<(), Fault> {
+pub fn write_dot(out: &mut String, dot: Option<Dot>) -> Result<(), Fault> {
     if let Some(dot) = dot {
         write!(out, " {dot}")?;
     }
