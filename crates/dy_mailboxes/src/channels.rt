@@ -2,7 +2,7 @@ ghost use Rattle.std.specs.Prelude.{◌≡◌, ◌<◌, ◌≤◌, ◌+◌, ◌^
 ghost use Rattle.dy_mailboxes.specs.inside.Channels.{IsFewer, first_call, next_call, stands_for};
 ghost use Rattle.dy_mailboxes.specs.inside.Channels.{with_ask_if, without};
 
-use crate::ends::{Inbox, Outbox, mailbox};
+use crate::ends::{Receiver, Sender, channel};
 use crate::parcels::Answered;
 use dy_dots::Fault;
 use dy_shares::Naming;
@@ -14,8 +14,8 @@ use std::sync::Wait;
 /// how many answers may still come, to the asks of this call and to those of earlier ones.
 #[derive(Drop)]
 pub struct Channel<J: Naming> {
-    back: Outbox<Answered<J>>,
-    answers: Inbox<Answered<J>>,
+    back: Sender<Answered<J>>,
+    answers: Receiver<Answered<J>>,
     call: u64,
     due: usize,
     late: usize,
@@ -50,7 +50,7 @@ impl<J: Naming> Channel<J> {
         ensures ok { IfOk result (λ channel. channel ≡ first_call room) }
         ensures memory { IsOkUnless result Fault.OutOfMemory }
     {
-        let (back, answers) = mailbox(alloc, room)?;
+        let (back, answers) = channel(alloc, room)?;
         Ok(Channel {
             back,
             answers,
@@ -75,7 +75,7 @@ impl<J: Naming> Channel<J> {
     }
 
     /// One more end that sends to the client.
-    pub fn end(&mut self) -> Result<Outbox<Answered<J>>, Fault>
+    pub fn end(&mut self) -> Result<Sender<Answered<J>>, Fault>
         ensures same { self.new ≡ self.old }
         ensures memory { IsOkUnless result Fault.OutOfMemory }
     {
@@ -130,8 +130,8 @@ impl<J: Naming> Channel<J> {
     {
         // While a thread is sending, the channel may seem to be empty and is not. What it sends is
         // then still counted, and dropped when it comes.
-        'draining: for _ in 0..self.back.room {
-            let Some(answered) = self.answers.receive_now(rt) else {
+        'draining: for _ in 0..self.due + self.late {
+            let Ok(answered) = self.answers.receive_now(rt) else {
                 break;
             };
             self.count(&answered);

@@ -1,6 +1,7 @@
 //! A transport that sends what it asks to the nodes' workers, in threads of their own.
 #![tactic(auto)]
 
+mod boxes;
 mod channels;
 mod ends;
 mod gates;
@@ -11,7 +12,7 @@ mod sheets;
 mod transports;
 mod workers;
 
-pub use ends::Inbox;
+pub use boxes::Inbox;
 pub use gates::{Gate, Open};
 pub use parcels::Posted;
 pub use posts::{MAILBOX_ROOM, Post};

@@ -3,7 +3,7 @@ ghost use Rattle.dy_node.specs.Answers.{MayAsk};
 ghost use Rattle.dy_transport.specs.Asking.{home_of};
 ghost use Rattle.dy_mailboxes.specs.Parcels.{IsParcelOf, may_carry};
 
-use crate::ends::Outbox;
+use crate::ends::Sender;
 use dy_dots::{Fault, NodeId};
 use dy_node::{Answer, Ask};
 use dy_shares::{Naming, Since};
@@ -80,7 +80,7 @@ pub struct Posted<J: Naming> {
     pub(crate) number: usize,
     pub(crate) to: NodeId,
     pub(crate) parcel: Parcel<J>,
-    pub(crate) back: Outbox<Answered<J>>,
+    pub(crate) back: Sender<Answered<J>>,
     ghost may_carry: { may_carry J.ring J.n to parcel ≡ true },
 }
 

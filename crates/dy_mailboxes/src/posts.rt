@@ -1,6 +1,6 @@
 ghost use Rattle.std.specs.Prelude.{◌≡◌, ◌≤◌, false, length, IfOk, IsOkUnless};
 
-use crate::ends::{Inbox, Outbox, mailbox};
+use crate::boxes::{Inbox, Outbox, mailbox};
 use crate::parcels::Posted;
 use dy_dots::Fault;
 use dy_shares::Naming;

@@ -3,7 +3,7 @@ ghost use Rattle.std.specs.Prelude.{◌≡◌, true, false, None};
 ghost use Rattle.dy_node.specs.Answers.{AnsweredBy, IsDown, MayAsk};
 ghost use Rattle.dy_mailboxes.specs.inside.Channels.{messages_of};
 
-use crate::ends::Inbox;
+use crate::boxes::Inbox;
 use crate::gates::Gate;
 use crate::parcels::{Answered, Posted};
 use dy_book::Book;
