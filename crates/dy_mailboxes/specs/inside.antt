@@ -1,3 +1,3 @@
 -- What contracts of private functions and invariants alone speak of.
-pub mod Channels
+pub mod Calls
 pub mod Sheets

@@ -17,7 +17,7 @@ impl Split<()> for Alike {
     ghost right = { λ v. v };
 }
 
-/// An end of a channel that sends, and for how many messages the channel has room.
+/// An end of a channel that sends.
 #[derive(Drop)]
 pub struct Sender<T: Drop> {
     end: RuledSender<T, (), Free>,
@@ -81,12 +81,6 @@ impl<T: Drop> Sender<T> {
 }
 
 impl<T: Drop> Receiver<T> {
-    /// The next message; none where the channel is empty and no end sends. May wait for one. Takes
-    /// no memory.
-    pub fn receive<R: Wait>(&mut self, rt: &R) -> Option<T> {
-        self.end.recv_as::<Free, R>(rt, &mut self.pass).ok()
-    }
-
     /// A message that lies in the channel, or why none does. Takes no memory.
     pub fn receive_now<R: Wait>(&mut self, rt: &R) -> Result<T, TryRecvError> {
         self.end.try_recv_as::<Free, R>(rt, &mut self.pass)

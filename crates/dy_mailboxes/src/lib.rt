@@ -2,11 +2,11 @@
 #![tactic(auto)]
 
 mod boxes;
-mod channels;
 mod ends;
 mod gates;
 mod parcels;
 mod posts;
+mod replies;
 mod sent;
 mod sheets;
 mod transports;

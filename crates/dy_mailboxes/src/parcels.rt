@@ -3,7 +3,7 @@ ghost use Rattle.dy_node.specs.Answers.{MayAsk};
 ghost use Rattle.dy_transport.specs.Asking.{home_of};
 ghost use Rattle.dy_mailboxes.specs.Parcels.{IsParcelOf, may_carry};
 
-use crate::ends::Sender;
+use crate::replies::ReplyTo;
 use dy_dots::{Fault, NodeId};
 use dy_node::{Answer, Ask};
 use dy_shares::{Naming, Since};
@@ -80,17 +80,16 @@ pub struct Posted<J: Naming> {
     pub(crate) number: usize,
     pub(crate) to: NodeId,
     pub(crate) parcel: Parcel<J>,
-    pub(crate) back: Sender<Answered<J>>,
+    pub(crate) reply_to: ReplyTo<J>,
     ghost may_carry: { may_carry J.ring J.n to parcel ≡ true },
 }
 
 /// An answer on its way back, with the number of its client's call, that of its ask, and whether it
-/// is the first to its ask, and the last.
+/// is the last to its ask.
 #[derive(Drop)]
 pub struct Answered<J: Naming> {
     pub call: u64,
     pub number: usize,
     pub answer: Answer<J>,
-    pub is_first: bool,
     pub is_last: bool,
 }

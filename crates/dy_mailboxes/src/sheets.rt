@@ -215,7 +215,6 @@ impl<J: Naming> Sheet<J> {
             call: self.call,
             number,
             answer,
-            is_first: true,
             is_last: true,
         })
     }

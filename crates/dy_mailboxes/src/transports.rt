@@ -4,12 +4,12 @@ ghost use Rattle.dy_node.specs.Answers.{MayAsk};
 ghost use Rattle.dy_transport.specs.Told.{AllAnswered, Answers, IsAwaited};
 ghost use Rattle.dy_transport.specs.Told.{nothing_told, with_none, with_reply};
 ghost use Rattle.dy_mailboxes.specs.Parcels.{IsParcelOf};
-ghost use Rattle.dy_mailboxes.specs.inside.Channels.{HaveRoom, IsFewer, with_ask_if};
+ghost use Rattle.dy_mailboxes.specs.inside.Calls.{with_ask_if};
 ghost use Rattle.dy_mailboxes.specs.inside.Sheets.{with_told};
 
-use crate::channels::Channel;
 use crate::parcels::{Parcel, Posted};
 use crate::posts::Post;
+use crate::replies::ReplyQueue;
 use crate::sheets::Sheet;
 use dy_book::Book;
 use dy_core::Place;
@@ -21,11 +21,6 @@ use std::alloc::Global;
 use std::marker::Model;
 use std::sync::{Mutex, Wait};
 
-// The first channel has room for one call, since many transports serve no other. A channel that is
-// made when that does not suffice has room for this many: the one under way, beside all that late
-// workers owe to three whole calls. With room for one, each late answer would cost a channel.
-const CALLS: usize = 4;
-
 /// A transport whose asks go to the nodes' workers, and whose tries and acks are made on the
 /// caller's own thread. The nodes lie in the order of their numbers, and so do the mailboxes.
 #[derive(Drop)]
@@ -33,7 +28,7 @@ pub struct Mailboxes<'a, J: Naming> {
     alloc: Global,
     reach: Reach<'a, J>,
     post: Post<J>,
-    channel: Channel<J>,
+    replies: ReplyQueue<J>,
     sheet: Sheet<J>,
 }
 
@@ -43,7 +38,7 @@ impl<'a, J: Naming> Model for Mailboxes<'a, J> {
     ghost use Rattle.dy_siblings.specs.Siblings.{siblings_code};
     ghost use Rattle.dy_shares.specs.Codes.{answer_code, receipt_parts_code as receipt_code};
     ghost use Rattle.dy_transport.specs.Told.{Told};
-    ghost use Rattle.dy_mailboxes.specs.inside.Channels.{HaveRoom};
+    ghost use Rattle.dy_mailboxes.specs.inside.Calls.{AreOfOneCall};
 
     ghost Value = { Told J };
 
@@ -51,7 +46,7 @@ impl<'a, J: Naming> Model for Mailboxes<'a, J> {
 
     ghost view = { λ m. m.sheet.told };
 
-    ghost invariant = { λ m. HaveRoom m.sheet m.channel };
+    ghost invariant = { λ m. AreOfOneCall m.sheet m.replies };
 }
 
 impl<'a, J: Naming> Mailboxes<'a, J> {
@@ -69,51 +64,51 @@ impl<'a, J: Naming> Mailboxes<'a, J> {
         ensures memory { IsOkUnless result Fault.OutOfMemory }
     {
         let sheet = Sheet::new(alloc, room)?;
-        // Each ask has two answers at most, so no worker waits for room.
-        let channel = Channel::new(alloc, 2 * room)?;
+        // Each ask has two answers at most.
+        let replies = ReplyQueue::new(alloc, 2 * room)?;
         let reach = Reach::new(alloc, nodes, book);
         Ok(Mailboxes {
             alloc,
             reach,
             post,
-            channel,
+            replies,
             sheet,
         })
     }
 }
 
-// Posts an ask of the channel's call: the copy that its answers are held against, and whether it is
+// Posts an ask of the present call: the copy that its answers are held against, and whether it is
 // on its way.
 fn post_ask<J: Naming, R: Wait>(
     rt: &R,
     alloc: Global,
     post: &mut Post<J>,
-    channel: &mut Channel<J>,
+    replies: &mut ReplyQueue<J>,
     number: usize,
     to: NodeId,
     ask: &Ask<'_, J>,
 ) -> Result<(Parcel<J>, bool), Fault>
     requires may_ask { MayAsk J.ring J.n to ask.now }
-    requires room { channel.old.due + channel.old.late + 2 ≤ channel.old.room }
+    requires few { replies.old.posted + 1 < 2 ^ 64 }
     ensures copy { IfOk result (λ posted. IsParcelOf ask.now posted.0) }
-    ensures counted { IfOk result (λ posted. channel.new ≡ with_ask_if posted.1 channel.old) }
-    ensures err { OnErr result (channel.new ≡ channel.old) }
+    ensures counted { IfOk result (λ posted. replies.new ≡ with_ask_if posted.1 replies.old) }
+    ensures err { OnErr result (replies.new ≡ replies.old) }
     ensures memory { IsOkUnless result Fault.OutOfMemory }
 {
     let kept = Parcel::new(alloc, ask)?;
     let parcel = Parcel::new(alloc, ask)?;
-    let back = channel.end()?;
+    let reply_to = replies.reply_to()?;
     let is_posted = post.send(
         rt,
         Posted {
-            call: channel.call(),
+            call: replies.call(),
             number,
             to,
             parcel,
-            back,
+            reply_to,
         },
     );
-    channel.count_ask(is_posted);
+    replies.count_ask(is_posted);
     Ok((kept, is_posted))
 }
 
@@ -122,10 +117,10 @@ fn post_ask<J: Naming, R: Wait>(
 // else none.
 fn next_of<J: Naming, R: Wait>(
     rt: &R,
-    channel: &mut Channel<J>,
+    replies: &mut ReplyQueue<J>,
     sheet: &mut Sheet<J>,
 ) -> Option<(Place, Answer<J>)>
-    requires { sheet.old.call ≡ channel.old.call }
+    requires { sheet.old.call ≡ replies.old.call }
     ensures none { IfNone result
         ((sheet.new ≡ with_told sheet.old (with_none sheet.old.told))
         × AllAnswered sheet.new.told) }
@@ -136,7 +131,7 @@ fn next_of<J: Naming, R: Wait>(
         × IsAwaited sheet.old.told.replies number) }
     ensures within { IfSome result
         (λ _. length sheet.old.told.replies < 2 * length sheet.old.told.asks) }
-    ensures fewer { IsFewer channel.old channel.new }
+    ensures same { replies.new ≡ replies.old }
 {
     if let Some(reply) = sheet.take_unsent() {
         return Some(reply);
@@ -145,7 +140,7 @@ fn next_of<J: Naming, R: Wait>(
         if !sheet.is_open() {
             break;
         }
-        let Some(answered) = channel.receive(rt) else {
+        let Some(answered) = replies.receive(rt) else {
             break;
         };
         if let Some(reply) = sheet.take(answered) {
@@ -178,7 +173,7 @@ impl<J: Naming> Transport<J> for Mailboxes<'_, J> {
             rt,
             self.alloc,
             &mut self.post,
-            &mut self.channel,
+            &mut self.replies,
             number,
             to,
             ask,
@@ -189,20 +184,17 @@ impl<J: Naming> Transport<J> for Mailboxes<'_, J> {
     }
 
     fn next_reply<R: Wait>(&mut self, rt: &R) -> Option<(Place, Answer<J>)> {
-        next_of(rt, &mut self.channel, &mut self.sheet)
+        next_of(rt, &mut self.replies, &mut self.sheet)
     }
 
-    /// Takes memory only where late answers leave too little room in the channel.
+    /// Takes memory once in 2^64 calls, when the numbers of its calls are used up.
     fn renew<R: Wait>(&mut self, rt: &R) -> Result<(), Fault> {
-        let answers = 2 * self.sheet.room();
-        self.channel.drain(rt);
-        if self.channel.can_go_on(answers) {
-            self.channel.go_on();
+        if self.replies.can_go_on() {
+            self.replies.go_on(rt);
         } else {
-            // What is still sent over the channel that is let go is read by nobody.
-            self.channel = Channel::new(self.alloc, CALLS * answers)?;
+            self.replies = ReplyQueue::new(self.alloc, 2 * self.sheet.room())?;
         }
-        self.sheet.renew(self.channel.call());
+        self.sheet.renew(self.replies.call());
         Ok(())
     }
 }

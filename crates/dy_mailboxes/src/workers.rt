@@ -1,7 +1,7 @@
 // A worker of a node: it answers what comes to the node's mailbox.
 ghost use Rattle.std.specs.Prelude.{◌≡◌, true, false, None};
 ghost use Rattle.dy_node.specs.Answers.{AnsweredBy, IsDown, MayAsk};
-ghost use Rattle.dy_mailboxes.specs.inside.Channels.{messages_of};
+ghost use Rattle.dy_mailboxes.specs.inside.Calls.{messages_of};
 
 use crate::boxes::Inbox;
 use crate::gates::Gate;
@@ -13,7 +13,7 @@ use dy_shares::Naming;
 use std::sync::{Mutex, Wait};
 
 /// Answers what comes until the mailbox is closed and empty: each ask passes the gate, then locks
-/// the node, then the book. May wait for an ask, for locks, and for room for an answer.
+/// the node, then the book. May wait for an ask, and for locks.
 pub fn serve<J: Naming, G: Gate, R: Wait>(
     rt: &R,
     node: &Mutex<Node<J>>,
@@ -42,15 +42,15 @@ fn serve_one<J: Naming, G: Gate, R: Wait>(
         number,
         to,
         parcel,
-        mut back,
+        reply_to,
     } = posted;
     let ask = parcel.ask();
     gate.pass(to, &ask);
     let (answer, later) = answer_locked(rt, node, book, to, &ask);
     let (first, second) = messages(call, number, answer, later);
-    let _sent = back.send(rt, first);
+    reply_to.send(rt, first);
     if let Some(second) = second {
-        let _sent = back.send(rt, second);
+        reply_to.send(rt, second);
     }
 }
 
@@ -70,7 +70,6 @@ fn messages<J: Naming>(
                 call,
                 number,
                 answer,
-                is_first: false,
                 is_last: true,
             };
             (false, Some(second))
@@ -80,7 +79,6 @@ fn messages<J: Naming>(
         call,
         number,
         answer,
-        is_first: true,
         is_last,
     };
     (first, second)

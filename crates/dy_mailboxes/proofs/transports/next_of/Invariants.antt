@@ -1,7 +1,6 @@
 use Rattle.std.proofs.Common.{◌≡◌}
-use Rattle.dy_mailboxes.specs.inside.Channels.{IsFewer}
 use Rattle.dy_mailboxes.proofs.transports.next_of.Given as goal
 
--- nothing is told while nothing is handed on, and no more may come than at first
+-- nothing is told while nothing is handed on
 abbrev pub invariant-waiting : goal.invariant-waiting
-invariant-waiting g l = (l.sheet ≡ l.initial.sheet) × IsFewer l.initial.channel l.channel
+invariant-waiting g l = (l.sheet ≡ l.initial.sheet) × (l.replies ≡ l.initial.replies)
