@@ -1,4 +1,4 @@
-ghost use Rattle.std.specs.Prelude.{◌≡◌, ◌≢◌, ◌<◌, ◌≤◌, ◌+◌, ◌++◌, ◌∷◌, [], ◌^◌, false, true};
+ghost use Rattle.std.specs.Prelude.{◌≡◌, ◌≢◌, ◌↔◌, ◌<◌, ◌≤◌, ◌+◌, ◌++◌, ◌∷◌, [], ◌^◌, false, true};
 ghost use Rattle.std.specs.Prelude.{length, IfOk, IfNone, IfSome, IsOkUnless};
 ghost use Rattle.std.specs.VecDeque.{deque_capacity};
 ghost use Rattle.dy_mailboxes.specs.inside.Calls.{first_call, next_call, with_ask_if};
@@ -189,7 +189,7 @@ impl<J: Naming> ReplyQueue<J> {
 
     /// Whether a call can have the next number. Takes no memory.
     pub fn can_go_on(&self) -> bool
-        ensures { result ≡ true → self.now.call + 1 < 2 ^ 64 }
+        ensures { result ≡ true ↔ self.now.call + 1 < 2 ^ 64 }
     {
         self.call < u64::MAX
     }
