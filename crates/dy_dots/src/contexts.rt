@@ -72,7 +72,22 @@ impl Context {
     }
 
     /// Adds the dot. Takes no memory where it has it.
+    #[inline(always)]
     pub fn insert(&mut self, dot: Dot) -> Result<(), Fault>
+        ensures ok { OnOk result (self.new ≡ set.insert self.old dot) }
+        ensures err { OnErr result (self.new ≡ self.old) }
+        ensures spared { IsTrue (set.contains self.old dot) → IsOk result }
+        ensures memory { IsOkUnless result Fault.OutOfMemory }
+    {
+        if runs::go_on(&mut self.runs, &dot) {
+            return Ok(());
+        }
+        self.put_in(dot)
+    }
+
+    /// The same, wherever the dot's place is.
+    #[inline(never)]
+    fn put_in(&mut self, dot: Dot) -> Result<(), Fault>
         ensures ok { OnOk result (self.new ≡ set.insert self.old dot) }
         ensures err { OnErr result (self.new ≡ self.old) }
         ensures spared { IsTrue (set.contains self.old dot) → IsOk result }

@@ -207,6 +207,24 @@ pub(crate) fn add(runs: &mut Runs, dot: &Dot) -> Result<(), AllocFailed<Run>>
     Ok(())
 }
 
+/// Adds the dot where it comes right behind the last run: that one goes on, which takes no memory.
+#[inline(always)]
+pub(crate) fn go_on(runs: &mut Runs, dot: &Dot) -> bool
+    requires { AreApart runs.old.items }
+    ensures yes { result ≡ true → Added runs.old.items (single dot.now) runs.new.items }
+    ensures no { result ≡ false → runs.new.items ≡ runs.old.items }
+    ensures valid { IsDot dot.now }
+{
+    let counter = dot.counter();
+    match runs.as_mut_slice().last_mut() {
+        Some(run) if run.node == dot.node() && run.last == counter - 1 => {
+            run.last = counter;
+            true
+        }
+        _ => false,
+    }
+}
+
 /// The one that starts first of the first runs of two lists, and what is left of both.
 fn split_next<'a>(a: &'a [Run], b: &'a [Run]) -> Option<(Run, &'a [Run], &'a [Run])>
     ensures some { IfSome result (λ p. IsNextRun a.now b.now p.0 p.1.now p.2.now) }
