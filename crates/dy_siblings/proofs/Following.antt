@@ -1,5 +1,5 @@
 -- Versions that follow nothing: what is made of them follows nothing, and none follows another.
-use Rattle.std.proofs.Common.{◌≡◌, ◌++◌, ◌||◌, Bool, true, false, not, List, refl, sym, ap, ◌∙◌, ⊎_elim}
+use Rattle.std.proofs.Common.{◌≡◌, ◌↔◌, ◌++◌, ◌||◌, ◌∷◌, Bool, true, false, not, List, refl, sym, ap, ◌∙◌, ⊎_elim}
 use Rattle.std.specs.List.{list_any}
 use Rattle.std.specs.FinSet as set
 use Rattle.std.proofs.lemmas.Bool.{true≢false}
@@ -9,7 +9,7 @@ use Rattle.dy_siblings.specs.Versions.{VersionParts, precedes}
 use Rattle.dy_siblings.specs.Siblings.{is_past, without}
 use Rattle.dy_siblings.specs.inside.Lists.{FollowNothing}
 use Rattle.dy_siblings.specs.inside.Merging.{HasMore, IsMerge}
-use Rattle.dy_siblings.proofs.Members.{none_from, filter_from, in_cases}
+use Rattle.dy_siblings.proofs.Members.{none_from, filter_from, in_cases, in_tail}
 
 -- where one of two may not follow, neither may
 pub neither : (a b : Bool) → (a || b) ≡ false → (a ≡ false) × (b ≡ false)
@@ -20,6 +20,14 @@ neither false b e = (refl, e)
 pub is_so : (b : Bool) → not b ≡ false → b ≡ true
 is_so true e = refl
 is_so false e = absurd (true≢false e)
+
+-- what follows nothing does so with one more that follows nothing, and no other way
+pub one_more_follows_nothing : (vs : List VersionParts) (v : VersionParts) → v.past ≡ set.empty →
+    FollowNothing (v ∷ vs) ↔ FollowNothing vs
+one_more_follows_nothing vs v none = (
+  λ all u h. all u (in_tail v u vs h),
+  λ all u h. ⊎_elim (λ same. ap (λ x. x.past) same ∙ none) (all u) (in_cases v u vs h),
+)
 
 pub merge_follows_nothing : (a b vs : List VersionParts) → IsMerge a b vs → FollowNothing a →
     FollowNothing b → FollowNothing vs

@@ -1,5 +1,5 @@
 // The one version that a row has more than another, side by side with all of that.
-ghost use Rattle.std.specs.Prelude.{◌≡◌, ◌||◌, IfSome, IfNone, false};
+ghost use Rattle.std.specs.Prelude.{◌≡◌, ◌↔◌, ◌||◌, IfSome, IfNone, false};
 ghost use Rattle.std.specs.List.{list_any};
 ghost use Rattle.dy_siblings.specs.Siblings.{IsBeside, IsLone, Rise};
 ghost use Rattle.dy_siblings.specs.Versions.{VersionParts, precedes};
@@ -39,6 +39,18 @@ fn lone<'a>(a: &[Version], b: &'a [Version]) -> Option<(usize, &'a Version)>
         }
     }
     found
+}
+
+/// Whether one of the versions follows any dot at all.
+pub(crate) fn follow_any(versions: &[Version]) -> bool
+    ensures { (result ≡ false) ↔ FollowNothing versions.now }
+{
+    for version in versions {
+        if !version.past().is_empty() {
+            return true;
+        }
+    }
+    false
 }
 
 // Whether this one follows one of the versions. Most follow none.

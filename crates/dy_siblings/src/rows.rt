@@ -67,6 +67,19 @@ impl Row {
         })
     }
 
+    /// The row of these versions. Takes no memory.
+    pub fn from_versions(key: Key, versions: Vec<Version>) -> Row
+        requires { IsSiblingSet key versions.items }
+        ensures { result ≡ record { key = key; versions = versions.items } }
+    {
+        let may_follow = besides::follow_any(versions.as_slice());
+        Row {
+            key,
+            versions: Versions::of(versions),
+            may_follow,
+        }
+    }
+
     /// The key. Takes no memory.
     pub fn key(&self) -> &Key
         ensures { result.now ≡ self.now.key }
