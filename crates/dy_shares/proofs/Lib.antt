@@ -8,6 +8,7 @@ pub mod Later
 pub mod Additions
 pub mod Accounts
 pub mod Sent
+pub mod Keeping
 pub mod Sessions
 pub mod Scenes
 pub mod Whole

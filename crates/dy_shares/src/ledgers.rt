@@ -15,6 +15,7 @@ ghost use Rattle.dy_shares.specs.Shares.{empty_account};
 ghost use Rattle.dy_shares.specs.Shares.{first_parts, first_session, node_of, receipt_parts};
 ghost use Rattle.dy_shares.specs.Shares.{steps_of, told_to, untold, with_ack, with_entries};
 ghost use Rattle.dy_shares.specs.Shares.{with_session, with_steps};
+ghost use Rattle.dy_shares.specs.Trails.{AreKept};
 ghost use Rattle.dy_shares.specs.declared.ledgers.TheConstants.{MAX_SESSIONS};
 
 use crate::chronicles::Chronicle;
@@ -22,12 +23,14 @@ use crate::endings::{
     EndRefused, drop_nodes, drop_sessions, end_nodes, end_sessions, missing_node, missing_session,
 };
 use crate::entries::Batch;
+use crate::kept_steps::KeptStep;
 use crate::names::{Blank, Naming};
 use crate::node_shares::{NodeShare, open_nodes};
 use crate::parts::{Roll, Share};
 use crate::receipts::Receipt;
 use crate::session_shares::{SessionShare, Spent};
 use crate::step_refs::StepRef;
+use crate::trails::keep_all;
 use dy_core::{Acked, Place};
 use dy_dots::{Dot, Fault, NodeId};
 use dy_siblings::Key;
@@ -43,9 +46,10 @@ pub struct Ledger<J: Naming> {
     alloc: Global,
     nodes: u8,
     sessions: usize,
-    // How many steps the log has, and its acks: the steps themselves are there for contracts alone.
+    // How many steps the log has, its acks, and each step as it is kept.
     pub(crate) steps: usize,
     pub(crate) acks: Vec<Acked>,
+    pub(crate) trail: Vec<KeptStep>,
     pub(crate) chronicle: Chronicle<J>,
     roll: Roll<J>,
 }
@@ -54,7 +58,8 @@ impl<J: Naming> Model for Ledger<J> {
     ghost use Rattle.std.specs.Prelude.{◌≡◌};
     ghost use Rattle.dy_core.specs.Worlds.{layout_of};
     ghost use Rattle.dy_shares.specs.inside.Parts.{IsLedger};
-    ghost use Rattle.dy_shares.specs.Shares.{Account};
+    ghost use Rattle.dy_shares.specs.Shares.{Account, steps_of};
+    ghost use Rattle.dy_shares.specs.Trails.{AreKept};
     ghost use Rattle.dy_shares.specs.Codes.{account_code};
 
     ghost Value = { Account };
@@ -64,7 +69,7 @@ impl<J: Naming> Model for Ledger<J> {
     ghost view = { λ l. record { log = l.chronicle; sessions = l.sessions } };
 
     ghost invariant = { λ l.
-        (l.nodes ≡ J.ring.nodes)
+        ((l.nodes ≡ J.ring.nodes) × AreKept l.trail.items (steps_of l.chronicle))
         × IsLedger J.ring.nodes (layout_of J.ring J.n) l.steps l.acks.items l.sessions l.chronicle
         l.roll };
 }
@@ -93,6 +98,7 @@ impl<J: Naming> Ledger<J> {
             sessions: 0,
             steps: 0,
             acks: Vec::new(alloc),
+            trail: Vec::new(alloc),
             chronicle: chronicle.named(),
             roll,
         };
@@ -135,7 +141,7 @@ impl<J: Naming> Ledger<J> {
         self.roll.compare(&mut share.share);
     }
 
-    /// Adds steps of one node to the log, all or none, and to the node's share. Takes no memory.
+    /// Adds steps of one node to the log, all or none, and to the node's share.
     pub fn node_steps(
         &mut self,
         share: &mut NodeShare<J>,
@@ -183,6 +189,7 @@ impl<J: Naming> Ledger<J> {
         self.agree_session(share);
         self.chronicle.learn(&share.front);
         share.spent.reserve(1)?;
+        share.numbers.acks.reserve(1)?;
         let ack = Acked {
             key: key.try_clone(self.alloc)?,
             dot,
@@ -192,12 +199,13 @@ impl<J: Naming> Ledger<J> {
         let session = share.number;
         self.append(&mut share.share, Some(session), &steps, Some(ack))?;
         share.spent.push_reserved(Spent::of(receipts));
+        share.numbers.acks.push_reserved(self.steps);
         share.since = share.since.max(self.steps);
         share.front.join(&self.chronicle.front());
         Ok(())
     }
 
-    /// Adds a fetch to the log, which changes no share. Takes no memory.
+    /// Adds a fetch to the log, which changes no share.
     pub fn fetch_step(&mut self, place: Place, key: &Key) -> Result<(), Fault>
         ensures log { OnOk result
             (self.new ≡ with_entries self.old (untold (Fetch place key.now) ∷ [])) }
@@ -214,7 +222,10 @@ impl<J: Naming> Ledger<J> {
             told: None,
             steps: &steps,
         };
+        let kept = self.trail.len();
+        keep_all(self.alloc, &mut self.trail, &steps)?;
         if !self.chronicle.append(&batch) {
+            self.trail.truncate(kept);
             return Err(Fault::OutOfMemory);
         }
         self.steps = count;
@@ -247,7 +258,10 @@ impl<J: Naming> Ledger<J> {
             return Err(Fault::OutOfMemory);
         };
         self.acks.reserve(ack.is_some() as usize)?;
+        let kept = self.trail.len();
+        keep_all(self.alloc, &mut self.trail, steps)?;
         if !self.chronicle.append(&Batch { told, steps }) {
+            self.trail.truncate(kept);
             return Err(Fault::OutOfMemory);
         }
         let added = self.chronicle.added(self.steps);
@@ -274,14 +288,15 @@ impl<J: Naming> Ledger<J> {
         false
     }
 
-    /// Ends the ledger, where each of its shares is handed in; otherwise the ledger and the shares
-    /// come back, each list in its order. Takes no memory.
+    /// Ends the ledger, where each of its shares is handed in, and gives its trail; otherwise the
+    /// ledger and the shares come back, each list in its order. Takes no memory.
     pub fn end(
         self,
         nodes: Vec<NodeShare<J>>,
         sessions: Vec<SessionShare<J>>,
-    ) -> Result<(), EndRefused<J>>
+    ) -> Result<Vec<KeptStep>, EndRefused<J>>
         ensures exact { IfOk result (λ _. AreAll J.ring.nodes J.r self nodes.items sessions.items) }
+        ensures trail { IfOk result (λ trail. AreKept trail.items (steps_of self.log)) }
         ensures shares_missing { IfErr result (λ _.
             IsMissing J.ring.nodes self.sessions nodes.items sessions.items) }
         ensures ledger_back { IfErr result (λ refused. refused.ledger ≡ self) }
@@ -308,12 +323,13 @@ impl<J: Naming> Ledger<J> {
             sessions: _,
             steps: _,
             acks: _,
+            trail,
             mut chronicle,
             mut roll,
         } = self;
         end_nodes(&mut roll, nodes);
         end_sessions(&mut roll, &mut chronicle, sessions);
-        Ok(())
+        Ok(trail)
     }
 
     /// Ends the ledger with whatever shares are there, and gives nothing.
@@ -324,6 +340,7 @@ impl<J: Naming> Ledger<J> {
             sessions: _,
             steps: _,
             acks: _,
+            trail: _,
             chronicle: _,
             roll: _,
         } = self;

@@ -1,15 +1,12 @@
 use dy_core::Place;
-use dy_dots::{Context, Dot, NodeId};
-use dy_siblings::{Key, Row, Value};
+use dy_dots::Dot;
+use dy_siblings::{Key, Row, Version};
 
 // What a step says, its parts lent.
 #[derive(Clone, Copy, Drop)]
 pub enum Said<'a> {
     Issued {
-        node: NodeId,
-        key: &'a Key,
-        context: &'a Context,
-        value: Option<&'a Value>,
+        version: &'a Version,
     },
     Held {
         place: Place,

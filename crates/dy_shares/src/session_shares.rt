@@ -1,9 +1,10 @@
-ghost use Rattle.std.specs.Prelude.{◌≡◌, ℕ, ◌+◌, ◌<◌, ◌≤◌, max, nat_eq, map, length, List, []};
-ghost use Rattle.std.specs.Prelude.{OnOk, OnErr, IsOkUnless};
+ghost use Rattle.std.specs.Prelude.{◌≡◌, ℕ, ◌+◌, ◌<◌, ◌≤◌, ◌++◌, max, nat_eq, map, length, List};
+ghost use Rattle.std.specs.Prelude.{[], OnOk, OnErr, IsOkUnless, vec_len, vec_capacity};
 ghost use Rattle.std.specs.List.{All, IsDistinct};
 ghost use mathlib.Core.List.{IsPrefix};
 ghost use Rattle.dy_core.specs.Logs.{Answer, IsAnswer};
 ghost use Rattle.dy_shares.specs.inside.Parts.{AgreesAsSession, held};
+ghost use Rattle.dy_shares.specs.Numbers.{AreNumbersOf};
 ghost use Rattle.dy_shares.specs.Shares.{first_session, greatest, since_of, steps_of, with_get};
 
 use crate::chronicles::{Chronicle, Front};
@@ -12,6 +13,7 @@ use crate::parts::{Roll, Share};
 use crate::receipts::Receipt;
 use crate::seens::Seen;
 use crate::sinces::Since;
+use crate::step_numbers::StepNumbers;
 use dy_dots::Fault;
 use std::alloc::Global;
 use std::marker::Model;
@@ -86,6 +88,7 @@ pub struct SessionShare<J: Naming> {
     pub(crate) share: Share<J>,
     pub(crate) spent: Vec<Spent<J>>,
     gets: Vec<Get<J>>,
+    pub(crate) numbers: StepNumbers,
     pub(crate) since: usize,
     // A front at which receipts were seen to be spent for each ack, and each get to match the log.
     pub(crate) front: Front<J>,
@@ -94,6 +97,7 @@ pub struct SessionShare<J: Naming> {
 impl<J: Naming> Model for SessionShare<J> {
     ghost use Rattle.dy_shares.specs.inside.Parts.{IsSessionShare, told_parts};
     ghost use Rattle.dy_shares.specs.Shares.{SessionPart};
+    ghost use Rattle.dy_shares.specs.Numbers.{AreNumbersOf};
     ghost use Rattle.dy_shares.specs.Codes.{session_part_code};
 
     ghost Value = { SessionPart };
@@ -104,7 +108,8 @@ impl<J: Naming> Model for SessionShare<J> {
 
     ghost invariant = { λ s.
         IsSessionShare J.ring.nodes J.r s.share.index s.since s.front
-        (told_parts s.number s.share.part s.spent.items s.gets.items) };
+        (told_parts s.number s.share.part s.spent.items s.gets.items)
+        × AreNumbersOf s.numbers (told_parts s.number s.share.part s.spent.items s.gets.items) };
 }
 
 impl<J: Naming> SessionShare<J> {
@@ -125,6 +130,7 @@ impl<J: Naming> SessionShare<J> {
             share,
             spent: Vec::new(alloc),
             gets: Vec::new(alloc),
+            numbers: StepNumbers::new(alloc),
             since: 0,
             front,
         }
@@ -158,23 +164,32 @@ impl<J: Naming> SessionShare<J> {
         self.gets.len()
     }
 
+    /// The step numbers that the session was told. Takes no memory.
+    pub fn numbers(&self) -> &StepNumbers
+        ensures { AreNumbersOf result.now self.now }
+    {
+        &self.numbers
+    }
+
     /// Tells the session a get: its answers, as many as a get needs, of one key and distinct homes,
-    /// each later than what the session was told before.
-    pub fn note_get(&mut self, seens: &Vec<Seen<J>>) -> Result<(), Fault>
-        requires count { length seens.now.items ≡ J.r }
-        requires one_key { (key : List ℕ) × All (λ a. a.key ≡ key) seens.now.items }
-        requires homes { IsDistinct nat_eq (map (λ a. a.home) seens.now.items) }
-        requires later { All (λ a. since_of self.old < a.at) seens.now.items }
+    /// each later than what the session was told before. It keeps their step numbers.
+    pub fn note_get(&mut self, seens: Vec<Seen<J>>) -> Result<(), Fault>
+        requires count { length seens.items ≡ J.r }
+        requires one_key { (key : List ℕ) × All (λ a. a.key ≡ key) seens.items }
+        requires homes { IsDistinct nat_eq (map (λ a. a.home) seens.items) }
+        requires later { All (λ a. since_of self.old < a.at) seens.items }
         ensures ok { OnOk result
-            (self.new ≡ with_get self.old (since_of self.old) seens.now.items) }
+            (self.new ≡ with_get self.old (since_of self.old) seens.items) }
         ensures err { OnErr result (self.new ≡ self.old) }
         ensures memory { IsOkUnless result Fault.OutOfMemory }
     {
         self.gets.reserve(1)?;
+        self.numbers.fetches.reserve(seens.len())?;
         let since = self.since;
         self.since = learn_all(&mut self.front, since, seens.as_slice());
         let acks = self.spent.len();
-        self.gets.push_reserved(Get::of(since, seens, acks));
+        push_numbers(&mut self.numbers.fetches, seens.as_slice());
+        self.gets.push_reserved(Get::of(since, &seens, acks));
         Ok(())
     }
 
@@ -198,6 +213,7 @@ impl<J: Naming> SessionShare<J> {
             share,
             spent: _,
             gets: _,
+            numbers: _,
             since: _,
             front,
         } = self;
@@ -212,10 +228,21 @@ impl<J: Naming> SessionShare<J> {
             share,
             spent: _,
             gets: _,
+            numbers: _,
             since: _,
             front: _,
         } = self;
         share.abandon();
+    }
+}
+
+// Puts the numbers of the answers behind those that are there.
+fn push_numbers<J: Naming>(numbers: &mut Vec<usize>, seens: &[Seen<J>])
+    requires { vec_len numbers.old + length seens.now ≤ vec_capacity numbers.old }
+    ensures { numbers.new.items ≡ numbers.old.items ++ map (λ a. a.at) seens.now }
+{
+    for seen in seens {
+        numbers.push_reserved(seen.at());
     }
 }
 

@@ -1,14 +1,16 @@
-ghost use Rattle.std.specs.Prelude.{◌≡◌};
-ghost use Rattle.std.specs.Option.{option_copied};
+ghost use Rattle.std.specs.Prelude.{◌≡◌, IfOk, IsOkUnless};
 ghost use Rattle.dy_core.specs.declared.steps.Step.TheVariants.{Issue, Hold, Release, Fetch, Ack};
+ghost use Rattle.dy_shares.specs.Trails.{Keeps};
 
+use crate::kept_steps::KeptStep;
 use crate::said::Said;
 use dy_core::Place;
-use dy_dots::{Context, Dot, NodeId};
-use dy_siblings::{Key, Row, Value};
+use dy_dots::{Dot, Fault};
+use dy_siblings::{Key, Row, Version};
+use std::alloc::Global;
 use std::marker::Model;
 
-/// A step whose parts are lent. The log is there for contracts alone, so nobody keeps them.
+/// A step whose parts are lent.
 #[derive(Drop)]
 pub struct StepRef<'a> {
     said: Said<'a>,
@@ -27,22 +29,13 @@ impl<'a> Model for StepRef<'a> {
 }
 
 impl<'a> StepRef<'a> {
-    /// The node makes a version of the key, which follows the context's versions. Takes no memory.
-    pub fn issue(
-        node: NodeId,
-        key: &'a Key,
-        context: &'a Context,
-        value: Option<&'a Value>,
-    ) -> StepRef<'a>
-        ensures { result ≡ Issue node key.now context.now (option_copied value.entry) }
+    /// The node of its dot makes the version; the context is its whole past. Takes no memory.
+    pub fn issue(version: &'a Version) -> StepRef<'a>
+        ensures { result ≡
+            Issue version.now.dot.node version.now.key version.now.past version.now.value }
     {
         StepRef {
-            said: Said::Issued {
-                node,
-                key,
-                context,
-                value,
-            },
+            said: Said::Issued { version },
         }
     }
 
@@ -79,6 +72,50 @@ impl<'a> StepRef<'a> {
     {
         StepRef {
             said: Said::Acked { key, dot, w },
+        }
+    }
+
+    // The step in the form that is kept.
+    pub(crate) fn kept(&self, alloc: Global) -> Result<KeptStep, Fault>
+        ensures ok { IfOk result (λ kept. Keeps kept self.now) }
+        ensures memory { IsOkUnless result Fault.OutOfMemory }
+    {
+        match &self.said {
+            Said::Issued { version } => {
+                let version = version.try_clone(alloc)?;
+                Ok(KeptStep::Issued { version })
+            }
+            Said::Held { place, row } => {
+                // Each version of a row is of its key.
+                let _versions = row.versions();
+                let key = row.key().try_clone(alloc)?;
+                let dots = row.dots(alloc)?;
+                Ok(KeptStep::Held {
+                    place: *place,
+                    key,
+                    dots,
+                })
+            }
+            Said::Released { place, key, dot } => {
+                let key = key.try_clone(alloc)?;
+                Ok(KeptStep::Released {
+                    place: *place,
+                    key,
+                    dot: *dot,
+                })
+            }
+            Said::Fetched { place, key } => {
+                let key = key.try_clone(alloc)?;
+                Ok(KeptStep::Fetched { place: *place, key })
+            }
+            Said::Acked { key, dot, w } => {
+                let key = key.try_clone(alloc)?;
+                Ok(KeptStep::Acked {
+                    key,
+                    dot: *dot,
+                    w: *w,
+                })
+            }
         }
     }
 }

@@ -4,9 +4,11 @@ ghost use Rattle.std.specs.List.{All};
 ghost use mathlib.Core.List.{IsPrefix};
 ghost use Rattle.dy_core.specs.Worlds.{layout_of};
 ghost use Rattle.dy_core.specs.Logs.{IsAnswer, IsLegal};
+ghost use Rattle.dy_shares.specs.Trails.{AreKept};
 ghost use Rattle.dy_shares.specs.Shares.{IsReceipt, acks_of, answer_of, receipt_parts, steps_of};
 
 use crate::chronicles::Front;
+use crate::kept_steps::KeptStep;
 use crate::ledgers::Ledger;
 use crate::names::Naming;
 use crate::receipts::Receipt;
@@ -30,6 +32,13 @@ impl<J: Naming> Ledger<J> {
         ensures { result.now ≡ acks_of (steps_of self.now.log) }
     {
         self.acks.as_slice()
+    }
+
+    /// Each step of the log as it is kept, the oldest first. Takes no memory.
+    pub fn trail(&self) -> &[KeptStep]
+        ensures { AreKept result.now (steps_of self.now.log) }
+    {
+        self.trail.as_slice()
     }
 
     /// A receipt of what is covered as the log stands. Takes no memory.

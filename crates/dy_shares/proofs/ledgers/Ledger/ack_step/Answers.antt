@@ -1,6 +1,6 @@
 -- The ack has the last number of the log, so it is later than all that the session was told.
-use Rattle.std.proofs.Common.{◌≡◌, ℕ, ◌+◌, max, List, [], ◌∷◌, ◌++◌, Some, length, length-append, arith, rules, sym, ap, ◌∙◌, subst}
-use Rattle.std.proofs.lemmas.List.{append_assoc}
+use Rattle.std.proofs.Common.{◌≡◌, ℕ, ◌+◌, max, List, [], ◌∷◌, ◌++◌, Some, length, length-append, map, arith, rules, sym, ap, ◌∙◌, subst}
+use Rattle.std.proofs.lemmas.List.{append_assoc, map-append}
 use mathlib.Core.List.{IsPrefix}
 use Rattle.dy_core.specs.declared.steps.Step.TheVariants.{Ack}
 use Rattle.dy_shares.specs.Shares.{Account, AckTold, AreOwned, ReceiptParts, SessionPart, SessionStays, ack_at, told_to, with_ack, with_entries}
@@ -18,13 +18,13 @@ append-requires-clause-owned g c = λ within.
     let sessions = c.self.inside.sessions in
     let s = c.share.inside in
     subst (λ x. AreOwned nodes sessions (entries_of (Some s.number) (x ∷ []))) (sym c.ack.ensures)
-    (ack_owned nodes sessions s.number s.share.index c.args.key.now c.args.dot c.args.w c.share.invariant.seat_is within)
+    (ack_owned nodes sessions s.number s.share.index c.args.key.now c.args.dot c.args.w c.share.invariant.0.seat_is within)
 
 -- the share of the roll has the ack more, and the session's front takes in the log
 pub invariant_of-share-2 : goal.invariant_of-share-2
 invariant_of-share-2 g c =
     let s = c.share.inside in
-    let i = c.share.invariant in
+    let i = c.share.invariant.0 in
     let nodes = g.J.Naming.ring.nodes in
     let r = g.J.Naming.r in
     let step = Ack c.args.key.now c.args.dot c.args.w in
@@ -55,10 +55,17 @@ invariant_of-share-2 g c =
     let latest_is = latest ∙ ap (max s.since) number in
     let acked = session_acked nodes r s.share.index s.since c.max-share-inside.result s.front log (entry ∷ more) old c.args.key.now c.args.dot c.args.w receipts i c.requires.ack latest_is begins (omega arith) (omega (arith, before, i.reached, ap length chronicle)) c.requires.hold in
     let told_as : List AckTold → List (List ReceiptParts) → SessionPart = λ xs rs. record { session = s.number; acks = xs; spent = rs; gets = s.gets.items } in
+    let number_of = λ (a : AckTold). a.at in
+    let numbered : c.push_reserved-2.new.self.items ≡ s.numbers.acks.items ++ c.self-2.inside.steps ∷ [] = search rules in
+    let numbers = numbered
+    ∙ (ap (λ n. s.numbers.acks.items ++ n ∷ []) number
+    ∙ (ap (λ xs. xs ++ at ∷ []) c.share.invariant.1.acks_are
+    ∙ sym (ap (map number_of) acks ∙ map-append number_of (done_acks s.share.part) (ack_at at step)))) in (
     subst (λ k. IsSessionShare nodes r k c.max-share-inside.result c.join-2.new.self (told_as (done_acks c.append.new.share.part) c.push_reserved.new.self.items)) (sym index)
     (subst (λ xs. IsSessionShare nodes r s.share.index c.max-share-inside.result c.join-2.new.self (told_as xs c.push_reserved.new.self.items)) (sym acks)
     (subst (λ rs. IsSessionShare nodes r s.share.index c.max-share-inside.result c.join-2.new.self (told_as (old.acks ++ ack_at at step) rs)) (sym pushed)
-    (subst (λ xs. IsSessionShare nodes r s.share.index c.max-share-inside.result xs (with_ack old at step receipts)) long acked)))
+    (subst (λ xs. IsSessionShare nodes r s.share.index c.max-share-inside.result xs (with_ack old at step receipts)) long acked))),
+    record { acks_are = numbers; fetches_are = c.share.invariant.1.fetches_are })
 
 -- the share has the ack more
 pub returns-clause-share : goal.returns-clause-share

@@ -14,7 +14,7 @@ pub returns-clause-belongs : goal.returns-clause-belongs
 returns-clause-belongs g c =
     let l = c.self.inside in
     let s = c.share.inside in
-    let i = c.share.invariant in
+    let i = c.share.invariant.0 in
     let part : SessionPart = record { session = s.number; acks = done_acks s.share.part; spent = s.spent.items; gets = s.gets.items } in
     let at = subst (λ k. get_elem? l.roll k ≡ some s.share.part) i.seat_is c.compare.ensures.agree in
     let told : List GetTold = c.args.share.now.gets in

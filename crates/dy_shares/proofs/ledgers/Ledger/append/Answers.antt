@@ -9,6 +9,8 @@ use Rattle.dy_shares.specs.declared.entries.Entry.{Entry}
 use Rattle.dy_shares.specs.declared.entries.Done.{Done}
 use Rattle.dy_shares.specs.Shares.{acks_of, steps_of, Account, AreOwned}
 use Rattle.dy_shares.specs.inside.Parts.{entries_of, held, numbered, IsLedger, IsPartOf}
+use Rattle.dy_shares.specs.Trails.{AreKept}
+use Rattle.dy_shares.proofs.Keeping.{kept_grown}
 use Rattle.dy_shares.proofs.Rolls.{roll_means}
 use Rattle.dy_shares.proofs.Accounts.{added_are, ledger_grown, seat_part, without_ack}
 use Rattle.dy_shares.proofs.ledgers.Ledger.append.Goals as goal
@@ -24,6 +26,13 @@ returns-in_default-clause-belongs g c =
 
 pub returns-in_err-reserve-clause-belongs : goal.returns-in_err-reserve-clause-belongs
 returns-in_err-reserve-clause-belongs g c =
+    let l = c.self.inside in
+    let layout = layout_of g.J.Naming.ring g.J.Naming.n in
+    subst (λ a. IsPartOf g.J.Naming.ring.nodes layout a c.args.share.now) c.self.view_is
+    (seat_part g.J.Naming.ring.nodes layout l.steps l.acks.items l.sessions l.chronicle l.roll c.self.invariant.1 c.args.share.now.index c.args.share.now.part c.compare.ensures.agree)
+
+pub returns-in_err-keep_all-clause-belongs : goal.returns-in_err-keep_all-clause-belongs
+returns-in_err-keep_all-clause-belongs g c =
     let l = c.self.inside in
     let layout = layout_of g.J.Naming.ring g.J.Naming.n in
     subst (λ a. IsPartOf g.J.Naming.ring.nodes layout a c.args.share.now) c.self.view_is
@@ -84,19 +93,22 @@ invariant_of-self-2 g c =
     let roll : c.grow.new.self ≡ slice_set l.roll k (own ++ numbered (length l.chronicle + 1) ss) =
     c.grow.ensures.roll ∙ (λ j. slice_set (c.compare.ensures.same.0 j) (same j).index ((same j).part ++ added j)) in
     let count : c.in-Some.total ≡ l.steps + length ss = search rules in
+    let more = c.in_ok-keep_all.ensures.ok in
+    let kept = subst (λ (xs : List Entry). AreKept c.keep_all.new.trail.items (steps_of xs)) (sym told)
+    (kept_grown l.trail.items more.0 c.keep_all.new.trail.items l.chronicle c.args.told ss more.1 i.0.1 more.2) in
     let grown : (new : List Acked) → l.acks.items ++ acks_of ss ≡ new → IsLedger nodes layout c.in-Some.total new l.sessions c.append.new.self c.grow.new.self = λ new acked.
     subst (λ n. IsLedger nodes layout n new l.sessions c.append.new.self c.grow.new.self) (sym count)
     (subst (λ (es : List Entry). IsLedger nodes layout (l.steps + length ss) new l.sessions es c.grow.new.self) (sym told)
     (subst (λ (parts : List (List Done)). IsLedger nodes layout (l.steps + length ss) new l.sessions (l.chronicle ++ es) parts) (sym roll)
     (ledger_grown nodes layout l.steps l.acks.items l.sessions l.chronicle l.roll i.1 c.args.told ss new k own acked c.compare.ensures.agree c.requires.seat owned allowed))) in
-    elim c.match-ack-7.branch [
+    elim c.match-ack-9.branch [
       | in-Some-ack w ↦
           let one : acks_of ss ≡ w.in-Some-ack.ack ∷ [] = subst (λ o. MatchOption o (acks_of ss ≡ []) (λ a. acks_of ss ≡ a ∷ [])) w.in-Some-ack.is c.requires.ack in
           let pushed : w.push_reserved.new.self.items ≡ l.acks.items ++ w.in-Some-ack.ack ∷ [] = search rules in
-          subst (λ s. (s.nodes ≡ nodes) × IsLedger nodes layout c.in-Some.total s.acks.items s.sessions s.chronicle s.roll) (sym w.self-inside-is)
-          (i.0, grown w.push_reserved.new.self.items (ap (λ xs. l.acks.items ++ xs) one ∙ sym pushed))
+          subst (λ s. ((s.nodes ≡ nodes) × AreKept s.trail.items (steps_of s.chronicle)) × IsLedger nodes layout c.in-Some.total s.acks.items s.sessions s.chronicle s.roll) (sym w.self-inside-is)
+          ((i.0.0, kept), grown w.push_reserved.new.self.items (ap (λ xs. l.acks.items ++ xs) one ∙ sym pushed))
       | in_default-ack w ↦
           let none = without_ack c.args.ack (acks_of ss) c.requires.ack w.in_default-ack.not-Some in
-          subst (λ s. (s.nodes ≡ nodes) × IsLedger nodes layout c.in-Some.total s.acks.items s.sessions s.chronicle s.roll) (sym w.self-inside-is)
-          (i.0, grown c.reserve.new.self.items (ap (λ xs. l.acks.items ++ xs) none ∙ (append-nil l.acks.items ∙ sym c.reserve.ensures.items)))
+          subst (λ s. ((s.nodes ≡ nodes) × AreKept s.trail.items (steps_of s.chronicle)) × IsLedger nodes layout c.in-Some.total s.acks.items s.sessions s.chronicle s.roll) (sym w.self-inside-is)
+          ((i.0.0, kept), grown c.reserve.new.self.items (ap (λ xs. l.acks.items ++ xs) none ∙ (append-nil l.acks.items ∙ sym c.reserve.ensures.items)))
     ]

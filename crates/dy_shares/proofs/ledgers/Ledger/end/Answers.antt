@@ -2,7 +2,8 @@ use Rattle.std.proofs.Common.{ℕ, ◌<◌, subst}
 use Rattle.std.specs.List.{All}
 use Rattle.dy_core.specs.Worlds.{layout_of}
 use Rattle.dy_shares.specs.inside.Parts.{AgreesAsSession}
-use Rattle.dy_shares.specs.Shares.{AreAll, HasNode, HasSession}
+use Rattle.dy_shares.specs.Shares.{Account, AreAll, HasNode, HasSession, steps_of}
+use Rattle.dy_shares.specs.Trails.{AreKept}
 use Rattle.dy_shares.proofs.Accounts.{all_are}
 use Rattle.dy_shares.proofs.ledgers.Ledger.end.Goals as goal
 
@@ -15,8 +16,12 @@ returns-clause-exact g c =
     let r = g.J.Naming.r in
     let n_shares = c.args.nodes.items in
     let s_shares = c.args.sessions.items in
-    let each_node = subst (λ xs. (node : ℕ) → node < nodes → HasNode node xs) c.as_slice.ensures.value (subst (λ n. (node : ℕ) → node < n → HasNode node c.as_slice.result.now) i.0 c.in_default.ensures.none) in
+    let each_node = subst (λ xs. (node : ℕ) → node < nodes → HasNode node xs) c.as_slice.ensures.value (subst (λ n. (node : ℕ) → node < n → HasNode node c.as_slice.result.now) i.0.0 c.in_default.ensures.none) in
     let each_session = subst (λ xs. (session : ℕ) → session < l.sessions → HasSession session xs) c.as_slice-2.ensures.value c.in_default-missing_session.ensures.none in
     let as_sessions = subst (λ roll. All (AgreesAsSession nodes r roll l.chronicle) s_shares) c.end_nodes.ensures.same c.end_sessions.ensures.agree in
     subst (λ a. AreAll nodes r a n_shares s_shares) c.self.view_is
     (all_are nodes (layout_of g.J.Naming.ring g.J.Naming.n) l.steps l.acks.items l.sessions l.chronicle l.roll i.1 r n_shares s_shares c.end_nodes.ensures.low c.end_nodes.ensures.agree as_sessions each_node each_session)
+
+-- the trail is that of the log
+pub returns-clause-trail : goal.returns-clause-trail
+returns-clause-trail g c = subst (λ (a : Account). AreKept c.self.inside.trail.items (steps_of a.log)) c.self.view_is c.self.invariant.0.1

@@ -2,10 +2,12 @@ use Rattle.std.proofs.Common.{◌≡◌, List, [], ◌∷◌, ◌++◌, ◌+◌,
 use Rattle.dy_core.specs.Worlds.{layout_of}
 use Rattle.dy_core.specs.declared.steps.Step.TheVariants.{Fetch}
 use Rattle.dy_shares.specs.declared.entries.Entry.{Entry}
-use Rattle.dy_shares.specs.Shares.{SessionStays}
+use Rattle.dy_shares.specs.Shares.{SessionStays, steps_of}
+use Rattle.dy_shares.specs.Trails.{AreKept}
 use Rattle.dy_shares.specs.inside.Parts.{entries_of, IsLedger}
 use Rattle.dy_shares.proofs.Accounts.{ledger_free}
 use Rattle.dy_shares.proofs.Additions.{fetch_seat, fetch_owned, untold_stay}
+use Rattle.dy_shares.proofs.Keeping.{kept_grown}
 use Rattle.dy_shares.proofs.ledgers.Ledger.fetch_step.Goals as goal
 
 -- log and count grow alike, and the acks and the roll stay
@@ -18,8 +20,10 @@ invariant_of-self-2 g c =
     let ss = Fetch c.args.place c.args.key.now ∷ [] in
     let more = ledger_free nodes layout l.steps l.acks.items l.sessions l.chronicle l.roll i.1 None ss (fetch_seat nodes c.args.place c.args.key.now) (fetch_owned nodes l.sessions c.args.place c.args.key.now) (tt, tt) refl in
     let told : c.append.new.self ≡ l.chronicle ++ entries_of None ss = search rules in
-    let count : c.in-Some.count ≡ l.steps + 1 = search rules in (
-      i.0,
+    let count : c.in-Some.count ≡ l.steps + 1 = search rules in
+    let grown = c.in_ok-keep_all.ensures.ok in
+    let kept = kept_grown l.trail.items grown.0 c.keep_all.new.trail.items l.chronicle None ss grown.1 i.0.1 (subst (λ x. AreKept grown.0 (x ∷ [])) c.fetch.ensures grown.2) in (
+      (i.0.0, subst (λ (es : List Entry). AreKept c.keep_all.new.trail.items (steps_of es)) (sym told) kept),
       subst (λ n. IsLedger nodes layout n l.acks.items l.sessions c.append.new.self l.roll) (sym count)
           (subst (λ (es : List Entry). IsLedger nodes layout (l.steps + 1) l.acks.items l.sessions es l.roll) (sym told) more),
     )

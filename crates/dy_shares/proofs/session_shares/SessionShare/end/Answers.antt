@@ -9,7 +9,7 @@ use Rattle.dy_shares.proofs.session_shares.SessionShare.end.Goals as goal
 pub returns-clause-agrees : goal.returns-clause-agrees
 returns-clause-agrees g c =
     let s = c.self.inside in
-    let i = c.self.invariant in
+    let i = c.self.invariant.0 in
     subst (AgreesAsSession g.J.Naming.ring.nodes g.J.Naming.r c.args.roll.now c.args.chronicle.now) c.self.view_is
     (record {
       part = s.share.part;
