@@ -1,5 +1,5 @@
-//! What the shares of a ledger that ended say, all together, and what sessions are sure to read.
-//! Each is a function that does nothing.
+//! What the shares of a ledger that ended say, all together, what sessions are sure to read, and
+//! what a trail keeps. Each is a function that does nothing.
 ghost use Rattle.std.specs.Prelude.{◌≡◌, ℕ, ◌+◌, ◌<◌, ◌≤◌, ◌↔◌, IsTrue, List, Some, length, map};
 ghost use Rattle.std.specs.Prelude.{false, slice_get};
 ghost use Rattle.std.specs.List.{All, Contains};
@@ -14,7 +14,10 @@ ghost use Rattle.dy_core.specs.declared.acks.Acked.{Acked};
 ghost use Rattle.dy_shares.specs.Shares.{Account, AckTold, AreAll, GetTold, IsAckOf, IsAckSpent};
 ghost use Rattle.dy_shares.specs.Shares.{IsOfHomes, NodePart, ReceiptParts, SessionPart};
 ghost use Rattle.dy_shares.specs.Shares.{SessionBelongsTo, own_homes, shows_held, steps_of};
+ghost use Rattle.dy_core.specs.declared.steps.Step.{Step};
+ghost use Rattle.dy_shares.specs.Trails.{AreKept, Keeps};
 ghost use Rattle.dy_shares.specs.declared.entries.Entry.{Entry};
+ghost use Rattle.dy_shares.specs.declared.kept_steps.KeptStep.{KeptStep as Kept};
 
 /// Where all shares are there, what is held is what they show, and what is acknowledged is what
 /// they were told.
@@ -97,4 +100,14 @@ pub fn the_deleted_is_not_read_again()
         (g : GetTold) → Contains reader.gets g → t.at ≤ g.since →
         IsOfHomes ring n t.key g → n < r + length (own_homes spent) →
         All (λ u. precedes u v ≡ false) (newest (rows_of g.answers)) }
+{}
+
+/// A trail that keeps the steps of a log is as long as the log, and keeps at each place the step of
+/// that place.
+pub fn trails_keep_each_step()
+    ensures each { (kept : List Kept) (steps : List Step) → AreKept kept steps →
+        (i : ℕ) (k : Kept) → slice_get kept i ≡ Some k →
+        (s : Step) × (slice_get steps i ≡ Some s) × Keeps k s }
+    ensures many { (kept : List Kept) (steps : List Step) → AreKept kept steps →
+        length kept ≡ length steps }
 {}
