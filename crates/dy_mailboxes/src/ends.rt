@@ -4,12 +4,13 @@ ghost use Rattle.crossbeam_channel.specs.Ends.{receives_on, ruled_capacity, send
 
 use crossbeam_channel::protocol::{Free, Split};
 use crossbeam_channel::{Pass, RuledReceiver, RuledSender, TryRecvError, bounded_with};
+use crossbeam_utils::sync::{Parker, Unparker};
 use dy_dots::Fault;
 use std::alloc::Global;
 use std::sync::Wait;
 
-// Makes two passes of one that knows nothing.
-struct Alike;
+/// Makes two passes of one that knows nothing.
+pub struct Alike;
 
 impl Split<()> for Alike {
     ghost left = { λ v. v };
@@ -17,58 +18,58 @@ impl Split<()> for Alike {
     ghost right = { λ v. v };
 }
 
-/// An end of a channel that sends.
+/// An end of a channel that sends, and a pass for one who does.
 #[derive(Drop)]
 pub struct Sender<T: Drop> {
-    end: RuledSender<T, (), Free>,
-    pass: Pass<T, ()>,
-    pub room: usize,
+    pub end: RuledSender<T, (), Free>,
+    pub pass: Pass<T, ()>,
     ghost here: { IsSeatAt (sends_on end) pass },
-    ghost room_is: { ruled_capacity (sends_on end) ≡ room },
 }
 
-/// The end of a channel that receives.
+/// The end of a channel that receives. It sleeps as soon as nothing lies there, where the kit's
+/// looks for a while: who receives waits more often than not.
 #[derive(Drop)]
 pub struct Receiver<T: Drop> {
     end: RuledReceiver<T, (), Free>,
     pass: Pass<T, ()>,
+    parker: Parker,
     ghost here: { IsSeatAt (receives_on end) pass },
 }
 
-/// A channel with room for so many messages, whose sends take no memory: its two ends.
-pub fn channel<T: Drop>(alloc: Global, room: usize) -> Result<(Sender<T>, Receiver<T>), Fault>
+/// A channel with room for so many messages, whose sends take no memory: its two ends, and what
+/// wakes the one that receives.
+pub fn channel<T: Drop>(
+    alloc: Global,
+    room: usize,
+) -> Result<(Sender<T>, Receiver<T>, Unparker), Fault>
     requires { 0 < room }
-    ensures room { IfOk result (λ ends. ends.0.room ≡ room) }
+    ensures room { IfOk result (λ ends. ruled_capacity (sends_on ends.0.end) ≡ room) }
     ensures memory { IsOkUnless result Fault.OutOfMemory }
 {
     let (sender, receiver, mut first) = bounded_with::<T, (), Free, Global>(alloc, room)?;
     let second = sender.another::<Alike>(&mut first);
-    Ok((
-        Sender {
-            end: sender,
-            pass: first,
-            room,
-        },
-        Receiver {
-            end: receiver,
-            pass: second,
-        },
-    ))
+    let parker = Parker::new(alloc)?;
+    let waker = parker.unparker().clone()?;
+    let sending = Sender {
+        end: sender,
+        pass: first,
+    };
+    let receiving = Receiver {
+        end: receiver,
+        pass: second,
+        parker,
+    };
+    Ok((sending, receiving, waker))
 }
 
 impl<T: Drop> Sender<T> {
     /// One more end that sends over the same channel.
     pub fn try_clone(&mut self) -> Result<Sender<T>, Fault>
-        ensures same { self.new.room ≡ self.old.room }
         ensures memory { IsOkUnless result Fault.OutOfMemory }
     {
         let end = self.end.try_clone()?;
         let pass = self.end.another::<Alike>(&mut self.pass);
-        Ok(Sender {
-            end,
-            pass,
-            room: self.room,
-        })
+        Ok(Sender { end, pass })
     }
 
     /// Sends, and says whether an end receives. May wait while the channel is full. Takes no
@@ -81,8 +82,26 @@ impl<T: Drop> Sender<T> {
 }
 
 impl<T: Drop> Receiver<T> {
-    /// A message that lies in the channel, or why none does. Takes no memory.
-    pub fn receive_now<R: Wait>(&mut self, rt: &R) -> Result<T, TryRecvError> {
-        self.end.try_recv_as::<Free, R>(rt, &mut self.pass)
+    /// The next message; none where nothing lies there and no end sends. May wait for one. Takes no
+    /// memory.
+    pub fn receive<R: Wait>(&mut self, rt: &R) -> Option<T> {
+        for _ in rt.forever() {
+            match self.end.try_recv_as::<Free, R>(rt, &mut self.pass) {
+                Ok(message) => return Some(message),
+                Err(TryRecvError::Disconnected) => return None,
+                Err(TryRecvError::Empty) => self.parker.park(rt),
+            }
+        }
+        None
+    }
+
+    /// Takes out what lies there. Takes no memory.
+    pub fn drain<R: Wait>(&mut self, rt: &R) {
+        for _ in rt.forever() {
+            let next = self.end.try_recv_as::<Free, R>(rt, &mut self.pass);
+            if next.is_err() {
+                break;
+            }
+        }
     }
 }

@@ -12,9 +12,8 @@ mod sheets;
 mod transports;
 mod workers;
 
-pub use boxes::Inbox;
 pub use gates::{Gate, Open};
 pub use parcels::Posted;
-pub use posts::{MAILBOX_ROOM, Post};
+pub use posts::{Inbox, MAILBOX_ROOM, Post};
 pub use transports::Mailboxes;
 pub use workers::serve;

@@ -72,12 +72,9 @@ pub(crate) fn home_asked<J: Naming>(ask: &Ask<'_, J>) -> NodeId
     }
 }
 
-/// An ask on its way to a node that may hold what it carries: the number of its client's call, the
-/// number that it has among the asks of that call, from 0, and where its answers go.
+/// An ask on its way to a node that may hold what it carries, and where its answers go.
 #[derive(Drop)]
 pub struct Posted<J: Naming> {
-    pub(crate) call: u64,
-    pub(crate) number: usize,
     pub(crate) to: NodeId,
     pub(crate) parcel: Parcel<J>,
     pub(crate) reply_to: ReplyTo<J>,

@@ -1,6 +1,8 @@
-ghost use Rattle.std.specs.Prelude.{◌≡◌, ◌≤◌, false, length, IfOk, IsOkUnless};
+ghost use Rattle.std.specs.Prelude.{◌≡◌, ◌<◌, ◌≤◌, ◌^◌, false, length, IfOk, IsOkUnless};
+ghost use Rattle.std.specs.List.{range_with_len};
 
-use crate::boxes::{Inbox, Outbox, mailbox};
+use crate::boxes::{Outbox, mailbox};
+use crate::ends::Receiver;
 use crate::parcels::Posted;
 use dy_dots::Fault;
 use dy_shares::Naming;
@@ -19,28 +21,71 @@ pub struct Post<J: Naming> {
 }
 
 impl<J: Naming> Model for Post<J> {
-    ghost use Rattle.std.specs.Prelude.{ℕ, vec_len};
+    ghost use Rattle.std.specs.Prelude.{◌<◌, ◌^◌, ℕ, vec_len};
 
     ghost Value = { ℕ };
 
     ghost view = { λ post. vec_len post.boxes };
+
+    ghost invariant = { λ post. vec_len post.boxes < 2 ^ 8 };
+}
+
+/// The end of a node's mailbox that its worker receives from. It knows the node's number.
+#[derive(Drop)]
+pub struct Inbox<J: Naming> {
+    node: u8,
+    asks: Receiver<Posted<J>>,
+}
+
+impl<J: Naming> Model for Inbox<J> {
+    ghost use Rattle.std.specs.Prelude.{ℕ};
+
+    ghost Value = { ℕ };
+
+    ghost view = { λ inbox. inbox.node };
+}
+
+impl<J: Naming> Inbox<J> {
+    /// The number of the node. Takes no memory.
+    pub fn node(&self) -> u8
+        ensures { result ≡ self.now }
+    {
+        self.node
+    }
+
+    /// The next ask; none where none lies there and every post is dropped. May wait for one. Takes
+    /// no memory.
+    pub fn receive<R: Wait>(&mut self, rt: &R) -> Option<Posted<J>>
+        ensures same { self.new ≡ self.old }
+    {
+        self.asks.receive(rt)
+    }
 }
 
 impl<J: Naming> Post<J> {
     /// Mailboxes for so many nodes, and the ends that receive, in the same order.
-    pub fn new(alloc: Global, nodes: u8) -> Result<(Post<J>, Vec<Inbox<Posted<J>>>), Fault>
+    pub fn new(alloc: Global, nodes: u8) -> Result<(Post<J>, Vec<Inbox<J>>), Fault>
         ensures post { IfOk result (λ p. p.0 ≡ nodes) }
         ensures inboxes { IfOk result (λ p. length p.1.items ≡ nodes) }
+        ensures order { IfOk result (λ p. p.1.items ≡ range_with_len 0 nodes) }
         ensures memory { IsOkUnless result Fault.OutOfMemory }
     {
         let mut boxes = Vec::with_capacity(alloc, usize::from(nodes))?;
         let mut inboxes = Vec::with_capacity(alloc, usize::from(nodes))?;
-        for _ in 0..nodes {
-            let (outbox, inbox) = mailbox(alloc, MAILBOX_ROOM)?;
+        for node in 0..nodes {
+            let (outbox, asks) = mailbox(alloc, MAILBOX_ROOM)?;
             boxes.push(outbox)?;
-            inboxes.push(inbox)?;
+            inboxes.push(Inbox { node, asks })?;
         }
         Ok((Post { alloc, boxes }, inboxes))
+    }
+
+    /// How many mailboxes there are. Takes no memory.
+    pub fn count(&self) -> usize
+        ensures value { result ≡ self.now }
+        ensures small { result < 2 ^ 8 }
+    {
+        self.boxes.len()
     }
 
     /// One more set of ends that send to the same mailboxes.

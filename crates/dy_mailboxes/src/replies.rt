@@ -1,144 +1,108 @@
-ghost use Rattle.std.specs.Prelude.{◌≡◌, ◌≢◌, ◌↔◌, ◌<◌, ◌≤◌, ◌+◌, ◌++◌, ◌∷◌, [], ◌^◌, false, true};
-ghost use Rattle.std.specs.Prelude.{length, IfOk, IfNone, IfSome, IsOkUnless};
-ghost use Rattle.std.specs.VecDeque.{deque_capacity};
-ghost use Rattle.dy_mailboxes.specs.inside.Calls.{first_call, next_call, with_ask_if};
+ghost use Rattle.std.specs.Prelude.{◌≡◌, ◌↔◌, ◌<◌, ◌+◌, ◌*◌, ◌^◌, true, IfOk, IfSome, IsOkUnless};
+ghost use Rattle.std.specs.Prelude.{OnErr};
+ghost use Rattle.std.specs.Arc.{arc_value};
+ghost use Rattle.crossbeam_channel.specs.Claims.{IsSeatAt};
+ghost use Rattle.crossbeam_channel.specs.Ends.{ruled_capacity, sends_on};
+ghost use Rattle.dy_mailboxes.specs.inside.Calls.{first_call, next_call, with_ask};
 
+use crate::ends::{Alike, Receiver, Sender, channel};
 use crate::parcels::Answered;
-use crossbeam_utils::sync::{Parker, Unparker};
+use crossbeam_channel::protocol::Free;
+use crossbeam_channel::{Pass, RuledSender};
+use crossbeam_utils::sync::Unparker;
 use dy_dots::Fault;
 use dy_shares::Naming;
 use std::alloc::Global;
-use std::collections::VecDeque;
 use std::marker::Model;
-use std::mem;
-use std::sync::{Arc, Mutex, Wait};
+use std::sync::atomic::{AtomicU64, Ordering};
+use std::sync::{Arc, Wait};
 
-// The answers to a client's present call that it has not read, for how many there is room, and
-// whether it sleeps until one comes.
+// What a client shares with those who answer it: the end of its channel that sends, the number of
+// its present call, and what wakes it.
 #[derive(Drop)]
-struct Unread<J: Naming> {
-    call: u64,
-    answers: VecDeque<Answered<J>>,
-    room: usize,
-    is_awaited: bool,
-    ghost enough: { room ≤ deque_capacity answers },
-}
-
-// What a client shares with those who answer it.
-#[derive(Drop)]
-struct Shared<J: Naming> {
-    unread: Mutex<Unread<J>>,
+struct Line<J: Naming> {
+    end: RuledSender<Answered<J>, (), Free>,
+    present: AtomicU64,
     client: Unparker,
 }
 
-/// Where the answers to one client come, call after call: for how many there is room, the number of
-/// the present call, and how many of its asks are on their way.
+/// The answers to one client, call after call, which come by one channel: for how many there is
+/// room, the number of the present call, and how many asks of it may be answered.
 #[derive(Drop)]
-pub struct ReplyQueue<J: Naming> {
-    shared: Arc<Shared<J>>,
-    sleeper: Parker,
-    room: usize,
+pub struct Replies<J: Naming> {
+    line: Arc<Line<J>>,
+    pass: Pass<Answered<J>, ()>,
+    answers: Receiver<Answered<J>>,
     call: u64,
     posted: usize,
+    ghost here: { IsSeatAt (sends_on (arc_value line).end) pass },
 }
 
-impl<J: Naming> Model for ReplyQueue<J> {
+impl<J: Naming> Model for Replies<J> {
+    ghost use Rattle.std.specs.Arc.{arc_value};
+    ghost use Rattle.crossbeam_channel.specs.Ends.{ruled_capacity, sends_on};
     ghost use Rattle.dy_mailboxes.specs.inside.Calls.{CallParts};
 
     ghost Value = { CallParts };
 
-    ghost view = { λ q. record { room = q.room; call = q.call; posted = q.posted } };
+    ghost view = { λ r. record {
+      room = ruled_capacity (sends_on (arc_value r.line).end);
+      call = r.call;
+      posted = r.posted;
+    } };
 }
 
-/// Where the answers to an ask go.
+/// Where the answers to an ask go: the number of its client's call, and the one that it has among
+/// the asks of that call, from 0.
 #[derive(Drop)]
 pub struct ReplyTo<J: Naming> {
-    shared: Arc<Shared<J>>,
+    line: Arc<Line<J>>,
+    pass: Pass<Answered<J>, ()>,
+    pub call: u64,
+    pub number: usize,
+    ghost here: { IsSeatAt (sends_on (arc_value line).end) pass },
 }
 
-impl<J: Naming> Unread<J> {
-    // No answer, with room for so many.
-    fn new(alloc: Global, room: usize) -> Result<Unread<J>, Fault>
-        ensures ok { IfOk result (λ unread. (unread.answers.items ≡ []) × (unread.room ≡ room)
-            × (unread.call ≡ 0) × (unread.is_awaited ≡ false)) }
-        ensures memory { IsOkUnless result Fault.OutOfMemory }
-    {
-        Ok(Unread {
-            call: 0,
-            answers: VecDeque::with_capacity(alloc, room)?,
-            room,
-            is_awaited: false,
-        })
-    }
-
-    // Takes in an answer to the present call, and says whether to wake the client. One to an
-    // earlier call is dropped, since nobody reads it. Takes no memory.
-    fn put(&mut self, answered: Answered<J>) -> bool
-        ensures same { (self.new.call ≡ self.old.call) × (self.new.room ≡ self.old.room) }
-        ensures late { answered.call ≢ self.old.call →
-            (self.new.answers.items ≡ self.old.answers.items)
-            × (self.new.is_awaited ≡ self.old.is_awaited) × (result ≡ false) }
-        ensures kept { answered.call ≡ self.old.call →
-            length self.old.answers.items < self.old.room →
-            (self.new.answers.items ≡ self.old.answers.items ++ answered ∷ [])
-            × (self.new.is_awaited ≡ false) × (result ≡ self.old.is_awaited) }
-    {
-        // Two answers to each ask of a call have room, so more than that are never put.
-        if answered.call != self.call || self.answers.len() >= self.room {
-            return false;
+// The next answer to the call of this number; one to another is dropped.
+fn next_to<J: Naming, R: Wait>(
+    rt: &R,
+    answers: &mut Receiver<Answered<J>>,
+    call: u64,
+) -> Option<Answered<J>>
+    ensures { IfSome result (λ answered. answered.call ≡ call) }
+{
+    for _ in rt.forever() {
+        let answered = answers.receive(rt)?;
+        if answered.call == call {
+            return Some(answered);
         }
-        self.answers.push_back_reserved(answered);
-        mem::replace(&mut self.is_awaited, false)
     }
-
-    // The next answer. Where there is none the client is to be woken once one comes. Takes no
-    // memory.
-    fn take(&mut self) -> Option<Answered<J>>
-        ensures same { (self.new.call ≡ self.old.call) × (self.new.room ≡ self.old.room) }
-        ensures some { IfSome result (λ answered.
-            (self.old.answers.items ≡ answered ∷ self.new.answers.items)
-            × (self.new.is_awaited ≡ self.old.is_awaited)) }
-        ensures none { IfNone result ((self.old.answers.items ≡ [])
-            × (self.new.answers.items ≡ []) × (self.new.is_awaited ≡ true)) }
-    {
-        let next = self.answers.pop_front();
-        if next.is_none() {
-            self.is_awaited = true;
-        }
-        next
-    }
-
-    // The call of this number begins: what was not read is dropped. Takes no memory.
-    fn begin(&mut self, call: u64)
-        ensures { (self.new.call ≡ call) × (self.new.answers.items ≡ [])
-            × (self.new.room ≡ self.old.room) × (self.new.is_awaited ≡ self.old.is_awaited) }
-    {
-        self.call = call;
-        self.answers.clear();
-    }
+    None
 }
 
-impl<J: Naming> ReplyQueue<J> {
-    /// A queue of no answer, with room for so many. Its first call has number 0.
-    pub fn new(alloc: Global, room: usize) -> Result<ReplyQueue<J>, Fault>
-        ensures ok { IfOk result (λ queue. queue ≡ first_call room) }
+impl<J: Naming> Replies<J> {
+    /// No answer, with room for two to each of so many asks of a call, and for two that each of so
+    /// many workers brings too late. The first call has number 0.
+    pub fn new(alloc: Global, asks: usize, workers: usize) -> Result<Replies<J>, Fault>
+        requires some { 0 < asks }
+        requires few { (asks < 2 ^ 32) × (workers < 2 ^ 8) }
+        ensures ok { IfOk result (λ replies. replies ≡ first_call (2 * (asks + workers))) }
         ensures memory { IsOkUnless result Fault.OutOfMemory }
     {
-        let unread = Unread::new(alloc, room)?;
-        let room = unread.room;
-        let sleeper = Parker::new(alloc)?;
-        let client = sleeper.unparker().clone()?;
-        let shared = Arc::new(
+        let (sender, answers, client) = channel(alloc, 2 * (asks + workers))?;
+        let Sender { end, pass } = sender;
+        let line = Arc::new(
             alloc,
-            Shared {
-                unread: Mutex::new(unread),
+            Line {
+                end,
+                present: AtomicU64::new(0),
                 client,
             },
         )?;
-        Ok(ReplyQueue {
-            shared,
-            sleeper,
-            room,
+        Ok(Replies {
+            line,
+            pass,
+            answers,
             call: 0,
             posted: 0,
         })
@@ -151,40 +115,32 @@ impl<J: Naming> ReplyQueue<J> {
         self.call
     }
 
-    /// Where the answers to one more ask go.
-    pub fn reply_to(&self) -> Result<ReplyTo<J>, Fault>
+    /// Where the answers to one more ask of the present call go, which has this number.
+    pub fn reply_to(&mut self, number: usize) -> Result<ReplyTo<J>, Fault>
+        requires { self.old.posted + 1 < 2 ^ 64 }
+        ensures ok { IfOk result (λ to. (to.call ≡ self.old.call) × (to.number ≡ number)) }
+        ensures counted { IfOk result (λ _. self.new ≡ with_ask self.old) }
+        ensures err { OnErr result (self.new ≡ self.old) }
         ensures memory { IsOkUnless result Fault.OutOfMemory }
     {
+        let line = Arc::try_clone(&self.line)?;
+        let pass = line.end.another::<Alike>(&mut self.pass);
+        self.posted += 1;
         Ok(ReplyTo {
-            shared: Arc::try_clone(&self.shared)?,
+            line,
+            pass,
+            call: self.call,
+            number,
         })
     }
 
-    /// Counts an ask, where it is on its way. Takes no memory.
-    pub fn count_ask(&mut self, is_posted: bool)
-        requires { self.old.posted + 1 < 2 ^ 64 }
-        ensures { self.new ≡ with_ask_if is_posted self.old }
-    {
-        if is_posted {
-            self.posted += 1;
-        }
-    }
-
-    /// The next answer to the present call. May wait for it. Takes no memory.
+    /// The next answer to the present call; one to an earlier call is dropped. May wait for it.
+    /// Takes no memory.
     pub fn receive<R: Wait>(&mut self, rt: &R) -> Option<Answered<J>>
         ensures some { IfSome result (λ answered. answered.call ≡ self.old.call) }
         ensures same { self.new ≡ self.old }
     {
-        'waiting: for _ in rt.forever() {
-            let next = self.shared.unread.lock(rt).take();
-            match next {
-                // What a lock holds is known by its type alone, so the number is looked at here.
-                Some(answered) if answered.call == self.call => return Some(answered),
-                Some(_) => {}
-                None => self.sleeper.park(rt),
-            }
-        }
-        None
+        next_to(rt, &mut self.answers, self.call)
     }
 
     /// Whether a call can have the next number. Takes no memory.
@@ -195,23 +151,42 @@ impl<J: Naming> ReplyQueue<J> {
     }
 
     /// The next call begins: what was not read is dropped, and so is what still comes to the calls
-    /// before. May wait for a lock. Takes no memory.
+    /// before. Takes no memory.
     pub fn go_on<R: Wait>(&mut self, rt: &R)
         requires { self.old.call + 1 < 2 ^ 64 }
         ensures { self.new ≡ next_call self.old }
     {
         self.call += 1;
         self.posted = 0;
-        self.shared.unread.lock(rt).begin(self.call);
+        // The number first: so of each worker no more comes too late than what it had compared
+        // before.
+        self.line.present.store(self.call, Ordering::SeqCst);
+        self.answers.drain(rt);
     }
 }
 
 impl<J: Naming> ReplyTo<J> {
-    /// Sends an answer, and wakes the client where it sleeps. May wait for a lock. Takes no memory.
-    pub fn send<R: Wait>(&self, rt: &R, answered: Answered<J>) {
-        let is_awaited = self.shared.unread.lock(rt).put(answered);
-        if is_awaited {
-            self.shared.client.unpark();
+    // Sends an answer to the call of that number, which is the client's present one, and wakes the
+    // client. The channel has room for two answers to each ask of a call and for two of each
+    // worker that comes late, so it is never full; and under a rule it says so only where it is.
+    fn send_present<R: Wait>(&mut self, rt: &R, present: u64, answered: Answered<J>)
+        requires { answered.call ≡ present }
+    {
+        let _ = present;
+        let _is_sent = self
+            .line
+            .end
+            .try_send_as::<Free, R>(rt, &mut self.pass, answered)
+            .is_ok();
+        self.line.client.unpark();
+    }
+
+    /// Sends an answer, and wakes the client; one to an earlier call is dropped, since nobody reads
+    /// it. Takes no memory.
+    pub fn send<R: Wait>(&mut self, rt: &R, answered: Answered<J>) {
+        let present = self.line.present.load(Ordering::SeqCst);
+        if answered.call == present {
+            self.send_present(rt, present, answered);
         }
     }
 }

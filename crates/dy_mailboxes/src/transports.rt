@@ -4,12 +4,12 @@ ghost use Rattle.dy_node.specs.Answers.{MayAsk};
 ghost use Rattle.dy_transport.specs.Told.{AllAnswered, Answers, IsAwaited};
 ghost use Rattle.dy_transport.specs.Told.{nothing_told, with_none, with_reply};
 ghost use Rattle.dy_mailboxes.specs.Parcels.{IsParcelOf};
-ghost use Rattle.dy_mailboxes.specs.inside.Calls.{with_ask_if};
+ghost use Rattle.dy_mailboxes.specs.inside.Calls.{with_ask};
 ghost use Rattle.dy_mailboxes.specs.inside.Sheets.{with_told};
 
 use crate::parcels::{Parcel, Posted};
 use crate::posts::Post;
-use crate::replies::ReplyQueue;
+use crate::replies::Replies;
 use crate::sheets::Sheet;
 use dy_book::Book;
 use dy_core::Place;
@@ -28,7 +28,7 @@ pub struct Mailboxes<'a, J: Naming> {
     alloc: Global,
     reach: Reach<'a, J>,
     post: Post<J>,
-    replies: ReplyQueue<J>,
+    replies: Replies<J>,
     sheet: Sheet<J>,
 }
 
@@ -46,7 +46,7 @@ impl<'a, J: Naming> Model for Mailboxes<'a, J> {
 
     ghost view = { λ m. m.sheet.told };
 
-    ghost invariant = { λ m. AreOfOneCall m.sheet m.replies };
+    ghost invariant = { λ m. AreOfOneCall m.sheet m.replies m.post };
 }
 
 impl<'a, J: Naming> Mailboxes<'a, J> {
@@ -64,8 +64,7 @@ impl<'a, J: Naming> Mailboxes<'a, J> {
         ensures memory { IsOkUnless result Fault.OutOfMemory }
     {
         let sheet = Sheet::new(alloc, room)?;
-        // Each ask has two answers at most.
-        let replies = ReplyQueue::new(alloc, 2 * room)?;
+        let replies = Replies::new(alloc, room, post.count())?;
         let reach = Reach::new(alloc, nodes, book);
         Ok(Mailboxes {
             alloc,
@@ -83,7 +82,7 @@ fn post_ask<J: Naming, R: Wait>(
     rt: &R,
     alloc: Global,
     post: &mut Post<J>,
-    replies: &mut ReplyQueue<J>,
+    replies: &mut Replies<J>,
     number: usize,
     to: NodeId,
     ask: &Ask<'_, J>,
@@ -91,24 +90,22 @@ fn post_ask<J: Naming, R: Wait>(
     requires may_ask { MayAsk J.ring J.n to ask.now }
     requires few { replies.old.posted + 1 < 2 ^ 64 }
     ensures copy { IfOk result (λ posted. IsParcelOf ask.now posted.0) }
-    ensures counted { IfOk result (λ posted. replies.new ≡ with_ask_if posted.1 replies.old) }
+    ensures counted { IfOk result (λ _. replies.new ≡ with_ask replies.old) }
     ensures err { OnErr result (replies.new ≡ replies.old) }
+    ensures same { post.new ≡ post.old }
     ensures memory { IsOkUnless result Fault.OutOfMemory }
 {
     let kept = Parcel::new(alloc, ask)?;
     let parcel = Parcel::new(alloc, ask)?;
-    let reply_to = replies.reply_to()?;
+    let reply_to = replies.reply_to(number)?;
     let is_posted = post.send(
         rt,
         Posted {
-            call: replies.call(),
-            number,
             to,
             parcel,
             reply_to,
         },
     );
-    replies.count_ask(is_posted);
     Ok((kept, is_posted))
 }
 
@@ -117,7 +114,7 @@ fn post_ask<J: Naming, R: Wait>(
 // else none.
 fn next_of<J: Naming, R: Wait>(
     rt: &R,
-    replies: &mut ReplyQueue<J>,
+    replies: &mut Replies<J>,
     sheet: &mut Sheet<J>,
 ) -> Option<(Place, Answer<J>)>
     requires { sheet.old.call ≡ replies.old.call }
@@ -192,7 +189,7 @@ impl<J: Naming> Transport<J> for Mailboxes<'_, J> {
         if self.replies.can_go_on() {
             self.replies.go_on(rt);
         } else {
-            self.replies = ReplyQueue::new(self.alloc, 2 * self.sheet.room())?;
+            self.replies = Replies::new(self.alloc, self.sheet.room(), self.post.count())?;
         }
         self.sheet.renew(self.replies.call());
         Ok(())

@@ -3,24 +3,29 @@ ghost use Rattle.std.specs.Prelude.{◌≡◌, true, false, None};
 ghost use Rattle.dy_node.specs.Answers.{AnsweredBy, IsDown, MayAsk};
 ghost use Rattle.dy_mailboxes.specs.inside.Calls.{messages_of};
 
-use crate::boxes::Inbox;
 use crate::gates::Gate;
 use crate::parcels::{Answered, Posted};
+use crate::posts::Inbox;
 use dy_book::Book;
 use dy_dots::NodeId;
 use dy_node::{Answer, Ask, Node, answer};
 use dy_shares::Naming;
 use std::sync::{Mutex, Wait};
 
-/// Answers what comes until the mailbox is closed and empty: each ask passes the gate, then locks
-/// the node, then the book. May wait for an ask, and for locks.
+/// A worker: answers what comes to the mailbox of its node, the one of these whose place is its
+/// number, until the mailbox is closed and empty. Each ask passes the gate, then locks the node,
+/// then the book. Where no node lies at that place nothing is answered. May wait for an ask, and
+/// for locks.
 pub fn serve<J: Naming, G: Gate, R: Wait>(
     rt: &R,
-    node: &Mutex<Node<J>>,
+    nodes: &[Mutex<Node<J>>],
     book: &Mutex<Book<J>>,
-    inbox: &mut Inbox<Posted<J>>,
+    mut inbox: Inbox<J>,
     gate: &G,
 ) {
+    let Some(node) = nodes.get(usize::from(inbox.node())) else {
+        return;
+    };
     for _ in rt.forever() {
         let Some(posted) = inbox.receive(rt) else {
             break;
@@ -38,16 +43,14 @@ fn serve_one<J: Naming, G: Gate, R: Wait>(
     gate: &G,
 ) {
     let Posted {
-        call,
-        number,
         to,
         parcel,
-        reply_to,
+        mut reply_to,
     } = posted;
     let ask = parcel.ask();
     gate.pass(to, &ask);
     let (answer, later) = answer_locked(rt, node, book, to, &ask);
-    let (first, second) = messages(call, number, answer, later);
+    let (first, second) = messages(reply_to.call, reply_to.number, answer, later);
     reply_to.send(rt, first);
     if let Some(second) = second {
         reply_to.send(rt, second);
@@ -63,23 +66,20 @@ fn messages<J: Naming>(
 ) -> (Answered<J>, Option<Answered<J>>)
     ensures { result ≡ messages_of call number answer later }
 {
-    let (is_last, second) = match later {
-        None => (true, None),
-        Some(answer) => {
-            let second = Answered {
-                call,
-                number,
-                answer,
-                is_last: true,
-            };
-            (false, Some(second))
-        }
-    };
     let first = Answered {
         call,
         number,
         answer,
-        is_last,
+        is_last: later.is_none(),
+    };
+    let second = match later {
+        None => None,
+        Some(answer) => Some(Answered {
+            call,
+            number,
+            answer,
+            is_last: true,
+        }),
     };
     (first, second)
 }

@@ -5,25 +5,24 @@ use Rattle.dy_node.specs.declared.asks.Answer.{Answer}
 use Rattle.dy_mailboxes.specs.inside.Sheets.{SheetParts}
 use Rattle.dy_mailboxes.specs.declared.parcels.Answered.{Answered}
 
--- what a reply queue is seen as: for how many answers it has room, the number of the present call,
--- and how many asks of it are on their way
+-- what the answers to a client are seen as: for how many there is room, the number of the present
+-- call, and how many asks of it may be answered
 pub record CallParts : Type 0 where
   pub room : ℕ
   pub call : ℕ
   pub posted : ℕ
 
--- a new queue: its first call has number 0, and no ask is on its way
+-- at first: the first call has number 0, and asked nobody
 abbrev pub first_call : ℕ → CallParts
 first_call room = record { room = room; call = 0; posted = 0 }
 
--- the next call, of which no ask is on its way
+-- the next call, which asked nobody
 abbrev pub next_call : CallParts → CallParts
 next_call c = record { room = c.room; call = c.call + 1; posted = 0 }
 
--- one ask more is on its way, or none
-abbrev pub with_ask_if : Bool → CallParts → CallParts
-with_ask_if true c = record c { posted = c.posted + 1 }
-with_ask_if false c = c
+-- one ask more may be answered
+abbrev pub with_ask : CallParts → CallParts
+with_ask c = record c { posted = c.posted + 1 }
 
 module _ {J : Type 0} where
   -- an answer on its way back
@@ -38,10 +37,12 @@ module _ {J : Type 0} where
   messages_of call number x (Some later) =
       (message call number x false, Some (message call number later true))
 
-  -- the sheet is of the queue's present call, of which it tells each ask that is on its way: so a
-  -- sheet that tells none is of a call that asked nobody; and two answers to each have room
-  pub record AreOfOneCall (sheet : SheetParts J) (queue : CallParts) : Type 0 where
-    pub one_call : sheet.call ≡ queue.call
+  -- the sheet is of the present call, of which it tells each ask that may be answered: so a sheet
+  -- that tells none is of a call that asked nobody; and there is room for two answers to each ask,
+  -- and for two of each worker
+  pub record AreOfOneCall (sheet : SheetParts J) (replies : CallParts) (workers : ℕ) : Type 0 where
+    pub one_call : sheet.call ≡ replies.call
     pub few : sheet.told.room < 2 ^ 32
-    pub of_asks : queue.posted ≤ length sheet.told.asks
-    pub answers : 2 * sheet.told.room ≤ queue.room
+    pub some : 0 < sheet.told.room
+    pub of_asks : replies.posted ≤ length sheet.told.asks
+    pub answers : 2 * (sheet.told.room + workers) ≤ replies.room

@@ -1,6 +1,8 @@
-use Rattle.std.proofs.Common.{◌≡◌, length, vec_len}
+use Rattle.std.proofs.Common.{◌≡◌, vec_len}
+use Rattle.std.specs.List.{range_with_len}
 use Rattle.dy_mailboxes.proofs.posts.Post.new.Given as goal
 
--- a mailbox for each node before
-abbrev pub invariant-loop : goal.invariant-loop
-invariant-loop g l = (vec_len l.boxes ≡ l.counter) × (length l.inboxes.items ≡ l.counter)
+-- a mailbox for each node before, and its number
+abbrev pub invariant-loop-node : goal.invariant-loop-node
+invariant-loop-node g l =
+    (vec_len l.boxes ≡ l.node) × (l.inboxes.items ≡ range_with_len 0 l.node)
