@@ -9,6 +9,8 @@ mod carrying;
 #[cfg(test)]
 mod connections;
 #[cfg(test)]
+mod crossings;
+#[cfg(test)]
 mod floods;
 #[cfg(test)]
 mod growths;
