@@ -13,7 +13,6 @@ mod transports;
 mod workers;
 
 pub use gates::{Gate, Open};
-pub use parcels::Posted;
 pub use posts::{Inbox, MAILBOX_ROOM, Post};
 pub use transports::Mailboxes;
 pub use workers::serve;

@@ -55,7 +55,7 @@ impl<J: Naming> Inbox<J> {
 
     /// The next ask; none where none lies there and every post is dropped. May wait for one. Takes
     /// no memory.
-    pub fn receive<R: Wait>(&mut self, rt: &R) -> Option<Posted<J>>
+    pub(crate) fn receive<R: Wait>(&mut self, rt: &R) -> Option<Posted<J>>
         ensures same { self.new ≡ self.old }
     {
         self.asks.receive(rt)
@@ -106,7 +106,7 @@ impl<J: Naming> Post<J> {
 
     /// Posts an ask, and says whether its mailbox stands open. May wait while the mailbox is full.
     /// Takes no memory.
-    pub fn send<R: Wait>(&mut self, rt: &R, posted: Posted<J>) -> bool
+    pub(crate) fn send<R: Wait>(&mut self, rt: &R, posted: Posted<J>) -> bool
         ensures absent { self.old ≤ posted.to → result ≡ false }
         ensures same { self.new ≡ self.old }
     {
