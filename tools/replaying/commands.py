@@ -4,11 +4,11 @@
 - answers of a command: who is said to have stored it, or to have told its row, did so.
 - row of a get: the context and the values printed are the merge of the rows of the fetches told.
 """
-from typing import Iterator, List, NamedTuple, Optional, Tuple
+from typing import Dict, Iterator, List, NamedTuple, Set, Tuple, Union
 
 from replaying import dots as sets
-from replaying.dots import context_text, dot_text, node_of, read_context
-from replaying.forms import Command, places_of
+from replaying.dots import context_text, dot_text, node_of
+from replaying.forms import Command
 from replaying.steps import Ack, Fault, Fetch, Hold, Issue, Place, Release, Step, Told, place_text
 from replaying.worlds import NOTHING, Row, World, most_homes
 
@@ -31,6 +31,10 @@ class Found(NamedTuple):
     fault: Fault
 
 
+# A fault without a line stands at the command's.
+Finding = Union[Found, Fault]
+
+
 def check(group: Group, world: World) -> Iterator[Found]:
     """Says what of a command's line and its steps does not fit."""
     command = group.command
@@ -42,12 +46,12 @@ def check(group: Group, world: World) -> Iterator[Found]:
         yield found if isinstance(found, Found) else Found(group.at, found)
 
 
-def without_steps(group: Group, _: World) -> Iterator[Found]:
+def without_steps(group: Group, _: World) -> Iterator[Finding]:
     for at, _ in group.steps:
         yield Found(at, Fault(STEPS, f"command {group.command.number} makes no step"))
 
 
-def written(group: Group, world: World) -> Iterator[object]:
+def written(group: Group, world: World) -> Iterator[Finding]:
     """Holds a put or a delete against its steps: its begin is two, then come its holds and its ack."""
     command, steps = group.command, group.steps
     if command.dot is None:
@@ -64,10 +68,11 @@ def written(group: Group, world: World) -> Iterator[object]:
         return
     yield from later_steps(group, issue)
     if command.answers:
-        yield from stored_answers(group, begin.place)
+        yield from places_of_answers(command, world, issue.key)
+        yield from stored_answers(group, begin.place, world.setting.n)
 
 
-def later_steps(group: Group, issue: Issue) -> Iterator[object]:
+def later_steps(group: Group, issue: Issue) -> Iterator[Finding]:
     """Looks at the steps of a put behind its begin."""
     acks = 0
     for at, step in group.steps[2:]:
@@ -81,7 +86,15 @@ def later_steps(group: Group, issue: Issue) -> Iterator[object]:
         yield Fault(STEPS, f"the put of {dot_text(issue.dot)} {told}")
 
 
-def stored_answers(group: Group, begin: Place) -> Iterator[object]:
+def places_of_answers(command: Command, world: World, key: bytes) -> Iterator[Fault]:
+    """Looks whether each answer is of a node that may hold for its home."""
+    for place, _ in command.answers:
+        fault = world.misplaced(world.key(key), place)
+        if fault:
+            yield Fault(ANSWERS, f"{place_text(place)}: {fault.text}")
+
+
+def stored_answers(group: Group, begin: Place, n: int) -> Iterator[Finding]:
     """Holds the answers of a put against its holds."""
     answers = group.command.answers
     holds = {step.place for _, step in group.steps if isinstance(step, Hold)}
@@ -95,6 +108,8 @@ def stored_answers(group: Group, begin: Place) -> Iterator[object]:
     for place in sorted(holds - {place for place, _ in answers}):
         yield Fault(ANSWERS, f"{place_text(place)} has a hold and no answer")
     stored = tuple(sorted(place for place, word in answers if word == "stored"))
+    if not group.command.is_ok and most_homes(stored) == n:
+        yield Fault(ANSWERS, f"all {n} homes have it, and that is enough")
     for at, step in group.steps:
         if isinstance(step, Ack) and most_homes(stored) < step.w:
             yield Found(at, Fault(ANSWERS, f"w is {step.w}, and fewer homes are said to have it"))
@@ -108,17 +123,23 @@ def merge(rows: List[Row]) -> Row:
     return Row(sets.minus(dots, pasts), pasts, sets.union(dots, pasts))
 
 
-def got(group: Group, world: World) -> Iterator[object]:
+def got(group: Group, world: World) -> Iterator[Finding]:
     """Holds a get against its fetches, and where it is ok against the holds that mend homes."""
     command = group.command
     fetches = {step.number: step for _, step in group.steps if isinstance(step, Fetch)}
     for at, step in group.steps:
         if not isinstance(step, (Fetch, Hold)) or (isinstance(step, Hold) and not command.is_ok):
             yield Found(at, Fault(STEPS, "a get makes no such step"))
-    if len({step.key for _, step in group.steps}) > 1:
+    keys = {step.key for _, step in group.steps}
+    if len(keys) > 1:
         yield Fault(STEPS, "the steps of the get are of more than one key")
+        return
+    for at, step in group.steps:
+        if isinstance(step, Fetch) and world.misplaced(world.key(step.key), step.place):
+            yield Found(at, Fault(STEPS, f"nothing may be held at {place_text(step.place)}"))
     if not command.is_ok:
-        yield from row_answers(command, {step.place for step in fetches.values()})
+        yield from (fault for key in keys for fault in places_of_answers(command, world, key))
+        yield from row_answers(command, {step.place for step in fetches.values()}, world.setting.r)
     elif not group.told:
         yield Fault(STEPS, "the get is answered, and no line names its fetches")
     elif not set(group.told[0][1].numbers) <= set(fetches):
@@ -127,33 +148,34 @@ def got(group: Group, world: World) -> Iterator[object]:
         yield from answered(group, world, fetches)
 
 
-def row_answers(command: Command, places: set) -> Iterator[Fault]:
+def row_answers(command: Command, places: Set[Place], r: int) -> Iterator[Fault]:
     """Holds the answers of a refused get against its fetches."""
-    for place, word in command.answers or []:
+    for place, word in command.answers:
         if word == "stored" or (word == "rows" and place not in places):
             yield Fault(ANSWERS, f"{place_text(place)}={word}, and no fetch is there")
         if word == "down" and place in places:
             yield Fault(ANSWERS, f"{place_text(place)}=down, and a fetch is there")
-    if command.answers:
-        for place in sorted(places - {place for place, _ in command.answers}):
-            yield Fault(ANSWERS, f"{place_text(place)} has a fetch and no answer")
+    for place in sorted(places - {place for place, _ in command.answers} if command.answers else []):
+        yield Fault(ANSWERS, f"{place_text(place)} has a fetch and no answer")
+    if len({place[1] for place, word in command.answers if word == "rows"}) >= r:
+        yield Fault(ANSWERS, f"{r} homes told their rows, and that is enough")
 
 
-def answered(group: Group, world: World, fetches: dict) -> Iterator[object]:
+def answered(group: Group, world: World, fetches: Dict[int, Fetch]) -> Iterator[Finding]:
     """Holds the row of a get against the rows of the fetches that were told."""
-    said, numbers = group.command.said, group.told[0][1].numbers
+    command, numbers = group.command, group.told[0][1].numbers
     row = merge([world.fetches[number][1] for number in numbers])
     places = sorted(fetches[number].place for number in numbers)
-    if sorted(places_of(said["places"])) != places:
+    if sorted(command.places) != places:
         told = " ".join(map(place_text, places))
-        yield Fault(ROW, f"it is from {said['places']}, and the fetches told are of {told}")
-    if read_context(said["dots"]) != row.reach:
-        yield Fault(ROW, f"the context is {said['dots']}, and not {context_text(row.reach)}")
+        yield Fault(ROW, f"it is from other places than the fetches told, {told}")
+    if command.dots != row.reach:
+        yield Fault(ROW, f"the context should be {context_text(row.reach)}")
     versions = world.key(fetches[numbers[0]].key).versions
     live = ((it, versions[it].value) for it in sets.each(row.dots))
-    values = " ".join(f"{dot_text(it)}={value}" for it, value in live if value is not None)
-    if said["values"] != (values or "none"):
-        yield Fault(ROW, f"the values are {said['values']}, and not {values or 'none'}")
+    values = " ".join(f"{dot_text(it)}={value}" for it, value in live if value is not None) or "none"
+    if command.said["values"] != values:
+        yield Fault(ROW, f"the values should be {values}")
     stale = {step.place for number, step in fetches.items()
              if world.fetches[number][1].dots != row.dots}
     for at, step in group.steps:
@@ -163,16 +185,16 @@ def answered(group: Group, world: World, fetches: dict) -> Iterator[object]:
                 yield Found(at, Fault(STEPS, "it does not bring the row of the get to a stale home"))
 
 
-def delivered(group: Group, _: World) -> Iterator[object]:
+def delivered(group: Group, _: World) -> Iterator[Finding]:
     """Holds a delivery against its holds: one for each message stored, all by one node."""
     holds = [step for _, step in group.steps if isinstance(step, Hold)]
     if len(holds) < len(group.steps) or len({step.place[0] for step in holds}) > 1:
         yield Fault(STEPS, "a delivery makes holds of one node alone")
-    if group.command.is_ok and int(group.command.said["stored"]) != len(holds):
+    if group.command.is_ok and group.command.count("stored") != len(holds):
         yield Fault("counts", f"{len(holds)} holds stand below it")
 
 
-def handed_over(group: Group, world: World) -> Iterator[object]:
+def handed_over(group: Group, world: World) -> Iterator[Finding]:
     """Holds a handoff against its steps: holds at homes, and releases of what came to them."""
     if not group.command.is_ok:
         yield from without_steps(group, world)
@@ -193,25 +215,23 @@ def handed_over(group: Group, world: World) -> Iterator[object]:
     releases = [step for _, step in group.steps if isinstance(step, Release)]
     if len({step.place[0] for step in releases}) > 1:
         yield Fault(STEPS, "a handoff releases hints of one node alone")
-    counts = [int(group.command.said[name]) for name in ("offers", "stored", "released")]
+    counts = [group.command.count(name) for name in ("offers", "stored", "released")]
     if counts[2] != len(releases):
         yield Fault("counts", f"{len(releases)} releases stand below it")
     if not len(left) <= counts[1] <= counts[0] or len(came) > counts[0]:
         yield Fault("counts", f"{len(came)} hints came home below it, and {len(left)} left")
 
 
-def shown(group: Group, world: World) -> Iterator[object]:
+def shown(group: Group, world: World) -> Iterator[Finding]:
     """Looks for a key of which the node holds just what is shown; which key it is does not stand there."""
     yield from without_steps(group, world)
-    said = group.command.said
     if not group.command.is_ok:
         return
-    node, own = int(said["node"]), read_context(said["own"])
-    hints = said["hints"].split(" for ")[1:]
-    wanted = {(node, int(it.split(" ", 1)[0])): read_context(it.split(" ", 1)[1]) for it in hints}
-    if node >= world.nodes or list(wanted) != sorted(wanted) or (node, node) in wanted:
+    node, hints = group.command.count("node"), group.command.hints
+    homes = [home for home, _ in hints]
+    if node >= world.nodes or node in homes or homes != sorted(set(homes)):
         yield Fault("row shown", "its places are not those of a node, by home")
-    wanted.update({(node, node): own} if own else {})
+    wanted = {(node, home): dots for home, dots in [(node, group.command.dots), *hints] if dots}
     for state in world.keys.values() if wanted else []:
         if all(state.rows.get(place, NOTHING).dots == dots for place, dots in wanted.items()):
             if sum(place[0] == node for place in state.rows) == len(wanted):

@@ -6,7 +6,7 @@ is a `Command`.
 import re
 from typing import Any, Callable, Dict, List, NamedTuple, Optional, Tuple
 
-from replaying.dots import BadText, Dots, read_context, read_dot
+from replaying.dots import EMPTY, BadText, Dots, read_context, read_dot
 from replaying.steps import Ack, Fetch, Hold, Issue, Place, Release, Told
 
 Words = Dict[str, Optional[str]]
@@ -33,14 +33,23 @@ class Token(NamedTuple):
 
 
 class Command(NamedTuple):
-    """A command's line: its number and word, whether it is ok, and what else it says."""
+    """A command's line: its number and word, whether it is ok, and what else it says.
+
+    `dots` is the context of a get or what a node shows of its own, `hints` what it shows for homes.
+    """
 
     number: int
     do: str
     is_ok: bool
     dot: Optional[int]
-    answers: Optional[List[Tuple[Place, str]]]
+    answers: List[Tuple[Place, str]]
+    dots: Dots
+    places: Tuple[Place, ...]
+    hints: List[Tuple[int, Dots]]
     said: Words
+
+    def count(self, name: str) -> int:
+        return int(self.said[name] or 0)
 
 
 class Held(NamedTuple):
@@ -82,13 +91,21 @@ def answers_of(text: str) -> List[Tuple[Place, str]]:
     return [(place_of(place), word) for place, word in pairs]
 
 
+def hints_of(text: str) -> List[Tuple[int, Dots]]:
+    pairs = (hint.split(" ", 1) for hint in text.split(" for ")[1:])
+    return [(int(home), read_context(dots)) for home, dots in pairs]
+
+
 def command_of(it: Words) -> Command:
     """Returns the command of a line."""
-    dot = it.get("dot") or it.get("after")
-    answers = answers_of(it["answers"]) if it.get("answers") else None
-    is_ok = not it.get("refusal")
-    number = int(it["number"])
-    return Command(number, it["do"], is_ok, read_dot(dot) if dot else None, answers, it)
+    dot, dots = it.get("dot") or it.get("after"), it.get("dots")
+    return Command(
+        number=int(it["number"]), do=it["do"], is_ok=not it.get("refusal"),
+        dot=read_dot(dot) if dot else None,
+        answers=answers_of(it["answers"]) if it.get("answers") else [],
+        dots=read_context(dots) if dots else EMPTY,
+        places=places_of(it["places"]) if it.get("places") else (),
+        hints=hints_of(it.get("hints") or ""), said=it)
 
 
 def issue_of(it: Words) -> Issue:
@@ -159,8 +176,8 @@ FORMS: Dict[str, List[Tuple[str, Callable[[Words], Any]]]] = {
         (f"{NUMBER} (?P<do>deliver) ok (?P<stored>{COUNT})", command_of),
         (f"{NUMBER} (?P<do>handoff) ok offers (?P<offers>{COUNT}) stored (?P<stored>{COUNT}) "
          f"released (?P<released>{COUNT})", command_of),
-        (f"{NUMBER} (?P<do>show) (?P<node>{COUNT}) own (?P<own>-|n[0-9n:, -]+)(?P<hints>"
-         "(?: for [0-9]+ n[0-9n:, -]+)*)", command_of),
+        (f"{NUMBER} (?P<do>show) (?P<node>{COUNT}) own {DOTS}(?P<hints>"
+         f"(?: for {COUNT} n[0-9n:, -]+)*)", command_of),
         (f"{NUMBER} (?P<do>put|delete) {REFUSAL} after (?P<after>{DOT})", command_of),
         (f"{NUMBER} (?P<do>{WORD}) {REFUSAL}(?: n[0-9]+:[0-9]+)?", command_of)],
 }

@@ -17,12 +17,19 @@ AUDIT = {Held: "held", Acked: "acked", Settled: "settled"}
 ORDER_RULE, NUMBERS = "order of lines", "numbers in order"
 
 
+def lines_of(text: str) -> List[str]:
+    """Returns the lines of an output; what stands behind the last line feed is one where there is any."""
+    lines = text.split("\n")
+    return lines if lines[-1] else lines[:-1]
+
+
 class Replay:
     """An output as it is played: its world, its sessions, and what was found."""
 
     def __init__(self, lines: List[str]) -> None:
         self.lines = lines
-        self.is_storm = bool(lines) and lines[-1].startswith("end acked ")
+        # A storm is told by its end, wherever that stands.
+        self.is_storm = any(line.startswith("end acked ") for line in lines[-50:])
         self.found: List[Tuple[int, Fault]] = []
         self.steps = self.acks = self.gets = self.commands = 0
         self.at = self.order = 0
@@ -134,8 +141,8 @@ class Replay:
             self.found += check_audit(self.world, self.audit, self.at)
         wanted = counts_of(self.world, self.steps, self.acks, self.gets, self.is_storm)
         for name, count in wanted.items():
-            if end.counts[name] != count:
-                self.complain("counts", f"{name} should be {count}, and is {end.counts[name]}")
+            if end.counts.get(name) != count:
+                self.complain("counts", f"{name} should be {count}, and is {end.counts.get(name)}")
 
     def report(self) -> List[str]:
         """Returns a line for each rule that was broken where, and a last line of sums."""

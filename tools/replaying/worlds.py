@@ -189,12 +189,12 @@ class World:
         state.versions[step.dot] = Version(step.number, step.past, step.value)
 
     def hold(self, state: KeyState, step: Hold) -> Iterator[Fault]:
-        fault, unmade = self.misplaced(state, step.place), state.unmade(step.dots)
-        if fault:
-            yield fault
-            return
+        misplaced, unmade = self.misplaced(state, step.place), state.unmade(step.dots)
+        if misplaced:
+            yield misplaced
         if unmade is not None:
             yield Fault("made versions", f"no version {dot_text(unmade)} was made")
+        if misplaced or unmade is not None:
             return
         row = state.row(step.place)
         new = sets.minus(step.dots, row.reach)
