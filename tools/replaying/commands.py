@@ -52,7 +52,7 @@ def without_steps(group: Group, _: World) -> Iterator[Finding]:
 
 
 def written(group: Group, world: World) -> Iterator[Finding]:
-    """Holds a put or a delete against its steps: its begin is two, then come its holds and its ack."""
+    """Holds a put or a delete against its steps: the two of its begin, then holds, then the ack."""
     command, steps = group.command, group.steps
     if command.dot is None:
         yield from without_steps(group, world)
@@ -60,7 +60,7 @@ def written(group: Group, world: World) -> Iterator[Finding]:
     issue, begin = (steps[i][1] if i < len(steps) else None for i in (0, 1))
     is_issue = isinstance(issue, Issue) and issue.dot == command.dot
     if not is_issue or (issue.value is None) != (command.do == "delete"):
-        yield Fault(STEPS, f"its first step is no issue of {dot_text(command.dot)} by a {command.do}")
+        yield Fault(STEPS, f"its first step is no {command.do}'s issue of {dot_text(command.dot)}")
         return
     is_begin = isinstance(begin, Hold) and begin.place[0] == node_of(command.dot)
     if not is_begin or (begin.key, begin.dots) != (issue.key, sets.one(issue.dot)):
@@ -155,7 +155,8 @@ def row_answers(command: Command, places: Set[Place], r: int) -> Iterator[Fault]
             yield Fault(ANSWERS, f"{place_text(place)}={word}, and no fetch is there")
         if word == "down" and place in places:
             yield Fault(ANSWERS, f"{place_text(place)}=down, and a fetch is there")
-    for place in sorted(places - {place for place, _ in command.answers} if command.answers else []):
+    named = {place for place, _ in command.answers}
+    for place in sorted(places - named if named else []):
         yield Fault(ANSWERS, f"{place_text(place)} has a fetch and no answer")
     if len({place[1] for place, word in command.answers if word == "rows"}) >= r:
         yield Fault(ANSWERS, f"{r} homes told their rows, and that is enough")
@@ -173,16 +174,16 @@ def answered(group: Group, world: World, fetches: Dict[int, Fetch]) -> Iterator[
         yield Fault(ROW, f"the context should be {context_text(row.reach)}")
     versions = world.key(fetches[numbers[0]].key).versions
     live = ((it, versions[it].value) for it in sets.each(row.dots))
-    values = " ".join(f"{dot_text(it)}={value}" for it, value in live if value is not None) or "none"
-    if command.said["values"] != values:
-        yield Fault(ROW, f"the values should be {values}")
+    values = " ".join(f"{dot_text(it)}={value}" for it, value in live if value is not None)
+    if command.said["values"] != (values or "none"):
+        yield Fault(ROW, f"the values should be {values or 'none'}")
     stale = {step.place for number, step in fetches.items()
              if world.fetches[number][1].dots != row.dots}
     for at, step in group.steps:
         if isinstance(step, Hold):
             is_mended = step.place[0] == step.place[1] and step.place in stale
             if not is_mended or step.dots != row.dots:
-                yield Found(at, Fault(STEPS, "it does not bring the row of the get to a stale home"))
+                yield Found(at, Fault(STEPS, "it brings a stale home no row of the get"))
 
 
 def delivered(group: Group, _: World) -> Iterator[Finding]:
@@ -223,7 +224,7 @@ def handed_over(group: Group, world: World) -> Iterator[Finding]:
 
 
 def shown(group: Group, world: World) -> Iterator[Finding]:
-    """Looks for a key of which the node holds just what is shown; which key it is does not stand there."""
+    """Looks for a key of which the node holds just what is shown; no key stands there."""
     yield from without_steps(group, world)
     if not group.command.is_ok:
         return

@@ -1,8 +1,8 @@
 """Sets of dots of one key.
 
 A dot is one number, its node times 2^20 plus its counter, so numbers have the order of dots. A set
-is the rising tuple of the numbers at which it begins and ends: (1, 4, 6, 7) has 1, 2, 3 and 6. Long
-runs of counters are short tuples, and a dot is in the set where an odd count of them is not above it.
+is the rising tuple of the numbers at which its runs begin and end: (1, 4, 6, 7) has 1, 2, 3 and 6.
+So a long run of counters takes two numbers.
 """
 import re
 from bisect import bisect_right
@@ -47,7 +47,7 @@ def has(dots: Dots, it: int) -> bool:
 
 
 def combine(left: Dots, right: Dots, kept: int) -> Dots:
-    """Returns the dots that `kept` has by its bits: 2 for left alone, 4 for right alone, 8 for both."""
+    """Returns the dots that the bits of `kept` name: 2 left alone, 4 right alone, 8 both."""
     out, i, j, inside = [], 0, 0, 0
     left, right = (*left, BEYOND), (*right, BEYOND)
     while True:

@@ -1,7 +1,7 @@
 """The forms of the lines that `--steps` prints: each line is read into the values that it has.
 
-What a line says of steps, fetches told and the audit is a value of its own kind; a line of a command
-is a `Command`.
+Each step, each line of fetches told and each line of the audit has a kind of its own. The line of a
+command is a `Command`.
 """
 import re
 from typing import Any, Callable, Dict, List, NamedTuple, Optional, Tuple
@@ -146,9 +146,10 @@ FORMS: Dict[str, List[Tuple[str, Callable[[Words], Any]]]] = {
     "step issue": [
         (f"{STEP} issue (?P<node>{COUNT}) (?P<key>{KEY}) (?P<dot>{DOT}) behind {DOTS} "
          f"(?:deleted|value(?P<value>(?: {BYTES[:-1]}+)?))", issue_of)],
-    "step hold": [(f"{STEP} hold {AT} {DOTS}", lambda it: Hold(*at_of(it), read_context(it["dots"])))],
-    "step release": [
-        (f"{STEP} release {AT} (?P<dot>{DOT})", lambda it: Release(*at_of(it), read_dot(it["dot"])))],
+    "step hold": [
+        (f"{STEP} hold {AT} {DOTS}", lambda it: Hold(*at_of(it), read_context(it["dots"])))],
+    "step release": [(f"{STEP} release {AT} (?P<dot>{DOT})", lambda it: Release(
+        *at_of(it), read_dot(it["dot"])))],
     "step fetch": [(f"{STEP} fetch {AT}", lambda it: Fetch(*at_of(it)))],
     "step ack": [(f"{STEP} ack (?P<key>{KEY}) (?P<dot>{DOT}) w (?P<w>{COUNT}) {SESSION}", ack_of)],
     "told": [(f"told (?P<numbers>{COUNT}(?: {COUNT})*) {SESSION}", lambda it: Told(
@@ -159,13 +160,14 @@ FORMS: Dict[str, List[Tuple[str, Callable[[Words], Any]]]] = {
         int(it["position"], 16), int(it["node"])))],
     "held": [(f"held {AT} {DOTS}", lambda it: Held(
         place_of(it["place"]), bytes.fromhex(it["key"]), read_context(it["dots"])))],
-    "acked": [(f"acked (?P<key>{KEY}) (?P<dot>{DOT})(?: w (?P<w>{COUNT}))? covered (?P<places>{PLACES})",
-               acked_of)],
+    "acked": [(f"acked (?P<key>{KEY}) (?P<dot>{DOT})(?: w (?P<w>{COUNT}))? "
+               f"covered (?P<places>{PLACES})", acked_of)],
     "settled": [(f"settled (?P<key>{KEY})", lambda it: Settled(bytes.fromhex(it["key"])))],
     "end": [
         (f"end held (?P<held>{COUNT}) acked (?P<acked>{COUNT}) gets (?P<gets>{COUNT}) "
          f"steps (?P<steps>{COUNT})", end_of),
-        (f"end acked (?P<acked>{COUNT}) gets (?P<gets>{COUNT}) refused (?P<refused>{COUNT})", end_of)],
+        (f"end acked (?P<acked>{COUNT}) gets (?P<gets>{COUNT}) refused (?P<refused>{COUNT})",
+         end_of)],
     "command": [
         (f"{WROTE} ok (?P<dot>{DOT}) {LIST}", command_of),
         (f"{WROTE} (?P<refusal>E15 NotEnough) (?P<dot>{DOT}) {LIST}", command_of),

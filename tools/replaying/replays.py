@@ -18,7 +18,7 @@ ORDER_RULE, NUMBERS = "order of lines", "numbers in order"
 
 
 def lines_of(text: str) -> List[str]:
-    """Returns the lines of an output; what stands behind the last line feed is one where there is any."""
+    """Returns the lines of an output; a last one without its line feed counts."""
     lines = text.split("\n")
     return lines if lines[-1] else lines[:-1]
 

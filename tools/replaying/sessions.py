@@ -1,11 +1,11 @@
 """What each session was told, in its order: its acks, and the fetches of its gets.
 
-- told fetches: a get is told by r fetches of one key, of r homes, each at a place that may hold there.
+- told fetches: a get has r fetches of one key, for r homes, each at a node that may hold for it.
 - since: each of them is later than all that its session was told before.
 
-In a run the lines have that order. A storm's do not: its told lines come after all steps. But there an
-ack's number is greater than all that was told before it. So no ack of the session may lie between the
-fetches of one get, and each get's fetches are later than those of the gets before it.
+In a run the lines have that order. In a storm the told lines come after all steps. But a session's
+ack is later than all that the session was told before. So no ack of the session lies between the
+fetches of one get, and each get's fetches are later than those of its earlier gets.
 """
 from bisect import bisect_left
 from typing import Dict, Iterator, List

@@ -243,7 +243,7 @@ acked 61 n0:2 covered 0/0 1/1 2/2
 settled 61
 end held 3 acked 2 gets 2 steps 16
 """,
-    # Nodes 1 and 2 are down. So node 3 stands in for home 1 and node 4 for home 2. Then steps run out.
+    # Nodes 1 and 2 are down, so nodes 3 and 4 stand in for them. At the end the steps run out.
     "refused commands": HEAD + """
 1 down ok
 2 down ok

@@ -2,20 +2,20 @@
 
 It is played from the step lines alone. These are its rules:
 
-- next counter: a version's dot is its node with the node's next counter of the key, at most 1000000.
+- next counter: a version's dot is its node with the node's next counter of the key.
 - closed past: each dot in a version's past is of a version made before, whose past lies in it too.
 - place: a home of the key holds for itself; any other node may hold for any of the homes.
 - made versions: a hold, a release and an ack name dots of versions that were made.
 - release of a hint: what is released is held there, by a stand-in.
 - home first: a dot is released where its home itself has it, or a version that follows it.
-- cover: an ack of w, from 1 to n, needs w homes, each by another holder, that have the dot or a version
-  that follows it.
+- cover: an ack of w, from 1 to n, needs w homes, each with a holder of its own, that have the dot
+  or a version that follows it.
 - kept cover: after each step each acknowledged version still has that.
 
-What a place holds after a hold are those of the versions of both whose dot is in the past of none of
-them. Since pasts are closed, a row follows from three sets alone: the dots of its versions, all dots
-in their pasts, and both together, its reach. For the same reason a hold takes no dot out of a reach,
-so only a release can take a cover away; and the audit counts all covers anew.
+After a hold a place holds those of the old and the new versions whose dot is in the past of none of
+them. Pasts are closed, so three sets tell a row: the dots of its versions, all dots in their pasts,
+and both together, its reach. For the same reason a hold takes no dot out of a reach. Only a release
+can take a cover away, so covers are looked at after releases, and all of them again at the end.
 """
 from bisect import bisect_left, insort
 from functools import lru_cache
@@ -87,8 +87,8 @@ class KeyState:
     def why_open(self, past: Dots) -> Optional[str]:
         """Says what the past lacks; what was found closed is kept.
 
-        The version of it that was made last follows none of the others. So its history is taken from
-        it, then that of the last one of what is left, and so on.
+        No other version of it follows the one that was made last. So the history of that one is
+        taken away, then the history of the last one of what is left, and so on.
         """
         left = past if past not in self.closed else sets.EMPTY
         while left:
