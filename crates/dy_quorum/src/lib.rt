@@ -9,4 +9,4 @@ mod tallies;
 pub use gatherings::Gathering;
 pub use laws::{distinct_homes_are_enough, first_answers_are_one_a_home};
 pub use merges::merge_all;
-pub use tallies::Tally;
+pub use tallies::{MAX_RECEIPTS, Tally};

@@ -1,13 +1,18 @@
 ghost use Rattle.std.specs.Prelude.{◌≡◌, ◌<◌, ◌≤◌, ◌++◌, ◌∷◌, [], ◌↔◌, ℕ, length, IsTrue, IfOk};
 ghost use Rattle.std.specs.Prelude.{IsOkUnless, MatchBool, vec_capacity};
+ghost use Rattle.dy_dots.specs.declared.nodes.TheConstants.{MAX_NODES};
 ghost use Rattle.dy_quorum.specs.Tallies.{Counted, Agrees, DoAgree, FitsAll, IsChoice, CanChoose};
+ghost use Rattle.dy_quorum.specs.declared.tallies.TheConstants.{MAX_RECEIPTS};
 ghost use Rattle.dy_quorum.specs.inside.Counting.{firsts};
 
 use arrayvec::ArrayVec;
-use dy_dots::{Fault, NodeId};
+use dy_dots::{Fault, MAX_NODES, NodeId};
 use dy_shares::{Naming, Receipt};
 use std::alloc::Global;
 use std::marker::Model;
+
+/// How many receipts a tally has room for: a put reads two answers of each node at most.
+pub const MAX_RECEIPTS: usize = 64;
 
 // Distinct homes, which lie in place: there are as many as nodes, at most.
 type Homes = ArrayVec<NodeId, 32>;
@@ -17,7 +22,6 @@ type Homes = ArrayVec<NodeId, 32>;
 #[derive(Drop)]
 pub struct Tally<J: Naming> {
     w: usize,
-    room: usize,
     added: Vec<Receipt<J>>,
     homes: Homes,
     chosen: Vec<Receipt<J>>,
@@ -28,19 +32,20 @@ impl<J: Naming> Model for Tally<J> {
     ghost use Rattle.std.specs.List.{All};
     ghost use Rattle.dy_dots.specs.declared.nodes.TheConstants.{MAX_NODES};
     ghost use Rattle.dy_quorum.specs.Tallies.{Counted, DoAgree};
+    ghost use Rattle.dy_quorum.specs.declared.tallies.TheConstants.{MAX_RECEIPTS};
     ghost use Rattle.dy_quorum.specs.inside.Counting.{IsCount, firsts};
 
     ghost Value = { Counted };
 
-    ghost view = { λ t. record { w = t.w; room = t.room; added = t.added.items } };
+    ghost view = { λ t. record { w = t.w; added = t.added.items } };
 
     ghost invariant = { λ t.
         (t.homes.items ≡ map (λ r. r.home) (firsts t.added.items))
         × IsCount t.added.items (firsts t.added.items)
-        × (length t.added.items ≤ t.room)
-        × (t.room ≤ vec_capacity t.added)
+        × (length t.added.items ≤ MAX_RECEIPTS)
+        × (MAX_RECEIPTS ≤ vec_capacity t.added)
         × All (λ r. r.home < MAX_NODES) t.added.items
-        × (t.room ≤ vec_capacity t.chosen)
+        × (MAX_NODES ≤ vec_capacity t.chosen)
         × (t.chosen.items ≡ [])
         × DoAgree t.added.items };
 }
@@ -66,7 +71,7 @@ fn all_agree<J: Naming>(list: &[Receipt<J>], receipt: &Receipt<J>) -> bool
 
 // The first receipt of each home, in their order.
 fn first_of_each<J: Naming>(added: Vec<Receipt<J>>, mut chosen: Vec<Receipt<J>>) -> Vec<Receipt<J>>
-    requires chosen { length added.items ≤ vec_capacity chosen }
+    requires chosen { MAX_NODES ≤ vec_capacity chosen }
     requires empty { chosen.items ≡ [] }
     ensures { result.items ≡ firsts added.items }
 {
@@ -84,16 +89,15 @@ fn first_of_each<J: Naming>(added: Vec<Receipt<J>>, mut chosen: Vec<Receipt<J>>)
 }
 
 impl<J: Naming> Tally<J> {
-    /// No receipts yet, of a put that needs w homes, and room for so many.
-    pub fn new(alloc: Global, w: usize, room: usize) -> Result<Tally<J>, Fault>
+    /// No receipts yet, of a put that needs w homes, and room for 64 of them and for the choice.
+    pub fn new(alloc: Global, w: usize) -> Result<Tally<J>, Fault>
         ensures memory { IsOkUnless result Fault.OutOfMemory }
-        ensures value { IfOk result (λ t. t ≡ record { w = w; room = room; added = [] }) }
+        ensures value { IfOk result (λ t. t ≡ record { w = w; added = [] }) }
     {
-        let added = Vec::with_capacity(alloc, room)?;
-        let chosen = Vec::with_capacity(alloc, room)?;
+        let added = Vec::with_capacity(alloc, MAX_RECEIPTS)?;
+        let chosen = Vec::with_capacity(alloc, MAX_NODES as usize)?;
         Ok(Tally {
             w,
-            room,
             added,
             homes: Homes::new(),
             chosen,
@@ -111,18 +115,17 @@ impl<J: Naming> Tally<J> {
     /// Whether there is no room for one more. Takes no memory.
     pub fn is_full(&self) -> bool
         ensures { MatchBool result
-            (length self.now.added ≡ self.now.room) (length self.now.added < self.now.room) }
+            (length self.now.added ≡ MAX_RECEIPTS) (length self.now.added < MAX_RECEIPTS) }
     {
-        self.added.len() == self.room
+        self.added.len() == MAX_RECEIPTS
     }
 
     /// Adds the receipt. Takes no memory.
     pub fn add(&mut self, receipt: Receipt<J>)
         requires fits { FitsAll self.old.added receipt }
-        requires room { length self.old.added < self.old.room }
+        requires room { length self.old.added < MAX_RECEIPTS }
         ensures value { self.new ≡ record {
           w = self.old.w;
-          room = self.old.room;
           added = self.old.added ++ receipt ∷ [];
         } }
         ensures agree { DoAgree self.new.added }
@@ -155,7 +158,6 @@ impl<J: Naming> Tally<J> {
     {
         let Tally {
             w,
-            room: _,
             added,
             homes: _,
             chosen,

@@ -77,14 +77,13 @@ fn look_up<J: Naming, R: Wait>(
     write_known(stage, &book, done.dot, out)
 }
 
-// Counts the receipts, with room for two: which were taken, and how many of them are given back
-// where one home is enough.
+// Counts the receipts: the homes of those that were taken, and whether one home is enough.
 fn write_count<J: Naming>(
     alloc: Global,
     receipts: Vec<Receipt<J>>,
     out: &mut String,
 ) -> Result<(), Fault> {
-    let mut tally = Tally::new(alloc, 1, 2)?;
+    let mut tally = Tally::new(alloc, 1)?;
     out.push_str("counted")?;
     for receipt in receipts {
         let home = receipt.home();
@@ -118,11 +117,11 @@ pub fn put_and_look_up<J: Naming, R: Wait>(
     }
 }
 
-// What is told: the second version of node 0 is not issued, and of three receipts two have room.
+// What is told: the second version of node 0 is not issued, and each of three receipts counts.
 const LOOKED_UP: &str = "\
 put ok n0:1 0/0=stored 1/1=stored 2/2=stored
 issued n0:1 unknown n0:2 held n0:1
-counted 0 1 without 2 ready true
+counted 0 1 2 ready true
 held 0/0 n0:1
 held 1/1 n0:1
 held 2/2 n0:1

@@ -1,8 +1,11 @@
-use Rattle.std.proofs.Common.{◌<◌, length, arith, sym, ◌∙◌}
+use Rattle.std.proofs.Common.{◌≡◌, ◌<◌, List, ℕ, false, length, arith, sym, ◌∙◌, ap}
+use Rattle.std.specs.List.{All}
+use Rattle.std.proofs.lemmas.List.{length-map}
 use Rattle.std.proofs.lemmas.List.Elements.{All-push}
 use Rattle.dy_dots.specs.declared.nodes.TheConstants.{MAX_NODES}
 use Rattle.dy_shares.specs.Shares.{ReceiptParts}
-use Rattle.dy_quorum.proofs.Firsts.{are_firsts, homes_same, homes_more, few_more, room_for, taken_more, taken_same}
+use Rattle.dy_quorum.specs.inside.Counting.{firsts, receipt_homes}
+use Rattle.dy_quorum.proofs.Firsts.{are_firsts, home_in, homes_same, homes_more, room_for, taken_more, taken_same}
 use Rattle.dy_quorum.proofs.tallies.first_of_each.Goals as goal
 
 pub loop-receipt-preserved-then-not-contains : goal.loop-receipt-preserved-then-not-contains
@@ -15,7 +18,6 @@ loop-receipt-preserved-then-not-contains g c =
     record {
       chosen = rw c.push_reserved.ensures.items (taken_more (λ (r : ReceiptParts). r.home) xs _ x _ inv.homes inv.chosen lacks);
       homes = rw (c.push.ensures.items, c.home-home.ensures) (homes_more (λ (r : ReceiptParts). r.home) xs x _ inv.homes lacks);
-      few = few_more (λ (r : ReceiptParts). r.home) xs x inv.few;
       below = All-push (λ (r : ReceiptParts). r.home < MAX_NODES) xs x inv.below (omega (arith, c.home-home.ensures, c.number-number.ensures.value, c.number-number.ensures.small));
       chosen_room = rw c.push_reserved.ensures.capacity inv.chosen_room;
     }
@@ -30,21 +32,37 @@ loop-receipt-preserved g c =
     record {
       chosen = taken_same (λ (r : ReceiptParts). r.home) xs _ x _ inv.homes inv.chosen has;
       homes = homes_same (λ (r : ReceiptParts). r.home) xs x _ inv.homes has;
-      few = few_more (λ (r : ReceiptParts). r.home) xs x inv.few;
       below = All-push (λ (r : ReceiptParts). r.home < MAX_NODES) xs x inv.below (omega (arith, c.home-home.ensures, c.number-number.ensures.value, c.number-number.ensures.small));
       chosen_room = inv.chosen_room;
     }
 
 -- a home that is not there yet leaves room for itself
+few : (xs : List ReceiptParts) (x : ReceiptParts) (homes : List ℕ) →
+    homes ≡ receipt_homes (firsts xs) → All (λ r. r.home < MAX_NODES) xs → x.home < MAX_NODES →
+    home_in homes x.home ≡ false → length homes < MAX_NODES
+few xs x homes are below node lacks =
+    room_for (λ (r : ReceiptParts). r.home) MAX_NODES xs x homes are
+    (are_firsts (λ (r : ReceiptParts). r.home) xs)
+    (All-push (λ (r : ReceiptParts). r.home < MAX_NODES) xs x below node) lacks
+
 pub push-requires : goal.push-requires
 push-requires g c =
     let inv = c.loop-receipt.invariant in
-    let xs = c.loop-receipt.yielded in
-    let x = c.in-Some.receipt in
     let tested = rw (c.deref.ensures.0, c.home-home.ensures) at c.contains.ensures.value in
-    let node : x.home < MAX_NODES = omega (arith, c.home-home.ensures, c.number-number.ensures.value, c.number-number.ensures.small) in
-    let few : length c.loop-receipt.homes.items < 32 = room_for (λ (r : ReceiptParts). r.home) 32 xs x
-    c.loop-receipt.homes.items inv.homes (are_firsts (λ (r : ReceiptParts). r.home) xs)
-    (All-push (λ (r : ReceiptParts). r.home < MAX_NODES) xs x inv.below node)
-    (sym tested ∙ c.if-not-contains.true) in
-    (omega arith, few)
+    let node : c.in-Some.receipt.home < MAX_NODES = omega (arith, c.home-home.ensures, c.number-number.ensures.value, c.number-number.ensures.small) in
+    let lt = few c.loop-receipt.yielded c.in-Some.receipt c.loop-receipt.homes.items inv.homes
+    inv.below node (sym tested ∙ c.if-not-contains.true) in
+    (omega arith, lt)
+
+-- and so is there room for its receipt among those chosen
+pub push_reserved-requires : goal.push_reserved-requires
+push_reserved-requires g c =
+    let inv = c.loop-receipt.invariant in
+    let tested = rw (c.deref.ensures.0, c.home-home.ensures) at c.contains.ensures.value in
+    let node : c.in-Some.receipt.home < MAX_NODES = omega (arith, c.home-home.ensures, c.number-number.ensures.value, c.number-number.ensures.small) in
+    let lt = few c.loop-receipt.yielded c.in-Some.receipt c.loop-receipt.homes.items inv.homes
+    inv.below node (sym tested ∙ c.if-not-contains.true) in
+    let count = ap length inv.homes ∙ length-map (firsts c.loop-receipt.yielded) (λ (r : ReceiptParts). r.home) in
+    let same = ap length inv.chosen in
+    let room = inv.chosen_room in
+    omega arith

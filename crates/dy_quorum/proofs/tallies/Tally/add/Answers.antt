@@ -4,6 +4,7 @@ use Rattle.std.proofs.lemmas.List.Elements.{All-push}
 use Rattle.dy_dots.specs.declared.nodes.TheConstants.{MAX_NODES}
 use Rattle.dy_shares.specs.Shares.{ReceiptParts}
 use Rattle.dy_quorum.specs.Tallies.{Counted, FitsAll}
+use Rattle.dy_quorum.specs.declared.tallies.TheConstants.{MAX_RECEIPTS}
 use Rattle.dy_quorum.specs.inside.Counting.{firsts}
 use Rattle.dy_quorum.proofs.Firsts.{homes_same, homes_more, room_for}
 use Rattle.dy_quorum.proofs.Choices.{agree_more, count_push}
@@ -26,8 +27,8 @@ push-requires g c =
 pub invariant_of-self : goal.invariant_of-self
 invariant_of-self g c =
     let inv = c.self.invariant in
-    let P : Counted → Type 0 = λ t. length t.added < t.room in
-    let room : length c.self.inside.added.items < c.self.inside.room = subst P (sym c.self.view_is) c.requires.room in
+    let P : Counted → Type 0 = λ t. length t.added < MAX_RECEIPTS in
+    let room : length c.self.inside.added.items < MAX_RECEIPTS = subst P (sym c.self.view_is) c.requires.room in
     let Q : Counted → Type 0 = λ t. FitsAll t.added c.args.receipt in
     let fits : FitsAll c.self.inside.added.items c.args.receipt = subst Q (sym c.self.view_is) c.requires.fits in
     let tested = rw (c.deref.ensures.0, c.home-home.ensures) at c.contains.ensures.value in
