@@ -1,7 +1,8 @@
 -- What a session was told, by how a put ended.
 use Rattle.std.proofs.Common.{◌≡◌, ◌∙◌, List, [], ◌∷◌, ℕ, Option, map, sym, ap, subst, inl}
 use Rattle.std.proofs.Common.{inr, arith}
-use Rattle.std.specs.Prelude.{Result, Ok, Err, IfOk, OnErr}
+use Rattle.std.specs.Prelude.{◌≢◌, Result, Ok, Err, IfOk, IfErr, OnErr}
+use Rattle.dy_dots.specs.declared.faults.Fault.TheVariants.{NotEnough}
 use Rattle.dy_dots.specs.Dots.{DotSet}
 use Rattle.dy_dots.specs.declared.dots.Dot.{Dot}
 use Rattle.dy_preference.specs.Preferences.{Preferred}
@@ -30,6 +31,10 @@ ack_is_last before after key dot w spent is =
     let latest : since_of (with_ack before is.at (Ack key dot w) spent) ≡ is.at =
     omega (arith, numbers, is.later) in
     ap since_of is.told ∙ latest
+
+-- but for want of homes no answers are listed
+abbrev IsUnlisted : PutFault → Type 0
+IsUnlisted e = e.fault ≢ NotEnough → e.answers.items ≡ []
 
 module _ {J : Type 0} where
   -- what is said of an Ok is so of a refusal
@@ -92,3 +97,31 @@ module _ {J : Type 0} where
       put.ends
   refused_of list w key context value before after told result (inr (same, asks, replies, why)) =
       on_err (after ≡ before) result same
+
+  ends_unlisted : (key : List ℕ) (dot : Dot) (w : ℕ) (added : List ReceiptParts)
+      (answers : List AnswerRead) (begins tries : List (Try J)) (before after : SessionPart)
+      (result : Result (PutDone J) PutFault)
+      → EndsAfter key dot w added answers begins tries before after result
+      → IfErr result IsUnlisted
+  ends_unlisted key dot w added answers begins tries before after result
+      (inl (spent, last, ok)) =
+      subst (λ r. IfErr r IsUnlisted) (sym ok.result_is) tt
+  ends_unlisted key dot w added answers begins tries before after result
+      (inr (inl (same, (e, is, dot_is, none, why)))) =
+      subst (λ r. IfErr r IsUnlisted) (sym is) (λ _. none)
+  ends_unlisted key dot w added answers begins tries before after result
+      (inr (inr (can, last, same, (e, is, dot_is, listed, want)))) =
+      subst (λ r. IfErr r IsUnlisted) (sym is) (λ other. absurd (other want))
+
+  pub unlisted_of : (list : Preferred) (w : ℕ) (key : List ℕ) (context : DotSet)
+      (value : Option (List ℕ)) (before after : SessionPart) (told : Told J)
+      (result : Result (PutDone J) PutFault)
+      → PutRuns list w key context value before after told result
+      → IfErr result IsUnlisted
+  unlisted_of list w key context value before after told result (inl (c, begun, put)) =
+      ends_unlisted key begun.dot w put.added put.answers put.begins told.tries before after
+      result
+      put.ends
+  unlisted_of list w key context value before after told result
+      (inr (same, asks, replies, (e, is, dot_is, none, why))) =
+      subst (λ r. IfErr r IsUnlisted) (sym is) (λ _. none)

@@ -3,11 +3,12 @@
 use Rattle.std.proofs.Common.{Some, ◌≡◌, ◌++◌, ◌∷◌, [], ◌<◌, ◌≤◌, ◌+◌, List, ℕ, zero, suc, length}
 use Rattle.std.proofs.Common.{map, get_or, nat_eq, sym, ◌∙◌, ap, subst, arith, length-append}
 use Rattle.std.proofs.Common.{append_assoc, inl, inr, Result, Ok, Err, IfOk, IfErr}
+use Rattle.std.specs.Prelude.{◌≢◌}
 use Rattle.std.proofs.lemmas.List.{append-nil, same_from_push}
 use Rattle.std.proofs.lemmas.List.Elements.{All-nil, All-cons, All-append, All-head, All-tail}
 use Rattle.std.proofs.lemmas.List.Elements.{All-contains}
 use Rattle.std.specs.List.{All, IsDistinct, slice_get}
-use Rattle.dy_dots.specs.declared.faults.Fault.TheVariants.{OutOfMemory}
+use Rattle.dy_dots.specs.declared.faults.Fault.TheVariants.{NotEnough, OutOfMemory}
 use Rattle.dy_siblings.specs.Siblings.{IsSameRow, newest}
 use Rattle.dy_preference.specs.Preferences.{Preferred, home_for}
 use Rattle.dy_core.specs.Logs.{Answer as SeenParts, rows_of}
@@ -183,19 +184,27 @@ module _ {J : Type 0} where
   pub lacking : (list : Preferred) (key : List ℕ) (r since c : ℕ) (own : SeenParts) (told : Told J)
       (seens : List SeenParts) (answers : List AnswerRead) (result : Result (GetDone J) GetFault) →
       Gathers list key r since c own told seens answers → length (first_answers seens) ≡ r →
-      IfErr result (λ e. e.fault ≡ OutOfMemory) → IfErr result (λ e. e.answers.items ≡ answers) →
+      IfErr result (λ e. e.fault ≡ OutOfMemory) → IfErr result (λ e. e.answers.items ≡ []) →
       IfErr result (λ e. IsGetRefused list key r since told e)
-  lacking list key r since c own told seens answers (Ok done) gathers enough memory lists = tt
-  lacking list key r since c own told seens answers (Err e) gathers enough memory lists =
-      let S : List AnswerRead → Type 0 = λ xs. Gathers list key r since c own told seens xs in
+  lacking list key r since c own told seens answers (Ok done) gathers enough memory none = tt
+  lacking list key r since c own told seens answers (Err e) gathers enough memory none =
       inr (inl (record {
         coordinator = c;
         own = own;
         seens = seens;
+        answers = answers;
         fault = memory;
-        gathers = subst S (sym lists) gathers;
+        gathers = gathers;
+        unlisted = none;
         enough = enough;
       }))
+
+  -- what lists no answers lists none but for want of homes
+  pub unlisted : (result : Result (GetDone J) GetFault) →
+      IfErr result (λ e. e.answers.items ≡ []) →
+      IfErr result (λ e. e.fault ≢ NotEnough → e.answers.items ≡ [])
+  unlisted (Ok done) none = tt
+  unlisted (Err e) none = λ _. none
 
   pub gathered : (list : Preferred) (key : List ℕ) (r since c : ℕ) (own : SeenParts)
       (told : Told J) (seens : List SeenParts) (answers : List AnswerRead) →

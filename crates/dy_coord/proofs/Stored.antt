@@ -11,6 +11,7 @@ use Rattle.std.proofs.lemmas.List.Elements.{All-weaker, All-map}
 use Rattle.std.proofs.lemmas.List.Elements.{Contains-append_cases, Contains-append_left}
 use Rattle.std.proofs.lemmas.List.Elements.{Contains-append_right}
 use Rattle.dy_dots.specs.declared.dots.Dot.{Dot}
+use Rattle.dy_dots.specs.declared.faults.Fault.{Fault}
 use Rattle.dy_dots.specs.declared.faults.Fault.TheVariants.{NotEnough}
 use Rattle.dy_siblings.specs.Siblings.{Siblings}
 use Rattle.dy_siblings.proofs.Members.{in_cases, in_head, in_tail, not_in_nil}
@@ -225,35 +226,43 @@ module _ {J : Type 0} (list : Preferred) (row : Siblings) (dot : Dot) (c : ℕ) 
     taken (inr (inr (can, none, same, why))) homes are enough =
         absurd (can (can_choose w homes are enough))
 
+    not_of_step : (f : Fault) → IsOfStep f → f ≡ NotEnough → ⊥
+    not_of_step f (inl memory) want = cc
+    not_of_step f (inr full) want = cc
+
+    -- a refusal for want of homes lists what was read
+    pub listed : EndsAfter key dot w added answers begins tries before after result →
+        (e : PutFault) → result ≡ Err e → e.fault ≡ NotEnough → e.answers.items ≡ answers
+    listed (inl (spent, last, ok)) e is want = absurd (let no : Ok ok.done ≡ Err e = sym ok.result_is ∙ is in cc)
+    listed (inr (inl (same, (f, f_is, dot_is, answers_are, (step, tried))))) e is want =
+        let e_is : f ≡ e = (let both : Err f ≡ Err e = sym f_is ∙ is in cc) in
+        absurd (not_of_step e.fault (subst (λ (x : PutFault). IsOfStep x.fault) e_is step) want)
+    listed (inr (inr (can, none, same, (f, f_is, dot_is, answers_are, why)))) e is want =
+        let e_is : f ≡ e = (let both : Err f ≡ Err e = sym f_is ∙ is in cc) in
+        ap (λ (x : PutFault). x.answers.items) (sym e_is) ∙ answers_are
+
     -- a refusal is for want of homes exactly where fewer than w were answered for
     pub refused : EndsAfter key dot w added answers begins tries before after result →
         (e : PutFault) → result ≡ Err e →
-        (e.fault ≡ NotEnough) ↔ ((homes : List ℕ) → AreStoredFor e.answers.items homes → length homes < w)
+        (e.fault ≡ NotEnough) ↔ ((homes : List ℕ) → AreStoredFor answers homes → length homes < w)
     refused (inl (spent, last, ok)) e is = absurd (let no : Ok ok.done ≡ Err e = sym ok.result_is ∙ is in cc)
     refused (inr (inl (same, (f, f_is, dot_is, answers_are, (step, (spent, tried)))))) e is =
         let e_is : f ≡ e = (let both : Err f ≡ Err e = sym f_is ∙ is in cc) in (
-          (λ want. absurd (not_of_step (subst (λ (x : PutFault). IsOfStep x.fault) e_is step) want)),
+          (λ want. absurd (not_of_step e.fault (subst (λ (x : PutFault). IsOfStep x.fault) e_is step) want)),
           (λ few.
               let homes = map (λ (r : ReceiptParts). r.home) spent.items in
-              let lt = few homes
-              (subst (λ xs. AreStoredFor xs homes) (sym answers_are ∙ ap (λ (x : PutFault). x.answers.items) e_is)
-              (chosen_stored w spent.items tried.choice)) in
+              let lt = few homes (chosen_stored w spent.items tried.choice) in
               let mapped : length homes ≡ length spent.items = length-map spent.items (λ (r : ReceiptParts). r.home) in
               absurd (omega (arith, lt, mapped, tried.choice.count))),
         )
-      where
-        not_of_step : IsOfStep e.fault → e.fault ≡ NotEnough → ⊥
-        not_of_step (inl memory) want = cc
-        not_of_step (inr full) want = cc
     refused (inr (inr (can, none, same, (f, f_is, dot_is, answers_are, want)))) e is =
         let e_is : f ≡ e = (let both : Err f ≡ Err e = sym f_is ∙ is in cc) in (
           (λ _ homes are.
-              let here = subst (λ xs. AreStoredFor xs homes) (ap (λ (x : PutFault). x.answers.items) (sym e_is) ∙ answers_are) are in
               ⊎_elim
-              (λ same_count. absurd (can (can_choose w homes here (omega (arith, same_count)))))
+              (λ same_count. absurd (can (can_choose w homes are (omega (arith, same_count)))))
               (⊎_elim
               (λ less. less)
-              (λ more. absurd (can (can_choose w homes here (omega (arith, more))))))
+              (λ more. absurd (can (can_choose w homes are (omega (arith, more))))))
               (cases_order (length homes) w)),
           (λ _. ap (λ (x : PutFault). x.fault) (sym e_is) ∙ want),
         )

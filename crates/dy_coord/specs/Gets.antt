@@ -91,14 +91,16 @@ module _ {J : Type 0} where
     pub out : IsReadOut told
     pub used : AllUsed list (Fetch (snapshot_of key) since) coordinator told
 
-  -- r homes answered, and there was no memory for what a get gives
+  -- r homes answered, and there was no memory for what a get gives; what was read is not listed
   pub record LacksMemory (list : Preferred) (key : List ℕ) (r since : ℕ) (told : Told J)
       (e : GetFault) : Type 0 where
     pub coordinator : ℕ
     pub own : SeenParts
     pub seens : List SeenParts
+    pub answers : List AnswerRead
     pub fault : e.fault ≡ OutOfMemory
-    pub gathers : Gathers list key r since coordinator own told seens e.answers.items
+    pub gathers : Gathers list key r since coordinator own told seens answers
+    pub unlisted : e.answers.items ≡ []
     pub enough : length (first_answers seens) ≡ r
 
   -- a get that asked nobody: no memory before the first try, each node down, or a node refused

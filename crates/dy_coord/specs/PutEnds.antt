@@ -54,15 +54,15 @@ module _ {J : Type 0} where
         tries ≡ before ++ Record w (snapshot_of spent) (snapshot_of gave) ∷ []
 
   -- a put that began: where w receipts of distinct homes and distinct holders can be chosen the ack
-  -- is tried with such, and the put is acknowledged, or refused for what the try was; where not,
-  -- nothing more is tried, and there are not enough
+  -- is tried with such, and the put is acknowledged, or refused for what the try was, without
+  -- answers; where not, nothing more is tried, there are not enough, and the answers are listed
   abbrev pub EndsAfter : List ℕ → Dot → ℕ → List ReceiptParts → List AnswerRead
       → List (Try J) → List (Try J) → SessionPart → SessionPart
       → Result (PutDone J) PutFault → Type 0
   EndsAfter key dot w added answers begins tries before after result =
       ((spent : Vec ReceiptParts Global) × IsRecorded w added begins tries spent (Ok tt)
       × Acknowledges key dot w spent.items answers before after result)
-      ⊎ ((after ≡ before) × PutRefuses result (Some dot) answers (λ f. IsOfStep f
+      ⊎ ((after ≡ before) × PutRefuses result (Some dot) [] (λ f. IsOfStep f
       × ((spent : Vec ReceiptParts Global) × IsRecorded w added begins tries spent (Err f))))
       ⊎ ((CanChoose w added → ⊥) × (tries ≡ begins) × (after ≡ before)
       × PutRefuses result (Some dot) answers (λ f. f ≡ NotEnough))

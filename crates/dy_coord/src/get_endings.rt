@@ -1,4 +1,4 @@
-ghost use Rattle.std.specs.Prelude.{◌≡◌, ◌<◌, ◌≤◌, ℕ, List, length, map, nat_eq};
+ghost use Rattle.std.specs.Prelude.{◌≡◌, ◌<◌, ◌≤◌, [], ℕ, List, length, map, nat_eq};
 ghost use Rattle.std.specs.Prelude.{IfOk, IfErr, OnOk, OnErr, IsOkUnless};
 ghost use Rattle.std.specs.List.{All, IsDistinct};
 ghost use Rattle.dy_siblings.specs.Siblings.{IsSameRow, context_of, newest};
@@ -91,7 +91,7 @@ pub(crate) fn finish<J: Naming>(
         with_get session.old (since_of session.old) (first_answers gathering.seens)) }
     ensures err { OnErr result (session.new ≡ session.old) }
     ensures memory { IfErr result (λ e. e.fault ≡ Fault.OutOfMemory) }
-    ensures listed { IfErr result (λ e. e.answers.items ≡ answers.items) }
+    ensures unlisted { IfErr result (λ e. e.answers.items ≡ []) }
 {
     let since = session.since().at();
     match tell(alloc, &gathering, session) {
@@ -106,6 +106,6 @@ pub(crate) fn finish<J: Naming>(
                 answers,
             })
         }
-        Err(fault) => Err(GetFault { fault, answers }),
+        Err(fault) => Err(GetFault::unlisted(alloc, fault)),
     }
 }

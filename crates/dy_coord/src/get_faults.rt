@@ -4,7 +4,8 @@ use dy_dots::Fault;
 use dy_transport::AnswerVec;
 use std::alloc::Global;
 
-/// A get that was refused, with each answer that was read.
+/// A get that was refused, with every answer that was read where too few homes answered. Any other
+/// refusal lists none.
 #[derive(Drop)]
 pub struct GetFault {
     pub fault: Fault,
@@ -20,8 +21,8 @@ impl From<GetFault> for Fault {
 }
 
 impl GetFault {
-    // A refusal before anything was read.
-    pub(crate) fn early(alloc: Global, fault: Fault) -> GetFault
+    // A refusal that lists no answers.
+    pub(crate) fn unlisted(alloc: Global, fault: Fault) -> GetFault
         ensures fault { result.fault ≡ fault }
         ensures answers { result.answers.items ≡ [] }
     {

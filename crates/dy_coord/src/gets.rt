@@ -1,4 +1,6 @@
-ghost use Rattle.std.specs.Prelude.{◌≡◌, ◌≤◌, ◌*◌, [], length, IfOk, IfErr, OnErr, IsOkUnless};
+ghost use Rattle.std.specs.Prelude.{◌≡◌, ◌≢◌, ◌≤◌, ◌*◌, [], length, IfOk, IfErr, OnErr};
+ghost use Rattle.std.specs.Prelude.{IsOkUnless};
+ghost use Rattle.dy_dots.specs.declared.faults.Fault.TheVariants.{NotEnough};
 ghost use Rattle.dy_dots.specs.declared.nodes.TheConstants.{MAX_NODES};
 ghost use Rattle.dy_preference.specs.Preferences.{IsPreferred};
 ghost use Rattle.dy_shares.specs.Shares.{since_of, with_get};
@@ -66,10 +68,11 @@ pub fn get<J: Naming, T: Transport<J>, R: Wait>(
     ensures room { (T.told transport.new).room ≡ (T.told transport.old).room }
     ensures refused { IfErr result (λ e.
         IsGetRefused list.now key.now J.r (since_of session.old) (T.told transport.new) e) }
+    ensures unlisted { IfErr result (λ e. e.fault ≢ NotEnough → e.answers.items ≡ []) }
 {
     let (mut answers, mut gathering) = match prepare(alloc, list, r) {
         Ok(made) => made,
-        Err(fault) => return Err(GetFault::early(alloc, fault)),
+        Err(fault) => return Err(GetFault::unlisted(alloc, fault)),
     };
     let since = session.since();
     match look_somewhere(rt, transport, list, key, &since) {
@@ -93,7 +96,7 @@ pub fn get<J: Naming, T: Transport<J>, R: Wait>(
             }
             finish(alloc, gathering, answers, session)
         }
-        Somewhere::NoNode => Err(GetFault::early(alloc, Fault::NoNode)),
-        Somewhere::Refused(fault) => Err(GetFault::early(alloc, fault)),
+        Somewhere::NoNode => Err(GetFault::unlisted(alloc, Fault::NoNode)),
+        Somewhere::Refused(fault) => Err(GetFault::unlisted(alloc, fault)),
     }
 }

@@ -25,8 +25,9 @@ ghost use Rattle.dy_coord.specs.declared.put_results.PutFault.{PutFault};
 use dy_shares::Naming;
 
 /// A put that began is refused for want of homes exactly where nodes answered that they hold its
-/// row for fewer than w homes, the coordinator's own among them; where they did for w homes, it is
-/// acknowledged, or memory is wanting, or the book's steps are full.
+/// row for fewer than w homes, the coordinator's own among them, and then it lists these answers;
+/// where they did for w homes, it is acknowledged, or memory is wanting, or the book's steps are
+/// full.
 pub fn puts_fail_only_for_want_of_homes<J: Naming>()
     ensures enough { (list : Preferred) (w : ℕ) (key : List ℕ) (context : DotSet)
         (value : Option (List ℕ)) (before after : SessionPart) (told : Told J)
@@ -37,10 +38,16 @@ pub fn puts_fail_only_for_want_of_homes<J: Naming>()
     ensures not_enough { (list : Preferred) (w : ℕ) (key : List ℕ) (context : DotSet)
         (value : Option (List ℕ)) (before after : SessionPart) (told : Told J)
         (result : Result (PutDone J) PutFault) (c : ℕ) (begun : Begun J) →
-        IsPut list w key context value before after told result c begun →
+        (put : IsPut list w key context value before after told result c begun) →
         (e : PutFault) → result ≡ Err e →
         (e.fault ≡ NotEnough)
-        ↔ ((homes : List ℕ) → AreStoredFor e.answers.items homes → length homes < w) }
+        ↔ ((homes : List ℕ) → AreStoredFor put.answers homes → length homes < w) }
+    ensures listed { (list : Preferred) (w : ℕ) (key : List ℕ) (context : DotSet)
+        (value : Option (List ℕ)) (before after : SessionPart) (told : Told J)
+        (result : Result (PutDone J) PutFault) (c : ℕ) (begun : Begun J) →
+        (put : IsPut list w key context value before after told result c begun) →
+        (e : PutFault) → result ≡ Err e → e.fault ≡ NotEnough →
+        e.answers.items ≡ put.answers }
 {}
 
 /// A put with the context of a get follows each version that the get gave, deletions too: the

@@ -32,8 +32,8 @@ impl<J: Naming> PutDone<J> {
     }
 }
 
-/// A put that was refused: its dot where a version was made, and every answer that was read, the
-/// coordinator's own first.
+/// A put that was refused: its dot where a version was made, and where too few homes have it every
+/// answer that was read, the coordinator's own first. Any other refusal lists none.
 #[derive(Debug, Drop)]
 pub struct PutFault {
     pub fault: Fault,

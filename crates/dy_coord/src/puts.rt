@@ -1,6 +1,7 @@
 ghost use Rattle.std.specs.Prelude.{◌≡◌, ◌<◌, ◌≤◌, ◌+◌, ◌*◌, [], ℕ, length, IsTrue, IfOk};
-ghost use Rattle.std.specs.Prelude.{IsOkUnless, OnErr};
+ghost use Rattle.std.specs.Prelude.{◌≢◌, IsOkUnless, IfErr, OnErr};
 ghost use Rattle.dy_dots.specs.declared.faults.Fault.TheVariants as Fault;
+ghost use Rattle.dy_dots.specs.declared.faults.Fault.TheVariants.{NotEnough};
 ghost use Rattle.dy_dots.specs.declared.nodes.TheConstants.{MAX_NODES};
 ghost use Rattle.dy_siblings.specs.Siblings.{has_dot};
 ghost use Rattle.dy_preference.specs.Preferences.{IsPreferred, home_for, preference_of};
@@ -35,12 +36,11 @@ fn prepare<J: Naming>(
     w: u8,
 ) -> Result<(AnswerVec, Tally<J>), Fault>
     ensures ok { IfOk result (λ p. (p.0.items ≡ []) × (2 * length list.now.nodes ≤ p.0.capacity)
-        × (p.1 ≡ record { w = w; room = 2 * length list.now.nodes; added = [] })) }
+        × (p.1 ≡ record { w = w; added = [] })) }
     ensures memory { IsOkUnless result Fault.OutOfMemory }
 {
-    let room = most_answers(list);
-    let answers = AnswerVec::with_capacity(alloc, room)?;
-    let tally = Tally::new(alloc, w as usize, room)?;
+    let answers = AnswerVec::with_capacity(alloc, most_answers(list))?;
+    let tally = Tally::new(alloc, w as usize)?;
     Ok((answers, tally))
 }
 
@@ -68,7 +68,6 @@ fn spread<J: Naming, T: Transport<J>, R: Wait>(
     requires none { tally.old.added ≡ [] }
     requires no_answers { answers.old.items ≡ [] }
     requires answers_room { 2 * length list.now.nodes ≤ answers.old.capacity }
-    requires tally_room { 2 * length list.now.nodes ≤ tally.old.room }
     ensures spreads { Spreads list.now row.now dot coordinator
         (T.told transport.new) tally.new.added answers.new.items }
     ensures tries { (T.told transport.new).tries ≡ (T.told transport.old).tries }
@@ -104,6 +103,7 @@ fn spread<J: Naming, T: Transport<J>, R: Wait>(
 // Decides, after every answer was read.
 fn conclude<J: Naming, T: Transport<J>, R: Wait>(
     rt: &R,
+    alloc: Global,
     transport: &mut T,
     key: &Key,
     dot: Dot,
@@ -147,7 +147,7 @@ fn conclude<J: Naming, T: Transport<J>, R: Wait>(
         Err(fault) => Err(PutFault {
             fault,
             dot: Some(dot),
-            answers,
+            answers: AnswerVec::new(alloc),
         }),
     }
 }
@@ -195,7 +195,7 @@ fn put_in_range<J: Naming, T: Transport<J>, R: Wait>(
                 &mut tally,
                 &mut answers,
             );
-            conclude(rt, transport, key, dot, w, tally, answers, session)
+            conclude(rt, alloc, transport, key, dot, w, tally, answers, session)
         }
         Somewhere::NoNode => Err(PutFault::early(alloc, Fault::NoNode)),
         Somewhere::Refused(fault) => Err(PutFault::early(alloc, fault)),
@@ -227,6 +227,7 @@ pub fn put<J: Naming, T: Transport<J>, R: Wait>(
         session.old session.new (T.told transport.old) (T.told transport.new) result }
     ensures ok { IfOk result (IsPutDone session.old session.new key.now w) }
     ensures err { OnErr result (session.new ≡ session.old) }
+    ensures unlisted { IfErr result (λ e. e.fault ≢ NotEnough → e.answers.items ≡ []) }
     ensures room { (T.told transport.new).room ≡ (T.told transport.old).room }
 {
     if w < 1 {

@@ -11,7 +11,3 @@ returns-in-Ok-clause-ok g c = record {
   seen = c.into_parts-seen.ensures.seens;
   answers_are = refl;
 }
-
--- a refusal lists what was read
-pub returns-in-Err-clause-listed : goal.returns-in-Err-clause-listed
-returns-in-Err-clause-listed g c = refl

@@ -4,7 +4,7 @@ use Rattle.dy_core.specs.Logs.{Answer as SeenParts}
 use Rattle.dy_shares.specs.Shares.{since_of}
 use Rattle.dy_quorum.specs.Gatherings.{first_answers}
 use Rattle.dy_transport.specs.declared.kinds.AnswerRead.{AnswerRead}
-use Rattle.dy_coord.proofs.Getting.{are_used, gathered, got, lacking}
+use Rattle.dy_coord.proofs.Getting.{are_used, gathered, got, lacking, unlisted}
 use Rattle.dy_coord.proofs.gets.get.Goals as goal
 
 pub returns-else-not-is_ready-clause-ok : goal.returns-else-not-is_ready-clause-ok
@@ -44,7 +44,7 @@ returns-else-not-is_ready-clause-refused g c =
     (gathered list key g.J.Naming.r since c.in-At.c c.in-At.own told seens answers
     (rw (c.gather.ensures.tries, ← c.since-since.ensures) c.in-At.ensures.tries)
     (rw (← c.since-since.ensures) c.in-At.ensures.seen) x)
-    count c.finish.ensures.memory c.finish.ensures.listed
+    count c.finish.ensures.memory c.finish.ensures.unlisted
 
 pub finish-requires-clause-count : goal.finish-requires-clause-count
 finish-requires-clause-count g c =
@@ -91,8 +91,8 @@ returns-in-NoNode-clause-refused g c =
     inr (inr (record {
       asks = l.asks ∙ c.requires.fresh_asks;
       replies = l.replies ∙ c.requires.fresh_replies;
-      answers = c.early-in-NoNode.ensures.answers;
-      cause = inr (inl (c.early-in-NoNode.ensures.fault, rw (← c.since-since.ensures) l.tries));
+      answers = c.unlisted-in-NoNode.ensures.answers;
+      cause = inr (inl (c.unlisted-in-NoNode.ensures.fault, rw (← c.since-since.ensures) l.tries));
     }))
 
 -- a node refused
@@ -102,6 +102,13 @@ returns-in-Refused-clause-refused g c =
     inr (inr (record {
       asks = l.asks ∙ c.requires.fresh_asks;
       replies = l.replies ∙ c.requires.fresh_replies;
-      answers = c.early-in-Refused.ensures.answers;
-      cause = inr (inr (rw (c.early-in-Refused.ensures.fault, ← c.since-since.ensures) l.tries));
+      answers = c.unlisted-in-Refused.ensures.answers;
+      cause = inr (inr (rw (c.unlisted-in-Refused.ensures.fault, ← c.since-since.ensures) l.tries));
     }))
+
+-- r homes answered, and nothing is listed
+pub returns-else-not-is_ready-clause-unlisted : goal.returns-else-not-is_ready-clause-unlisted
+returns-else-not-is_ready-clause-unlisted g c = unlisted c.finish.result c.finish.ensures.unlisted
+
+pub returns-then-not-is_ready-clause-unlisted : goal.returns-then-not-is_ready-clause-unlisted
+returns-then-not-is_ready-clause-unlisted g c = λ other. absurd (other refl)

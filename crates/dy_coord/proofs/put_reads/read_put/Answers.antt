@@ -49,7 +49,6 @@ add-requires-clause-room g c =
     told.asks
     told.replies c.reading.assign inv.reading in
     let room = c.requires.tally_room in
-    let same = inv.tally_room in
     let count = inv.count in
     let q = c.in-Some-read_next.ensures.some.1 in
     let within = q.within in
@@ -100,7 +99,6 @@ reading-preserved-in-Some-receipt_in g c =
           q.replies;
       agree = c.add.ensures.agree;
       count = count_more told.replies new.replies r _ _ _ inv.count now q.replies;
-      tally_room = ap (λ t. t.room) c.add.ensures.value ∙ inv.tally_room;
       w = ap (λ t. t.w) c.add.ensures.value ∙ inv.w;
       answers = listed_more _ _ _ told.replies new.replies r _ c.in-Some-read_next.ensures.listed
           refl inv.answers q.replies;
@@ -132,7 +130,6 @@ reading-preserved g c =
       added = added_same row.key c.args.dot told.replies new.replies r _ _ inv.added none q.replies;
       agree = inv.agree;
       count = count_same told.replies new.replies r _ inv.count q.replies;
-      tally_room = inv.tally_room;
       w = inv.w;
       answers = listed_more _ _ _ told.replies new.replies r _ c.in-Some-read_next.ensures.listed
           refl inv.answers q.replies;

@@ -22,7 +22,6 @@ invariant-reading g l =
           receipts_read l.row.key l.dot told.replies;
       agree : DoAgree l.tally.added;
       count : length l.tally.added ≤ 1 + length told.replies;
-      tally_room : l.tally.room ≡ l.initial.tally.room;
       w : l.tally.w ≡ l.initial.tally.w;
       answers : l.answers.items ≡ l.initial.answers.items ++ map as_read told.replies;
       answers_len : length l.answers.items ≡ length l.initial.answers.items + length told.replies;

@@ -75,7 +75,7 @@ returns-in-Err-clause-ends g c =
         _,
         refl,
         refl,
-        refl,
+        c.new.ensures.items,
         (
           c.in-Err.ensures.refused,
           (

@@ -1,5 +1,5 @@
 use Rattle.std.proofs.Common.{refl, arith, inl, inr}
-use Rattle.dy_coord.proofs.Acked.{acked_of, refused_of}
+use Rattle.dy_coord.proofs.Acked.{acked_of, refused_of, unlisted_of}
 use Rattle.dy_coord.proofs.puts.put.Goals as goal
 
 -- no home was named
@@ -47,5 +47,12 @@ returns-clause-ok g c =
 pub returns-clause-err : goal.returns-clause-err
 returns-clause-err g c =
     refused_of c.args.list.now c.args.w c.args.key.now c.args.context.now c.args.value
+    c.args.session.now c.put_in_range.new.session (g.T.Transport.told c.put_in_range.new.transport)
+    c.put_in_range.result c.put_in_range.ensures.runs
+
+-- and but for want of homes it lists no answers
+pub returns-clause-unlisted : goal.returns-clause-unlisted
+returns-clause-unlisted g c =
+    unlisted_of c.args.list.now c.args.w c.args.key.now c.args.context.now c.args.value
     c.args.session.now c.put_in_range.new.session (g.T.Transport.told c.put_in_range.new.transport)
     c.put_in_range.result c.put_in_range.ensures.runs
