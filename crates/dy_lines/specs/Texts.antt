@@ -1,16 +1,12 @@
 -- The texts of bytes, positions and nodes, and the end of a line.
-use Rattle.std.specs.Prelude.{ℕ, ◌/◌, ◌%◌, List, ◌++◌, codes, decimal, false}
-use Rattle.std.specs.Fmt.{digits}
+use Rattle.std.specs.Prelude.{ℕ, List, ◌++◌, codes, decimal}
 use Rattle.std.specs.List.{flat_map}
 use Rattle.std.specs.Int.{w128, to_be_bytes}
+use Rattle.hex.specs.Hex.{encode_lower}
 
 -- a byte is two hexadecimal digits, with lower-case letters
-abbrev pub byte_text : ℕ → List ℕ
-byte_text b = digits 16 false (b / 16) ++ digits 16 false (b % 16)
-
--- bytes are the digits of each
 abbrev pub hex_text : List ℕ → List ℕ
-hex_text bytes = flat_map byte_text bytes
+hex_text bytes = encode_lower bytes
 
 -- a position is the digits of its 16 bytes, the greatest first
 abbrev pub position_text : ℕ → List ℕ

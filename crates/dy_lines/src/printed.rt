@@ -1,9 +1,8 @@
-ghost use Rattle.std.specs.Prelude.{◌≡◌, ◌<◌, Some, false};
-ghost use Rattle.std.specs.Fmt.{digits};
+ghost use Rattle.std.specs.Prelude.{Some};
 ghost use Rattle.dy_lines.specs.Texts.{hex_text, position_text, nodes_text};
 
 use dy_dots::NodeId;
-use std::fmt;
+use std::{fmt, str};
 
 /// Bytes that print as lower-case hexadecimal digits, two for each.
 #[derive(Clone, Copy, Debug)]
@@ -13,36 +12,18 @@ impl fmt::Display for Hex<'_> {
     ghost output = { λ hex. Some (hex_text hex.0.now) };
 
     fn fmt<W: fmt::Write>(&self, f: &mut fmt::Formatter<W>) -> fmt::Result {
-        for byte in self.0 {
-            f.write_str(digit(*byte / 16))?;
-            f.write_str(digit(*byte % 16))?;
+        let mut digits = [0u8; 128];
+        for part in self.0.chunks(64) {
+            let count = 2 * part.len();
+            let Ok(()) = hex::encode_to_slice(part, &mut digits[..count]) else {
+                unreachable!();
+            };
+            let Ok(text) = str::from_utf8(&digits[..count]) else {
+                unreachable!();
+            };
+            f.write_str(text)?;
         }
         Ok(())
-    }
-}
-
-/// The digit of a number below 16.
-fn digit(number: u8) -> &'static str
-    requires { number < 16 }
-    ensures { result.now ≡ digits 16 false number }
-{
-    match number {
-        0 => "0",
-        1 => "1",
-        2 => "2",
-        3 => "3",
-        4 => "4",
-        5 => "5",
-        6 => "6",
-        7 => "7",
-        8 => "8",
-        9 => "9",
-        10 => "a",
-        11 => "b",
-        12 => "c",
-        13 => "d",
-        14 => "e",
-        _ => "f",
     }
 }
 
