@@ -19,20 +19,20 @@ use std::alloc::Global;
 // Merges the rows of these answers, and tells the session of them.
 fn tell_of<J: Naming>(
     alloc: Global,
-    used: &Vec<Seen<J>>,
+    used: Vec<Seen<J>>,
     session: &mut SessionShare<J>,
 ) -> Result<(Row, Context), Fault>
     requires some { 1 ≤ J.r }
-    requires count { length used.now.items ≡ J.r }
-    requires one_key { (key : List ℕ) × All (λ a. a.key ≡ key) used.now.items }
-    requires homes { IsDistinct nat_eq (answer_homes used.now.items) }
-    requires later { All (λ a. since_of session.old < a.at) used.now.items }
-    ensures row { IfOk result (λ p. IsSameRow p.0.versions (newest (rows_of used.now.items))) }
-    ensures key { (key : List ℕ) → All (λ a. a.key ≡ key) used.now.items →
+    requires count { length used.items ≡ J.r }
+    requires one_key { (key : List ℕ) × All (λ a. a.key ≡ key) used.items }
+    requires homes { IsDistinct nat_eq (answer_homes used.items) }
+    requires later { All (λ a. since_of session.old < a.at) used.items }
+    ensures row { IfOk result (λ p. IsSameRow p.0.versions (newest (rows_of used.items))) }
+    ensures key { (key : List ℕ) → All (λ a. a.key ≡ key) used.items →
         IfOk result (λ p. p.0.key ≡ key) }
     ensures context { IfOk result (λ p. p.1 ≡ context_of p.0.versions) }
     ensures told { OnOk result
-        (session.new ≡ with_get session.old (since_of session.old) used.now.items) }
+        (session.new ≡ with_get session.old (since_of session.old) used.items) }
     ensures err { OnErr result (session.new ≡ session.old) }
     ensures memory { IsOkUnless result Fault.OutOfMemory }
 {
@@ -42,8 +42,7 @@ fn tell_of<J: Naming>(
     Ok((row, context))
 }
 
-// Merges the rows of the first answer of each home, and tells the session of these. Where no home
-// answered twice, no answer is copied.
+// Merges the rows of the first answer of each home, and tells the session of copies of these.
 fn tell<J: Naming>(
     alloc: Global,
     gathering: &Gathering<J>,
@@ -63,12 +62,8 @@ fn tell<J: Naming>(
     ensures err { OnErr result (session.new ≡ session.old) }
     ensures memory { IsOkUnless result Fault.OutOfMemory }
 {
-    if let Some(all) = gathering.if_distinct() {
-        let told = tell_of(alloc, all, session)?;
-        return Ok(told);
-    }
     let chosen = gathering.chosen(alloc)?;
-    let told = tell_of(alloc, &chosen, session)?;
+    let told = tell_of(alloc, chosen, session)?;
     Ok(told)
 }
 

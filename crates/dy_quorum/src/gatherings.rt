@@ -1,5 +1,5 @@
 ghost use Rattle.std.specs.Prelude.{◌≡◌, ◌<◌, ◌≤◌, ◌++◌, ◌∷◌, [], length, map, take, IfOk};
-ghost use Rattle.std.specs.Prelude.{IfSome, IfNone, IsOkUnless, MatchBool};
+ghost use Rattle.std.specs.Prelude.{IsOkUnless, MatchBool};
 ghost use Rattle.std.specs.Prelude.{◌==◌};
 ghost use Rattle.std.specs.List.{list_any};
 ghost use Rattle.dy_quorum.specs.Gatherings.{answer_place, first_answers};
@@ -115,19 +115,6 @@ impl<J: Naming> Gathering<J> {
             (length (first_answers self.now.seens) < self.now.r) }
     {
         self.r <= self.places.len()
-    }
-
-    /// All answers, where each is the first of its home. Takes no memory.
-    pub fn if_distinct(&self) -> Option<&Vec<Seen<J>>>
-        ensures some { IfSome result (λ seens. (seens.now.items ≡ self.now.seens)
-            × (first_answers self.now.seens ≡ self.now.seens)) }
-        ensures none { IfNone result
-            (length (first_answers self.now.seens) < length self.now.seens) }
-    {
-        if self.places.len() < self.seens.len() {
-            return None;
-        }
-        Some(&self.seens)
     }
 
     /// Copies of the first answer of each home, in the order in which they were added.
