@@ -139,8 +139,8 @@ impl Client for Crossing {
     }
 }
 
-// Node 1 answers each of 2,000 gets of five keys about when its client begins the next one. Each get
-// is answered by two homes and gives its own key's value, and nobody waits for ever.
+// Node 1 answers each of 2,000 gets of five keys about when its client begins the next one. Two
+// homes answer each get, it gives its own key's value, and nobody waits for ever.
 #[test]
 fn no_answer_crosses_into_the_next_call(rt: HostRuntime) -> Result<(), Fail> {
     let crossing = Crossing {

@@ -5,7 +5,8 @@ use Rattle.dy_siblings.specs.Siblings.{Siblings, IsSiblingSet, own_dots}
 use Rattle.dy_core.specs.declared.steps.Step.{Step}
 use Rattle.dy_core.specs.declared.steps.Step.TheVariants.{Issue, Hold, Release, Fetch, Ack}
 use Rattle.dy_shares.specs.declared.kept_steps.KeptStep.{KeptStep}
-use Rattle.dy_shares.specs.declared.kept_steps.KeptStep.TheVariants.{Issued, Held, Released, Fetched, Acked}
+use Rattle.dy_shares.specs.declared.kept_steps.KeptStep.TheVariants.{Issued, Held, Released}
+use Rattle.dy_shares.specs.declared.kept_steps.KeptStep.TheVariants.{Fetched, Acked}
 
 -- the row is of this key, and its versions have just these dots
 pub record HasDots (row : Siblings) (key : List ℕ) (dots : DotSet) : Type 0 where
