@@ -43,6 +43,25 @@ pub none_is : {X : Type 0} (o : Option X) → is_some o ≡ false → o ≡ None
 none_is None e = refl
 none_is (Some x) e = cc
 
+-- the receipts of a hold
+pub hold_receipts : (layout : Layout) (log : List Entry) → IsLegal layout (steps_of log) →
+    (holder home : ℕ) (row : Siblings) →
+    AreMadeOf (world_after (steps_of log)) row.key row.versions →
+    IsTrue (may_hold (layout.homes row.key) holder home) → (log2 : List Entry) →
+    log2 ≡ log ++ map untold (Hold (place_for holder home) row ∷ []) → (m : ℕ) → m ≡ holder →
+    All (λ v. IsReceipt (steps_of log2) (receipt_parts row.key v.dot m home)) row.versions
+hold_receipts layout log legal holder home row of_row may log2 log_is m holder_is =
+    subst (λ (l : List Entry). All
+    (λ v. IsReceipt (steps_of l) (receipt_parts row.key v.dot m home)) row.versions)
+    (sym log_is)
+    (subst (λ o. All (λ v. IsReceipt
+    (steps_of (log ++ map untold (Hold (place_for holder home) row ∷ [])))
+    (receipt_parts row.key v.dot o home)) row.versions) (sym holder_is)
+    (all_from (λ v. IsReceipt
+    (steps_of (log ++ map untold (Hold (place_for holder home) row ∷ [])))
+    (receipt_parts row.key v.dot holder home)) row.versions (λ v inside.
+    hold_covers layout log legal holder home row of_row may v inside)))
+
 module _ (ring : Tokens) (n r : ℕ) (own : Tokens) (log : List Entry) (options : Options)
     (versions : ℕ) (es : List (List ℕ × KeyPart))
     (book : IsBook ring n r own log options versions es) where
@@ -168,20 +187,6 @@ module _ (ring : Tokens) (n r : ℕ) (own : Tokens) (log : List Entry) (options 
         key_is)
         (subst (λ (l : List Entry). IsPart (world_after (steps_of l)) row.key (Some p)) log_is here)
         book.index))
-
-    -- its receipts
-    pub hold_receipts : (log2 : List Entry) →
-        log2 ≡ log ++ map untold (Hold (place_for holder home) row ∷ []) → (m : ℕ) → m ≡ holder →
-        All (λ v. IsReceipt (steps_of log2) (receipt_parts row.key v.dot m home)) row.versions
-    hold_receipts log2 log_is m holder_is =
-        subst (λ (l : List Entry). All
-        (λ v. IsReceipt (steps_of l) (receipt_parts row.key v.dot m home)) row.versions)
-        (sym log_is)
-        (subst (λ o. All (λ v. IsReceipt
-        (steps_of (log ++ map untold (Hold (place_for holder home) row ∷ []))) (receipt_parts row.key v.dot o home)) row.versions) (sym holder_is)
-        (all_from (λ v. IsReceipt
-        (steps_of (log ++ map untold (Hold (place_for holder home) row ∷ []))) (receipt_parts row.key v.dot holder home)) row.versions (λ v inside.
-        hold_covers (layout_of ring n) log book.legal holder home row of_row may v inside)))
 
   -- after a step that changes no version and nothing that is held
   quiet_book : (w2 : World) → (log2 : List Entry) → IsLegal (layout_of ring n) (steps_of log2) →

@@ -1,5 +1,5 @@
 -- Which keys have a part of the index.
-use Rattle.std.proofs.Common.{◌≡◌, ◌≢◌, ℕ, List, [], ◌∷◌, Option, None, Some, IsSome, unwrap_or}
+use Rattle.std.proofs.Common.{◌≡◌, ℕ, List, [], ◌∷◌, Option, None, Some, unwrap_or}
 use Rattle.std.proofs.Common.{refl, sym, ap, ◌∙◌, subst}
 use Rattle.std.specs.List.{All, Contains}
 use Rattle.std.specs.List.Sorted.{IsStrictlySortedBy}
@@ -15,12 +15,11 @@ use Rattle.dy_book.specs.declared.parts.KeyPart.{KeyPart}
 use Rattle.dy_book.specs.inside.Indexes.{IsPart}
 use Rattle.dy_book.proofs.Making.{in_made, by_from}
 
--- a key of which a version was made has one
-pub part_there : (w : World) (key : List ℕ) (row : List Version) → AreMadeOf w key row →
-    row ≢ [] → (o : Option KeyPart) → IsPart w key o → IsSome o
-part_there w key row made some (Some p) part = refl
-part_there w key [] made some None part = absurd (some refl)
-part_there w key (v ∷ vs) made some None part =
+-- where nothing is known of the key, a row whose versions were made has none
+pub empty_where_unknown : (w : World) (key : List ℕ) (row : List Version) → AreMadeOf w key row →
+    IsPart w key None → row ≡ []
+empty_where_unknown w key [] made part = refl
+empty_where_unknown w key (v ∷ vs) made part =
     let m = All-contains (λ (u : Version). (u.key ≡ key) × Contains w.versions u) (v ∷ vs) v made
     (in_head v vs) in
     absurd (not_in_nil v (subst (λ xs. Contains xs v) (sym (part.made_are v.dot.node))

@@ -3,3 +3,4 @@ pub mod Indexes
 pub mod Kept
 pub mod Lists
 pub mod Pasts
+pub mod Refusals

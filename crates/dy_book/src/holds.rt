@@ -1,5 +1,5 @@
 // How the book grows by what is held.
-ghost use Rattle.std.specs.Prelude.{◌≡◌, ◌≢◌, ◌↔◌, ◌⊎◌, ◌++◌, ◌∷◌, ℕ, [], Some, map};
+ghost use Rattle.std.specs.Prelude.{◌≡◌, ◌≢◌, ◌<◌, ◌↔◌, ◌⊎◌, ◌++◌, ◌∷◌, ℕ, [], Some, map};
 ghost use Rattle.std.specs.Prelude.{IsTrue, IsSome, IfOk, IfErr, OnOk, OnErr, IsErrOf, IsOkUnless};
 ghost use Rattle.std.specs.List.{All};
 ghost use Rattle.std.specs.List.Sorted.{IsStrictlySortedBy};
@@ -18,9 +18,11 @@ ghost use Rattle.dy_book.specs.Books.{HasRoom, IsLeastNotIssued, LacksRoom, rece
 ghost use Rattle.dy_book.specs.Books.{with_untold, world_of};
 ghost use Rattle.dy_book.specs.inside.Indexes.{IsIndex, IsPart, part_at};
 ghost use Rattle.dy_book.specs.inside.Lists.{IsHeldAt};
+ghost use Rattle.dy_book.specs.inside.Refusals.{WhyNotHeld};
 
 use crate::books::Book;
 use crate::custodies::{self, Custody};
+use crate::incomings::{first_not_issued, refusal_of_unknown};
 use crate::parts::KeyPart;
 use crate::receipts::{give_receipts, more_keys};
 use dy_core::Place;
@@ -44,14 +46,23 @@ fn make_part(alloc: Global, keys: &mut BTreeMap<Key, KeyPart>, key: &Key) -> Res
     Ok(())
 }
 
-// Makes a part for the row's key, where there is none yet. Where it has a version, there is one.
-fn make_part_of(alloc: Global, keys: &mut BTreeMap<Key, KeyPart>, row: &Row) -> Result<(), Fault>
-    requires { row.now.versions ≢ [] → IsSome (part_at keys.old.entries row.now.key) }
+// Makes a part for the key of a row without a version, where there is none yet and a step is left.
+fn make_part_of(
+    alloc: Global,
+    keys: &mut BTreeMap<Key, KeyPart>,
+    row: &Row,
+    steps_left: usize,
+) -> Result<(), Fault>
     ensures same { (w : World) → IsIndex w keys.old.entries → IsIndex w keys.new.entries }
-    ensures has { OnOk result (IsSome (part_at keys.new.entries row.now.key)) }
+    ensures has { OnOk result (row.now.versions ≡ [] → 0 < steps_left →
+        IsSome (part_at keys.new.entries row.now.key)) }
+    ensures err { OnErr result ((row.now.versions ≡ []) × (0 < steps_left)) }
     ensures memory { IsOkUnless result Fault.OutOfMemory }
 {
     if !row.is_empty() {
+        return Ok(());
+    }
+    if steps_left < 1 {
         return Ok(());
     }
     make_part(alloc, keys, row.key())?;
@@ -121,7 +132,8 @@ pub(crate) fn hold_at<J: Naming>(
     Ok(())
 }
 
-// Holds the row, in the log and in the part of its key, or changes neither.
+// Holds the row in the log and in the part of its key, where each of its versions is issued and a
+// step is left, and gives its receipts; or changes nothing.
 fn hold_in<J: Naming>(
     alloc: Global,
     ledger: &mut Ledger<J>,
@@ -129,26 +141,46 @@ fn hold_in<J: Naming>(
     share: &mut NodeShare<J>,
     home: NodeId,
     row: &Row,
-    steps: &[StepRef<'_>],
-) -> Result<(), Fault>
+    steps_left: usize,
+) -> Result<Vec<Receipt<J>>, Fault>
     requires legal { IsLegal (layout_of J.ring J.n) (steps_of ledger.old.log) }
     requires part { IsPart (world_after (steps_of ledger.old.log)) row.now.key (Some part.old) }
     requires may_hold { IsTrue
         (may_hold (homes_of J.ring J.n row.now.key) share.old.node home) }
-    requires made { AreMadeOf (world_after (steps_of ledger.old.log)) row.now.key
-        row.now.versions }
-    requires steps { steps.now ≡ Hold (place_for share.old.node home) row.now ∷ [] }
-    ensures log { OnOk result (ledger.new ≡ with_entries ledger.old (map untold steps.now)) }
-    ensures share { OnOk result (share.new ≡ with_steps share.old steps.now) }
+    ensures log { OnOk result
+        (ledger.new ≡ with_entries ledger.old
+        (map untold (Hold (place_for share.old.node home) row.now ∷ []))) }
+    ensures share { OnOk result
+        (share.new ≡ with_steps share.old
+        (Hold (place_for share.old.node home) row.now ∷ [])) }
+    ensures receipts { IfOk result (λ receipts.
+        receipts.items ≡ receipts_of row.now.versions share.old.node home) }
+    ensures passed { OnOk result
+        (AreMadeOf (world_after (steps_of ledger.old.log)) row.now.key row.now.versions
+        × (0 < steps_left)) }
+    ensures refused { IfErr result (WhyNotHeld (world_after (steps_of ledger.old.log))
+        row.now.key row.now.versions (steps_left < 1)) }
     ensures err { OnErr result ((ledger.new ≡ ledger.old) × (share.new ≡ share.old)) }
-    ensures memory { IsOkUnless result Fault.OutOfMemory }
     ensures part { IsPart (world_after (steps_of ledger.new.log)) row.now.key (Some part.new) }
     ensures nodes { (node : ℕ) → node ≢ share.old.node →
         NodeStays ledger.old.log ledger.new.log node }
     ensures sessions { (session : ℕ) → SessionStays ledger.old.log ledger.new.log session }
 {
-    hold_at(alloc, ledger, &mut part.places, share, home, row, steps)?;
-    Ok(())
+    if let Some(dot) = first_not_issued(ledger, Some(part), row) {
+        return Err(Fault::NotIssued { dot });
+    }
+    if steps_left < 1 {
+        return Err(Fault::StepsFull);
+    }
+    let holder = share.node();
+    let place = Place { holder, home };
+    let steps = [StepRef::hold(place, row)];
+    let first = row.key().try_clone(alloc)?;
+    let mut keys = more_keys(alloc, row)?;
+    let mut receipts = Vec::with_capacity(alloc, row.versions().len())?;
+    hold_at(alloc, ledger, &mut part.places, share, home, row, &steps)?;
+    give_receipts(ledger, &mut receipts, first, &mut keys, row, &place);
+    Ok(receipts)
 }
 
 impl<J: Naming> Book<J> {
@@ -184,14 +216,21 @@ impl<J: Naming> Book<J> {
             NodeStays self.old.log self.new.log node }
         ensures sessions { (session : ℕ) → SessionStays self.old.log self.new.log session }
     {
-        self.agree(share);
-        if let Err(fault) = self.check_hold(incoming) {
-            return Err(fault);
+        let left = self.steps_left();
+        self.ledger.agree(share);
+        match make_part_of(self.alloc, &mut self.keys, incoming, left) {
+            Ok(()) => {}
+            Err(fault) => return Err(fault),
         }
-        match self.hold_checked(share, home, incoming) {
-            Ok(receipts) => Ok(receipts),
-            Err(fault) => Err(fault),
-        }
+        let Some(part) = self.keys.get_mut(incoming.key()) else {
+            return Err(refusal_of_unknown(&self.ledger, incoming, left));
+        };
+        let ledger = &mut self.ledger;
+        let receipts = match hold_in(self.alloc, ledger, part, share, home, incoming, left) {
+            Ok(receipts) => receipts,
+            Err(fault) => return Err(fault),
+        };
+        Ok(receipts)
     }
 
     /// Whether each version of the row is issued, and a step is left, so that a hold of it is
@@ -215,95 +254,5 @@ impl<J: Naming> Book<J> {
             return Err(Fault::StepsFull);
         }
         Ok(())
-    }
-
-    /// The hold of a row that was checked (`check_hold`), which is refused for memory alone.
-    pub fn hold_checked(
-        &mut self,
-        share: &mut NodeShare<J>,
-        home: NodeId,
-        incoming: &Row,
-    ) -> Result<Vec<Receipt<J>>, Fault>
-        requires may_hold { IsTrue
-            (may_hold (homes_of J.ring J.n incoming.now.key) share.old.node home) }
-        requires made { AreMadeOf (world_of self.old) incoming.now.key incoming.now.versions }
-        requires room { HasRoom self.old 1 }
-        ensures log { OnOk result
-            (self.new ≡ with_untold self.old
-            (Hold (place_for share.old.node home) incoming.now ∷ [])) }
-        ensures share { OnOk result
-            (share.new ≡ with_steps share.old
-            (Hold (place_for share.old.node home) incoming.now ∷ [])) }
-        ensures receipts { IfOk result (λ receipts.
-            receipts.items ≡ receipts_of incoming.now.versions share.old.node home) }
-        ensures memory { IsOkUnless result Fault.OutOfMemory }
-        ensures err { OnErr result ((self.new ≡ self.old) × (share.new ≡ share.old)) }
-        ensures nodes { (node : ℕ) → node ≢ share.old.node →
-            NodeStays self.old.log self.new.log node }
-        ensures sessions { (session : ℕ) → SessionStays self.old.log self.new.log session }
-    {
-        let holder = share.node();
-        match self.hold_made(share, holder, home, incoming) {
-            Ok(receipts) => Ok(receipts),
-            Err(fault) => Err(fault),
-        }
-    }
-
-    // The same by the holder's number.
-    fn hold_made(
-        &mut self,
-        share: &mut NodeShare<J>,
-        holder: NodeId,
-        home: NodeId,
-        incoming: &Row,
-    ) -> Result<Vec<Receipt<J>>, Fault>
-        requires holder { holder ≡ share.old.node }
-        requires may_hold { IsTrue
-            (may_hold (homes_of J.ring J.n incoming.now.key) share.old.node home) }
-        requires made { AreMadeOf (world_of self.old) incoming.now.key incoming.now.versions }
-        requires room { HasRoom self.old 1 }
-        ensures log { OnOk result
-            (self.new ≡ with_untold self.old
-            (Hold (place_for share.old.node home) incoming.now ∷ [])) }
-        ensures share { OnOk result
-            (share.new ≡ with_steps share.old
-            (Hold (place_for share.old.node home) incoming.now ∷ [])) }
-        ensures receipts { IfOk result (λ receipts.
-            receipts.items ≡ receipts_of incoming.now.versions share.old.node home) }
-        ensures memory { IsOkUnless result Fault.OutOfMemory }
-        ensures err { OnErr result ((self.new ≡ self.old) × (share.new ≡ share.old)) }
-        ensures nodes { (node : ℕ) → node ≢ share.old.node →
-            NodeStays self.old.log self.new.log node }
-        ensures sessions { (session : ℕ) → SessionStays self.old.log self.new.log session }
-    {
-        let place = Place { holder, home };
-        let steps = [StepRef::hold(place, incoming)];
-        let first = incoming.key().try_clone(self.alloc)?;
-        let mut keys = more_keys(self.alloc, incoming)?;
-        let mut receipts = Vec::with_capacity(self.alloc, incoming.versions().len())?;
-        make_part_of(self.alloc, &mut self.keys, incoming)?;
-        match self.keys.get_mut(incoming.key()) {
-            Some(part) => {
-                hold_in(
-                    self.alloc,
-                    &mut self.ledger,
-                    part,
-                    share,
-                    home,
-                    incoming,
-                    &steps,
-                )?;
-            }
-            None => unreachable!(),
-        }
-        give_receipts(
-            &self.ledger,
-            &mut receipts,
-            first,
-            &mut keys,
-            incoming,
-            &place,
-        );
-        Ok(receipts)
     }
 }

@@ -1,44 +1,91 @@
 // Which of the versions that come are issued.
-ghost use Rattle.std.specs.Prelude.{◌↔◌, IsTrue, MatchOption};
+ghost use Rattle.std.specs.Prelude.{◌≡◌, ◌<◌, ◌↔◌, [], IsTrue, MatchOption, None};
 ghost use Rattle.std.specs.List.{Contains};
 ghost use Rattle.std.specs.Option.{option_copied};
-ghost use Rattle.dy_core.specs.Worlds.{AreMadeOf};
+ghost use Rattle.dy_core.specs.Worlds.{AreMadeOf, layout_of};
+ghost use Rattle.dy_core.specs.Logs.{IsLegal, world_after};
+ghost use Rattle.dy_shares.specs.Shares.{steps_of};
 ghost use Rattle.dy_book.specs.Books.{IsLeastNotIssued, world_of};
 ghost use Rattle.dy_book.specs.inside.Indexes.{IsPart};
+ghost use Rattle.dy_book.specs.inside.Refusals.{WhyNotHeld};
 
 use crate::books::Book;
 use crate::parts::KeyPart;
-use dy_dots::Dot;
-use dy_shares::Naming;
+use dy_dots::{Dot, Fault};
+use dy_shares::{Ledger, Naming};
 use dy_siblings::{Row, Version};
 
-impl<J: Naming> Book<J> {
-    // Whether the version is the issued one of its key and dot, where this is what is known of the
-    // key.
-    fn is_issued_as(&self, part: Option<&KeyPart>, version: &Version) -> bool
-        requires { IsPart (world_of self.now) version.now.key (option_copied part) }
-        ensures { IsTrue result ↔ Contains (world_of self.now).versions version.now }
-    {
-        let _alloc = &self.alloc;
-        match self.version_in(part, version.dot()) {
-            Some(issued) => issued.is_same(version),
-            None => false,
+// Whether the version is the issued one of its key and dot, where this is what is known of the
+// key.
+fn is_issued_as<J: Naming>(ledger: &Ledger<J>, part: Option<&KeyPart>, version: &Version) -> bool
+    requires legal { IsLegal (layout_of J.ring J.n) (steps_of ledger.now.log) }
+    requires part { IsPart (world_after (steps_of ledger.now.log)) version.now.key
+        (option_copied part) }
+    ensures { IsTrue result ↔
+        Contains (world_after (steps_of ledger.now.log)).versions version.now }
+{
+    let _ledger = ledger;
+    let dot = version.dot();
+    let _counter = dot.counter();
+    let Some(part) = part else {
+        return false;
+    };
+    match part.version(dot) {
+        Some(issued) => issued.is_same(version),
+        None => false,
+    }
+}
+
+// The least dot of the row's versions that aren't issued as they are, where this is what is known
+// of its key.
+pub(crate) fn first_not_issued<J: Naming>(
+    ledger: &Ledger<J>,
+    part: Option<&KeyPart>,
+    row: &Row,
+) -> Option<Dot>
+    requires legal { IsLegal (layout_of J.ring J.n) (steps_of ledger.now.log) }
+    requires part { IsPart (world_after (steps_of ledger.now.log)) row.now.key
+        (option_copied part) }
+    ensures { MatchOption result
+        (AreMadeOf (world_after (steps_of ledger.now.log)) row.now.key row.now.versions)
+        (IsLeastNotIssued (world_after (steps_of ledger.now.log)).versions row.now.versions) }
+{
+    let versions = row.versions();
+    for version in versions {
+        if !is_issued_as(ledger, part, version) {
+            return Some(version.dot());
         }
     }
+    None
+}
 
+// Why the row is not held, where nothing is known of its key: the first of its versions is not
+// issued, or it has none, and no step is left.
+pub(crate) fn refusal_of_unknown<J: Naming>(
+    ledger: &Ledger<J>,
+    row: &Row,
+    steps_left: usize,
+) -> Fault
+    requires legal { IsLegal (layout_of J.ring J.n) (steps_of ledger.now.log) }
+    requires part { IsPart (world_after (steps_of ledger.now.log)) row.now.key None }
+    requires empty { row.now.versions ≡ [] → steps_left < 1 }
+    ensures { WhyNotHeld (world_after (steps_of ledger.now.log)) row.now.key row.now.versions
+        (steps_left < 1) result }
+{
+    let _left = steps_left;
+    match first_not_issued(ledger, None, row) {
+        Some(dot) => Fault::NotIssued { dot },
+        None => Fault::StepsFull,
+    }
+}
+
+impl<J: Naming> Book<J> {
     // The least dot of the row's versions that aren't issued as they are.
     pub(crate) fn first_not_issued(&self, row: &Row) -> Option<Dot>
         ensures { MatchOption result
             (AreMadeOf (world_of self.now) row.now.key row.now.versions)
             (IsLeastNotIssued (world_of self.now).versions row.now.versions) }
     {
-        let versions = row.versions();
-        let part = self.part(row.key());
-        for version in versions {
-            if !self.is_issued_as(part, version) {
-                return Some(version.dot());
-            }
-        }
-        None
+        first_not_issued(&self.ledger, self.part(row.key()), row)
     }
 }

@@ -96,11 +96,19 @@ past_memory told f cause apart both = (
 
 -- ---- a hold
 
-pub hold_memory : (b : BookParts) (row : Siblings) → HoldRefused b row (Some OutOfMemory)
-hold_memory b row =
+-- what was checked lacks memory alone
+pub hold_memory : (b : BookParts) (row : Siblings) → AreMadeOf (world_of b) row.key row.versions →
+    HasRoom b 1 → HoldRefused b row (Some OutOfMemory)
+hold_memory b row made room =
     record {
-      not_issued = λ d. ((λ is. absurd (memory_not_named d is)), (λ there. absurd (there.0 refl)));
-      steps_full = ((λ is. absurd (memory_not_full is)), (λ there. absurd (there.0 refl)));
+      not_issued = λ d. (
+        (λ is. absurd (memory_not_named d is)),
+        (λ least. absurd (none_least (world_of b) row.key row.versions d made least)),
+      );
+      steps_full = (
+        (λ is. absurd (memory_not_full is)),
+        (λ lacks. absurd (omega (arith, lacks.1, room))),
+      );
       only = λ f is. inr (inr (sym (some_is OutOfMemory f is)));
     }
 
@@ -112,14 +120,10 @@ hold_told : {X : Type 0} (b : BookParts) (row : Siblings) (r : Result X Fault) �
     HoldRefused b row (result_err r)
 hold_told b row r not_issued full only =
     record {
-      not_issued = λ d. past_memory (result_err r) (NotIssued d)
-          (IsLeastNotIssued (world_of b).versions row.versions d)
-          (memory_not_named d) (same_cause r (NotIssued d)
-          (IsLeastNotIssued (world_of b).versions row.versions d) (not_issued d));
-      steps_full = past_memory (result_err r) StepsFull
-          (AreMadeOf (world_of b) row.key row.versions × LacksRoom b 1)
-          memory_not_full (same_cause r StepsFull
-          (AreMadeOf (world_of b) row.key row.versions × LacksRoom b 1) full);
+      not_issued = λ d. same_cause r (NotIssued d)
+          (IsLeastNotIssued (world_of b).versions row.versions d) (not_issued d);
+      steps_full = same_cause r StepsFull
+          (AreMadeOf (world_of b) row.key row.versions × LacksRoom b 1) full;
       only = λ f is. only f (told_from r f is);
     }
 
@@ -138,16 +142,6 @@ pub hold_done : {X : Type 0} (b : BookParts) (row : Siblings) (x : X) →
     HoldRefused b row None
 hold_done b row x not_issued full = hold_told b row (Ok x) not_issued full
     (λ f is. absurd (no_error x f is))
-
--- what was checked is refused for memory alone
-pub hold_passed : (b : BookParts) (row : Siblings) → AreMadeOf (world_of b) row.key row.versions →
-    HasRoom b 1 → HoldRefused b row None
-hold_passed b row made room = hold_done {X = Unit {0}} b row tt
-    (λ d. (
-      (λ e. absurd (no_error tt (NotIssued d) e)),
-      (λ least. absurd (none_least (world_of b) row.key row.versions d made least)),
-    ))
-    ((λ e. absurd (no_error tt StepsFull e)), (λ lacks. absurd (omega (arith, lacks.1, room))))
 
 -- the row was refused
 pub hold_by : {X : Type 0} (b : BookParts) (row : Siblings) (e : Fault) →

@@ -1,5 +1,4 @@
--- When a node refuses, and what: each by the refusal that a call answers, if any. Want of memory
--- may come before what the book would refuse.
+-- When a node refuses, and what: each by the refusal that a call answers, if any.
 use Rattle.std.specs.Prelude.{◌≡◌, ℕ, ◌⊎◌, ◌↔◌, true, false, Option, Some, List}
 use Rattle.dy_dots.specs.Dots.{DotSet}
 use Rattle.dy_dots.specs.declared.dots.Dot.{Dot}
@@ -15,14 +14,12 @@ use Rattle.dy_book.specs.Books.{BookParts, HasVersionsLeft, IsLeastNotIssued, La
 use Rattle.dy_node.specs.Nodes.{NodeState, HasCounterLeft, LacksCounter}
 
 -- when a row is not held: for its least dot that is not of the issued version, and else where no
--- step is left
+-- step is left; want of memory hides neither
 pub record HoldRefused (b : BookParts) (row : Siblings) (told : Option Fault) : Type 0 where
   pub not_issued : (d : Dot) → (told ≡ Some (NotIssued d))
-      ↔ (¬ (told ≡ Some OutOfMemory)
-      × IsLeastNotIssued (world_of b).versions row.versions d)
+      ↔ IsLeastNotIssued (world_of b).versions row.versions d
   pub steps_full : (told ≡ Some StepsFull)
-      ↔ (¬ (told ≡ Some OutOfMemory)
-      × (AreMadeOf (world_of b) row.key row.versions × LacksRoom b 1))
+      ↔ (AreMadeOf (world_of b) row.key row.versions × LacksRoom b 1)
   pub only : (f : Fault) → told ≡ Some f →
       ((d : Dot) × (f ≡ NotIssued d)) ⊎ ((f ≡ StepsFull) ⊎ (f ≡ OutOfMemory))
 

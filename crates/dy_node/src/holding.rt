@@ -46,7 +46,7 @@ pub(crate) fn hold_row<J: Naming>(
         Ok(placed) => placed,
         Err(_fault) => return Err(Fault::OutOfMemory),
     };
-    match book.hold_checked(share, home, row) {
+    match book.hold(share, home, row) {
         Ok(receipts) => {
             book.agree(share);
             Ok(receipts)
@@ -60,8 +60,8 @@ pub(crate) fn hold_row<J: Naming>(
 
 impl<J: Naming> Node<J> {
     /// Holds the row for the home, merged into what is kept there, and gives a receipt for each of
-    /// its versions. A refusal for want of memory may come before the others. A row that is kept
-    /// as it is costs the node no more than the comparison.
+    /// its versions. The book is asked before any growth. A row that is kept as it is costs the
+    /// node no more than the comparison.
     pub fn store(
         &mut self,
         book: &mut Book<J>,

@@ -5,7 +5,8 @@ use Rattle.dy_core.specs.Worlds.{layout_of}
 use Rattle.dy_node.specs.Stored.{Shows}
 use Rattle.dy_node.specs.Refusals.{HoldRefused}
 use Rattle.dy_node.specs.inside.Placing.{taken_back}
-use Rattle.dy_node.proofs.Causes.{hold_by, hold_memory, hold_passed}
+use Rattle.dy_dots.specs.declared.faults.Fault.TheVariants.{OutOfMemory}
+use Rattle.dy_node.proofs.Causes.{hold_by, hold_done, hold_memory}
 use Rattle.dy_node.proofs.Kept.{agreed_on, hold_shows, kept_agrees}
 use Rattle.dy_node.proofs.holding.hold_row.Goals as goal
 
@@ -22,35 +23,35 @@ add-requires g c =
     c.args.home c.args.row.now c.in-Ok.ensures.ok.0
 
 -- what was added is held
-pub returns-in-Ok-hold_checked-clause-shown : goal.returns-in-Ok-hold_checked-clause-shown
-returns-in-Ok-hold_checked-clause-shown g c =
+pub returns-in-Ok-hold-clause-shown : goal.returns-in-Ok-hold-clause-shown
+returns-in-Ok-hold-clause-shown g c =
     let layout = layout_of g.J.Naming.ring g.J.Naming.n in
     let same = c.agree.ensures.book in
     let share = c.agree.ensures.share in
-    subst (λ q. Shows q c.add.new.self) (sym c.agree-in-Ok-hold_checked.ensures.share)
-    (hold_shows layout c.agree.new.self c.hold_checked.new.self c.agree.new.share c.hold_checked.new.share
+    subst (λ q. Shows q c.add.new.self) (sym c.agree-in-Ok-hold.ensures.share)
+    (hold_shows layout c.agree.new.self c.hold.new.self c.agree.new.share c.hold.new.share
     c.args.stores.now c.add.new.self c.args.home c.args.row.now c.in-Ok-add.placed
     (agreed_on layout c.args.book.now c.agree.new.self c.args.share.now c.agree.new.share same share
     (record { belongs = c.agree.ensures.belongs; legal = c.agree.ensures.legal }))
     (record {
-      belongs = c.agree-in-Ok-hold_checked.ensures.belongs;
-      legal = c.agree-in-Ok-hold_checked.ensures.legal;
+      belongs = c.agree-in-Ok-hold.ensures.belongs;
+      legal = c.agree-in-Ok-hold.ensures.legal;
     })
     (subst (λ q. Shows q c.args.stores.now) (sym share) c.requires.shown)
-    c.in-Ok-hold_checked.ensures.log c.in-Ok-hold_checked.ensures.share c.in-Ok-add.ensures.counters
+    c.in-Ok-hold.ensures.log c.in-Ok-hold.ensures.share c.in-Ok-add.ensures.counters
     c.in-Ok-add.ensures.added)
 
 -- what was put is taken back
-pub returns-in-Err-hold_checked-clause-shown : goal.returns-in-Err-hold_checked-clause-shown
-returns-in-Err-hold_checked-clause-shown g c =
+pub returns-in-Err-hold-clause-shown : goal.returns-in-Err-hold-clause-shown
+returns-in-Err-hold-clause-shown g c =
     let rooms = ap (λ k. taken_back c.add.new.self.rooms c.args.home k c.in-Ok-add.placed) c.key.ensures
     ∙ c.in-Ok-add.ensures.added.back in
     let back : c.take_back.new.self ≡ c.args.stores.now =
     c.take_back.ensures ∙ (λ i. record { rooms = rooms i; counters = c.in-Ok-add.ensures.counters i })
     in
-    subst (Shows c.hold_checked.new.share) (sym back)
+    subst (Shows c.hold.new.share) (sym back)
     (subst (λ q. Shows q c.args.stores.now)
-    (sym (c.in-Err-hold_checked.ensures.err.1 ∙ c.agree.ensures.share)) c.requires.shown)
+    (sym (c.in-Err-hold.ensures.err.1 ∙ c.agree.ensures.share)) c.requires.shown)
 
 -- the check refused it
 pub returns-in-Err-clause-refused : goal.returns-in-Err-clause-refused
@@ -59,12 +60,21 @@ returns-in-Err-clause-refused g c =
     (hold_by c.agree.new.self c.args.row.now c.in-Err.fault c.in-Err.ensures.not_issued
     c.in-Err.ensures.steps_full (⊎_elim (λ named. inl named) (λ full. inr (inl full)) c.in-Err.ensures.only))
 
--- memory was refused
+-- the node lacked memory, or the book did
 pub returns-in-Err-add-clause-refused : goal.returns-in-Err-add-clause-refused
-returns-in-Err-add-clause-refused g c = hold_memory c.args.book.now c.args.row.now
+returns-in-Err-add-clause-refused g c =
+    subst (λ b. HoldRefused b c.args.row.now (Some OutOfMemory)) c.agree.ensures.book
+    (hold_memory c.agree.new.self c.args.row.now c.in-Ok.ensures.ok.0 c.in-Ok.ensures.ok.1)
 
--- the book is the one that was lent
-pub returns-in-Ok-hold_checked-clause-refused : goal.returns-in-Ok-hold_checked-clause-refused
-returns-in-Ok-hold_checked-clause-refused g c =
+pub returns-in-Err-hold-clause-refused : goal.returns-in-Err-hold-clause-refused
+returns-in-Err-hold-clause-refused g c =
+    subst (λ b. HoldRefused b c.args.row.now (Some c.in-Err-hold.fault)) c.agree.ensures.book
+    (hold_by c.agree.new.self c.args.row.now c.in-Err-hold.fault c.in-Err-hold.ensures.not_issued
+    c.in-Err-hold.ensures.steps_full c.in-Err-hold.ensures.only)
+
+-- the row is held
+pub returns-in-Ok-hold-clause-refused : goal.returns-in-Ok-hold-clause-refused
+returns-in-Ok-hold-clause-refused g c =
     subst (λ b. HoldRefused b c.args.row.now None) c.agree.ensures.book
-    (hold_passed c.agree.new.self c.args.row.now c.in-Ok.ensures.ok.0 c.in-Ok.ensures.ok.1)
+    (hold_done c.agree.new.self c.args.row.now c.in-Ok-hold.receipts
+    c.in-Ok-hold.ensures.not_issued c.in-Ok-hold.ensures.steps_full)

@@ -1,64 +1,23 @@
-use Rattle.std.proofs.Common.{◌≡◌, List, sym, ◌∙◌, subst}
-use Rattle.std.specs.List.{All, Contains}
+-- The part of the key is what the index has of it.
+use Rattle.std.proofs.Common.{MatchOption, sym, subst}
 use Rattle.std.specs.Option.{option_copied}
-use Rattle.std.proofs.lemmas.Bool.{true≢false}
-use Rattle.std.proofs.lemmas.List.{take_all}
-use Rattle.std.proofs.lemmas.List.Elements.{All-contains}
-use Rattle.dy_siblings.specs.Siblings.{Rise}
-use Rattle.dy_siblings.specs.declared.versions.Version.{Version}
 use Rattle.dy_core.specs.Worlds.{AreMadeOf}
-use Rattle.dy_book.specs.Books.{IsLeastNotIssued, world_of}
+use Rattle.dy_book.specs.Books.{BookParts, IsLeastNotIssued, world_of}
 use Rattle.dy_book.specs.inside.Indexes.{IsPart}
-use Rattle.dy_book.proofs.Incoming.{least_is, issued_more}
 use Rattle.dy_book.proofs.books.Book.first_not_issued.Goals as goal
 
-pub returns-then-not-is_issued_as : goal.returns-then-not-is_issued_as
-returns-then-not-is_issued_as g c =
-    let vs = c.versions-versions.result.now in
-    let rise = subst Rise
-    (sym c.versions-versions.ensures.value) c.versions-versions.ensures.valid.rise in
-    subst (λ us. IsLeastNotIssued (world_of c.args.self.now).versions us c.dot.result)
-    c.versions-versions.ensures.value
-    (least_is (world_of c.args.self.now).versions vs c.args.row.now.key rise
-    c.loop-version.version-index c.version-item.result c.loop-version-test.true
-    c.version-item.is
-    c.loop-version.invariant
-    (λ inside. true≢false (sym (c.is_issued_as.ensures.1 inside) ∙ c.if-not-is_issued_as.true))
-    c.dot.result c.dot.ensures.value)
-
-pub is_issued_as-requires : goal.is_issued_as-requires
-is_issued_as-requires g c =
-    let vs = c.versions-versions.result.now in
-    let k = c.args.row.now.key in
-    let v = c.version-item.result in
-    let of_row : All (λ (u : Version). u.key ≡ k) vs =
-    subst (λ (us : List Version). All (λ u. u.key ≡ k) us)
-    (sym c.versions-versions.ensures.value) c.versions-versions.ensures.valid.of_key in
-    let own_key : v.key ≡ k =
-    All-contains (λ (u : Version). u.key ≡ k) vs v of_row
-    (c.loop-version.version-index, c.loop-version-test.true, sym c.version-item.is) in
-    subst (λ j. IsPart (world_of c.args.self.now) j (option_copied c.part-part.result))
-    (c.key.ensures ∙ sym own_key) c.part-part.ensures
-
-pub loop-version-preserved : goal.loop-version-preserved
-loop-version-preserved g c =
-    let vs = c.versions-versions.result.now in
-    let k = c.args.row.now.key in
-    let v = c.version-item.result in
-    let of_row : All (λ (u : Version). u.key ≡ k) vs =
-    subst (λ (us : List Version). All (λ u. u.key ≡ k) us)
-    (sym c.versions-versions.ensures.value) c.versions-versions.ensures.valid.of_key in
-    let own_key : v.key ≡ k =
-    All-contains (λ (u : Version). u.key ≡ k) vs v of_row
-    (c.loop-version.version-index, c.loop-version-test.true, sym c.version-item.is) in
-    issued_more (λ u. (u.key ≡ k) × Contains (world_of c.args.self.now).versions u) vs
-    c.loop-version.version-index v c.loop-version-test.true c.version-item.is
-    c.loop-version.invariant (own_key, c.is_issued_as.ensures.0 c.if-not-is_issued_as.false)
+pub first_not_issued-requires-clause-part : goal.first_not_issued-requires-clause-part
+first_not_issued-requires-clause-part g c =
+    let row = c.args.row.now in
+    subst (λ (b : BookParts). IsPart (world_of b) row.key (option_copied c.part.result))
+    (sym c.self.view_is)
+    (subst (λ k. IsPart (world_of c.args.self.now) k (option_copied c.part.result)) c.key.ensures
+    c.part.ensures)
 
 pub returns : goal.returns
 returns g c =
-    subst (AreMadeOf (world_of c.args.self.now) c.args.row.now.key)
-    c.versions-versions.ensures.value
-    (subst (AreMadeOf (world_of c.args.self.now) c.args.row.now.key)
-    (take_all c.loop-version.version-index c.versions-versions.result.now
-    c.loop-version-test.false) c.loop-version.invariant)
+    let row = c.args.row.now in
+    subst (λ (b : BookParts). MatchOption c.first_not_issued.result
+    (AreMadeOf (world_of b) row.key row.versions)
+    (IsLeastNotIssued (world_of b).versions row.versions))
+    c.self.view_is c.first_not_issued.ensures
