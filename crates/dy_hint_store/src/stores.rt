@@ -1,6 +1,6 @@
-ghost use Rattle.std.specs.Prelude.{◌≡◌, ◌<◌, ◌-◌, ◌^◌, ◌++◌, None, Some, length, map, min};
+ghost use Rattle.std.specs.Prelude.{◌≡◌, ◌<◌, ◌-◌, ◌^◌, ◌++◌, [], None, Some, length, map, min};
 ghost use Rattle.std.specs.Prelude.{IsSome, IfSome, IfOk};
-ghost use Rattle.std.specs.Prelude.{OnErr, IsOk, IsOkUnless};
+ghost use Rattle.std.specs.Prelude.{OnErr, OnOk, IsOk, IsOkUnless};
 ghost use Rattle.std.specs.Option.{option_copied};
 ghost use Rattle.std.specs.FinMap as maps;
 ghost use Rattle.std.specs.List.{All};
@@ -75,6 +75,26 @@ impl HintStore {
             Some(rows) => rows.row(key),
             None => None,
         }
+    }
+
+    /// Puts the row in the place of its key's for the home, or where it has no version, leaves the
+    /// key without a row for the home.
+    pub fn put_row(&mut self, home: NodeId, row: Row) -> Result<(), Fault>
+        ensures ok { OnOk result
+            (self.new ≡ with_versions_for self.old home row.key row.versions) }
+        ensures err { OnErr result (self.new ≡ self.old) }
+        ensures spared { IsSome (maps.get self.old (home, row.key)) → IsOk result }
+        ensures emptied { row.versions ≡ [] → IsOk result }
+        ensures memory { IsOkUnless result Fault.OutOfMemory }
+    {
+        if row.is_empty() {
+            let _before = self.remove_row(home, row.key());
+            return Ok(());
+        }
+        let at = home.number() as usize;
+        homes::make_room(self.alloc, &mut self.homes, at)?;
+        self.homes[at].put_row(row)?;
+        Ok(())
     }
 
     /// Merges the row into what is kept of its key for the home, in the place of that, and tells

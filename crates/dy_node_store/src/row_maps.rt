@@ -1,4 +1,4 @@
-ghost use Rattle.std.specs.Prelude.{◌≡◌, ◌≢◌, ◌<◌, ◌++◌, None, Some, length, map, IsSome, IfSome};
+ghost use Rattle.std.specs.Prelude.{◌≡◌, ◌≢◌, ◌<◌, ◌++◌, [], None, Some, length, map, IsSome, IfSome};
 ghost use Rattle.std.specs.Prelude.{IfOk, OnOk, OnErr, IsOk, IsOkUnless};
 ghost use Rattle.std.specs.Option.{option_copied};
 ghost use Rattle.std.specs.FinMap as maps;
@@ -73,6 +73,27 @@ impl RowMap {
     {
         let key = row.key().try_clone(self.alloc)?;
         self.rows.insert(key, row)?;
+        Ok(())
+    }
+
+    /// Puts the row in the place of its key's, or where it has no version, leaves the key without a
+    /// row.
+    pub fn put_row(&mut self, row: Row) -> Result<(), Fault>
+        ensures ok { OnOk result (self.new ≡ with_versions self.old row.key row.versions) }
+        ensures err { OnErr result (self.new ≡ self.old) }
+        ensures spared { IsSome (maps.get self.old row.key) → IsOk result }
+        ensures emptied { row.versions ≡ [] → IsOk result }
+        ensures memory { IsOkUnless result Fault.OutOfMemory }
+    {
+        if row.is_empty() {
+            let _before = self.remove_row(row.key());
+            return Ok(());
+        }
+        if self.rows.contains_key(row.key()) {
+            let _before = self.replace_row(row);
+            return Ok(());
+        }
+        self.put_new(row)?;
         Ok(())
     }
 

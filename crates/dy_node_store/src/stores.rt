@@ -1,4 +1,4 @@
-ghost use Rattle.std.specs.Prelude.{◌≡◌, ◌<◌, ◌≤◌, ◌+◌, ◌++◌, ℕ, List, None, Some, length, map};
+ghost use Rattle.std.specs.Prelude.{◌≡◌, ◌<◌, ◌≤◌, ◌+◌, ◌++◌, ℕ, List, [], None, Some, length, map};
 ghost use Rattle.std.specs.Prelude.{IsSome, IfSome, IfOk, IfErr, OnOk, OnErr, IsOk, IsOkUnless};
 ghost use Rattle.std.specs.Option.{option_copied};
 ghost use Rattle.std.specs.Result.{OkIff};
@@ -57,6 +57,20 @@ impl NodeStore {
         ensures valid { IfSome result (λ row. IsRowOf key.now row.now) }
     {
         self.rows.row(key)
+    }
+
+    /// Puts the row in the place of its key's, or where it has no version, leaves the key without a
+    /// row. Takes memory only where the key had none.
+    pub fn put_row(&mut self, row: Row) -> Result<(), Fault>
+        ensures ok { OnOk result (self.new ≡
+            record self.old { rows = with_versions self.old.rows row.key row.versions }) }
+        ensures err { OnErr result (self.new ≡ self.old) }
+        ensures spared { IsSome (maps.get self.old.rows row.key) → IsOk result }
+        ensures emptied { row.versions ≡ [] → IsOk result }
+        ensures memory { IsOkUnless result Fault.OutOfMemory }
+    {
+        self.rows.put_row(row)?;
+        Ok(())
     }
 
     /// Merges the row into what is kept of its key, in the place of that, and tells what was there.
