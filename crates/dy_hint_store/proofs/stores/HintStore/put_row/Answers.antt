@@ -17,7 +17,7 @@ refused (Err e) p = p
 -- the row has no version
 pub returns-then-is_empty-clause-ok : goal.returns-then-is_empty-clause-ok
 returns-then-is_empty-clause-ok c =
-    c.remove_row-_before.ensures.hints
+    c.remove_row-before.ensures.hints
     ∙ ap (λ k. maps.remove c.args.self.now (c.args.home, k)) c.key.ensures
     ∙ sym (ap (with_versions_for c.args.self.now c.args.home c.args.row.key)
     (c.is_empty.ensures.0 c.if-is_empty.true))
