@@ -1,11 +1,13 @@
 // Refuses one allocation of a program: the one of the number in REFUSED, counted from 1. How many
 // there were stands in the file in COUNTED, of eight bytes, whichever way the program ends.
+// The thread of the number in UNMADE can't be made, counted from 1.
 // Of files READABLE bytes are read, and then reading fails by the error in ERROR; to the output
 // WRITABLE bytes are written, and then writing does.
 #define _GNU_SOURCE
 #include <dlfcn.h>
 #include <errno.h>
 #include <fcntl.h>
+#include <pthread.h>
 #include <stdatomic.h>
 #include <stdlib.h>
 #include <sys/mman.h>
@@ -13,7 +15,8 @@
 
 static atomic_long own;
 static atomic_long *made = &own;
-static long refused, readable, writable, error;
+static atomic_long threads;
+static long refused, unmade, readable, writable, error;
 
 static long number_in(const char *name, long none) {
     const char *number = getenv(name);
@@ -25,6 +28,7 @@ __attribute__((constructor)) static void begin(void) {
     int file = path ? open(path, O_RDWR) : -1;
     if (file >= 0) made = mmap(NULL, sizeof own, PROT_READ | PROT_WRITE, MAP_SHARED, file, 0);
     refused = number_in("REFUSED", 0);
+    unmade = number_in("UNMADE", 0);
     readable = number_in("READABLE", -1);
     writable = number_in("WRITABLE", -1);
     error = number_in("ERROR", EIO);
@@ -50,6 +54,12 @@ void *aligned_alloc(size_t alignment, size_t size) {
     static void *(*real)(size_t, size_t);
     if (!real) real = dlsym(RTLD_NEXT, "aligned_alloc");
     return is_refused() ? NULL : real(alignment, size);
+}
+
+int pthread_create(pthread_t *to, const pthread_attr_t *how, void *(*of)(void *), void *with) {
+    static int (*real)(pthread_t *, const pthread_attr_t *, void *(*)(void *), void *);
+    if (!real) real = dlsym(RTLD_NEXT, "pthread_create");
+    return atomic_fetch_add(&threads, 1) + 1 == unmade ? EAGAIN : real(to, how, of, with);
 }
 
 // How much of so many bytes may pass, of what is left; below 0 all may.
