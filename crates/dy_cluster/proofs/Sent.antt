@@ -1,9 +1,8 @@
--- A client's session, with its post, may go to another thread.
+-- A client's session may go to another thread, in its seat.
 use denote.RattleType.{RattleType}
 use denote.Param.Send.{IsSend, sendable}
 use Rattle.dy_shares.specs.declared.names.Naming.{Ghosts}
 use Rattle.dy_shares.proofs.Sent.{session_share_goes}
-use Rattle.dy_mailboxes.proofs.posts.Post.TheSendSync as post
 use Rattle.dy_cluster.specs.contracts.seats.Seat as Seat
 use Rattle.dy_cluster.specs.declared.seats.Telling.{Ghosts as Tells}
 
@@ -11,5 +10,4 @@ pub seat_goes : (J T : RattleType) (name : Ghosts J.Denot) (tells : Tells T.Deno
     IsSend T → IsSend (Seat.the_row J T name tells)
 seat_goes J T name tells goes =
     let share = session_share_goes J name in
-    let ends = post.the_send J name in
     search sendable depth 20

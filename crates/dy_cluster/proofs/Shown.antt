@@ -1,18 +1,9 @@
 -- What is shown of a node.
-use Rattle.std.proofs.Common.{◌≡◌, ◌<◌, ◌∙◌, ℕ, List, [], length, sym, subst, arith}
+use Rattle.std.proofs.Common.{◌≡◌, ◌<◌, ◌∙◌, ℕ, List, length, sym, subst}
 use Rattle.std.specs.List.{All}
 use Rattle.dy_siblings.specs.Siblings.{Siblings}
-use Rattle.dy_node.proofs.Kept.{nothing_kept}
-use Rattle.dy_node.specs.Stored.{Rooms, empty_rooms, kept_rows}
+use Rattle.dy_node.specs.Stored.{Rooms, kept_rows}
 use Rattle.dy_cluster.specs.Shows.{IsShow}
-
--- nothing is shown of a node that keeps nothing
-pub nothing_shown : (key : List ℕ) → IsShow key []
-nothing_shown key = record {
-  kept = empty_rooms 0;
-  rows_are = sym (nothing_kept 0 key);
-  of_key = λ k d h. absurd (omega (arith, h));
-}
 
 -- copies of all that a node keeps of the key are shown
 pub all_shown : (kept : Rooms) (key : List ℕ) (rows copies : List (ℕ × Siblings)) →

@@ -1,5 +1,5 @@
--- The name of a book.
-use Rattle.std.specs.Prelude.{◌≡◌, ℕ}
+-- The name of a book, and the nodes of its ring.
+use Rattle.std.specs.Prelude.{◌≡◌, ◌<◌, ℕ}
 use Rattle.logbook.specs.Pages.{Book}
 use Rattle.atomic_table.specs.Seated.{TableId}
 use Rattle.dy_ring.specs.Rings.{Tokens}
@@ -10,3 +10,7 @@ abbrev pub NamesBook : Book → TableId → Tokens → ℕ → ℕ → Opened �
 NamesBook book table ring n r o =
     (o.blank ≡ record { book = book; table = table }) × (o.ring ≡ ring)
     × (o.options.n ≡ n) × (o.options.r ≡ r)
+
+-- the ring has the node of this number
+abbrev pub IsNodeOf : Tokens → ℕ → Type 0
+IsNodeOf ring node = node < ring.nodes

@@ -1,6 +1,5 @@
 -- What the sessions of clients were told.
 use Rattle.std.specs.Prelude.{◌≡◌, ℕ, List, Some, length, slice_get}
-use Rattle.std.specs.List.{Contains}
 use Rattle.dy_shares.specs.Shares.{SessionPart}
 
 -- a session that was told nothing yet
@@ -12,13 +11,6 @@ abbrev pub AreTold : (ℕ → SessionPart → Type 0) → List SessionPart → T
 AreTold told tellings =
     (number : ℕ) (telling : SessionPart) → slice_get tellings number ≡ Some telling →
     told number telling
-
--- each of these sessions, by its number, is that of one of these
-abbrev pub AreSeated : {S : Type 0} → List S → List SessionPart
-    → (S → ℕ → SessionPart → Type 0) → Type 0
-AreSeated {S = S} seats tellings IsOf =
-    (number : ℕ) (telling : SessionPart) → slice_get tellings number ≡ Some telling →
-    (seat : S) × Contains seats seat × IsOf seat number telling
 
 -- what is told, as a fact that has one proof at most, so that a type can have it
 abbrev pub as_fact : (ℕ → SessionPart → Type 0) → ℕ → SessionPart → Type 0

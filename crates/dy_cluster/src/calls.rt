@@ -27,8 +27,8 @@ impl<J: Naming> Cluster<J> {
         preference(&self.ring, key, self.options.n)
     }
 
-    // A put that asks nobody.
-    pub(crate) fn unlisted(&self, fault: Fault) -> PutFault
+    // A put that was refused before anybody was tried.
+    pub(crate) fn put_untried(&self, fault: Fault) -> PutFault
         ensures fault { result.fault ≡ fault }
         ensures dot { result.dot ≡ None }
         ensures answers { result.answers.items ≡ [] }
@@ -40,8 +40,8 @@ impl<J: Naming> Cluster<J> {
         }
     }
 
-    // A get that asks nobody.
-    pub(crate) fn ungot(&self, fault: Fault) -> GetFault
+    // A get that was refused before anybody was asked.
+    pub(crate) fn get_unasked(&self, fault: Fault) -> GetFault
         ensures fault { result.fault ≡ fault }
         ensures answers { result.answers.items ≡ [] }
     {
@@ -74,10 +74,10 @@ impl<J: Naming> Cluster<J> {
         ensures room { (T.told transport.new).room ≡ (T.told transport.old).room }
     {
         if w < 1 {
-            return Err(self.unlisted(Fault::BadQuorum));
+            return Err(self.put_untried(Fault::BadQuorum));
         }
         if self.options.n < w {
-            return Err(self.unlisted(Fault::BadQuorum));
+            return Err(self.put_untried(Fault::BadQuorum));
         }
         let list = self.list(key);
         dy_coord::put(

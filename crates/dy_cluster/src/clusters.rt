@@ -12,8 +12,8 @@ use crate::locks::{lock_all, rejoin_all, retire_all};
 use crate::openings::Opened;
 use crate::restings::{Closed, ClusterRefused, Resting};
 use dy_book::{Book, Options};
-use dy_dots::{Fault, MAX_NODES, NodeId};
-use dy_node::{Mode, Node, Rest};
+use dy_dots::{Fault, MAX_NODES};
+use dy_node::{Node, Rest};
 use dy_ring::Ring;
 use dy_shares::{Naming, NodeShare, SessionShare};
 use dy_transport::Direct;
@@ -118,21 +118,6 @@ impl<J: Naming> Cluster<J> {
             &self.book,
             MAX_NODES as usize,
         )
-    }
-
-    /// The node goes down, or comes up. A number that the ring has not changes nothing. May wait
-    /// for a lock.
-    pub fn set_up(&self, rt: &impl Wait, node: NodeId, is_up: bool) {
-        if let Some(lock) = self.nodes.get(usize::from(node.number())) {
-            lock.lock(rt).set_up(is_up);
-        }
-    }
-
-    /// What the node does with asks from now on. May wait for a lock.
-    pub fn fault(&self, rt: &impl Wait, node: NodeId, mode: Mode) {
-        if let Some(lock) = self.nodes.get(usize::from(node.number())) {
-            lock.lock(rt).set_fault(mode);
-        }
     }
 
     /// Takes the locks apart. Waits for nobody, and takes no memory.

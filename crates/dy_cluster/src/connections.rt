@@ -51,14 +51,14 @@ impl<J: Naming> Cluster<J> {
     pub fn connect_by_post<R: Wait>(
         &self,
         rt: &R,
-        post: Post<J>,
+        mut post: Post<J>,
     ) -> Result<Connection<'_, J, Mailboxes<'_, J>>, Fault>
         ensures untold { IfOk result (λ connection. IsUntold connection.session) }
         ensures w { IfOk result (λ connection. connection.w ≡ self.now.options.w) }
         ensures only { IfErr result (λ fault. (fault ≡ Fault.OutOfMemory)
             ⊎ (fault ≡ Fault.TooMany)) }
     {
-        let mailboxes = self.mailboxes(post)?;
+        let mailboxes = self.mailboxes(&mut post)?;
         let session = self.session(rt)?;
         Ok(Connection::new(self, session, mailboxes))
     }
@@ -185,7 +185,7 @@ impl<'a, J: Naming, T: Transport<J>> Connection<'a, J, T> {
         ensures mended { self.new.is_mended ≡ self.old.is_mended }
     {
         if let Err(fault) = self.transport.renew(rt) {
-            return Err(self.cluster.unlisted(fault));
+            return Err(self.cluster.put_untried(fault));
         }
         self.cluster.put(
             rt,
@@ -235,7 +235,7 @@ impl<'a, J: Naming, T: Transport<J>> Connection<'a, J, T> {
         ensures mended { self.new.is_mended ≡ self.old.is_mended }
     {
         if let Err(fault) = self.transport.renew(rt) {
-            return Err(self.cluster.ungot(fault));
+            return Err(self.cluster.get_unasked(fault));
         }
         self.cluster
             .get(rt, &mut self.transport, &mut self.session, key)

@@ -1,7 +1,5 @@
-ghost use Rattle.std.specs.Prelude.{◌≡◌, ◌≤◌, ◌<◌, ◌↔◌, ◌⊎◌, ℕ, [], List, length};
-ghost use Rattle.std.specs.Prelude.{IfOk, IfErr, IsErrOf, true, false};
-ghost use Rattle.std.specs.List.{All};
-ghost use Rattle.std.specs.Option.{ForSome};
+ghost use Rattle.std.specs.Prelude.{◌≡◌, ◌<◌, ◌↔◌, ◌⊎◌, ℕ, [], List, length};
+ghost use Rattle.std.specs.Prelude.{IfOk, IfErr, IsErrOf};
 ghost use Rattle.std.specs.declared.marker.Brand.{Brand as BrandParts};
 ghost use Rattle.dy_book.specs.Limits.{AreLimits, IsQuorum};
 ghost use Rattle.dy_shares.specs.Shares.{SessionPart};
@@ -10,25 +8,24 @@ ghost use Rattle.dy_cluster.specs.Named.{NamesBook};
 ghost use Rattle.dy_cluster.specs.Refusals.{IsRunRefusal};
 ghost use Rattle.dy_cluster.specs.Settings.{Setting, setting};
 ghost use Rattle.dy_cluster.specs.Stores.{TellsAcks, TellsStores};
-ghost use Rattle.dy_cluster.specs.Tellings.{AreTold, IsUntold};
+ghost use Rattle.dy_cluster.specs.Tellings.{AreTold, IsUntold, as_fact};
 
 use crate::clusters::Cluster;
 use crate::connections::Connection;
 use crate::openings::Opened;
+use crate::operators::Nobody;
 use crate::restings::Closed;
-use crate::seats::{Seat, rise_all, seat_all};
+use crate::staffing::run_clients;
 use dy_book::Options;
 use dy_dots::Fault;
+use dy_mailboxes::Open;
 use dy_ring::Ring;
 use dy_shares::{Naming, SessionShare};
 use dy_transport::Transport;
 use std::alloc::Global;
 use std::marker::Brand;
 use std::sync::Wait;
-use std::thread::{Threads, for_each_mut};
-
-// How many clients there may be. So each may have a thread of its own.
-pub(crate) const MOST_CLIENTS: usize = 255;
+use std::thread::Threads;
 
 /// What is done with a cluster while it is open, whatever the name of its book.
 pub trait Work {
@@ -123,10 +120,10 @@ fn run_named<J: Naming, W: Work, R: Wait>(
     }
 }
 
-/// Opens a cluster on the ring, runs so many clients beside each other, each with a connection of
-/// its own, which asks the nodes in the client's thread, and closes it. A client for which no
-/// thread can be had runs on the caller's; where there is no memory for what carries the messages
-/// of one, it does not run, and that is told as want of memory once the others are done.
+/// Opens a cluster on the ring, runs so many clients beside each other, each in a thread of its own
+/// with a connection of its own, which asks the nodes in that thread, and closes it. A client for
+/// which no thread can be had, or no memory for what carries its messages, does not run, and that is
+/// told as want of memory once the others are done.
 pub fn with_clients<C: Client + Sync, R: Threads + Wait + Sync>(
     rt: &R,
     alloc: Global,
@@ -138,115 +135,18 @@ pub fn with_clients<C: Client + Sync, R: Threads + Wait + Sync>(
     ensures stores { IfOk result (TellsStores ring options.n) }
     ensures acks { IfOk result (λ closed. (tellings : List SessionPart)
         × TellsAcks tellings closed × (length tellings ≡ clients)
-        × AreTold (C.told (setting BrandParts ring options.n options.r) client.now) tellings) }
+        × AreTold (as_fact (C.told (setting BrandParts ring options.n options.r) client.now))
+        tellings) }
     ensures closed { IfOk result (λ closed. (tellings : List SessionPart)
         × IsClosed ring options.n options.r tellings closed × (length tellings ≡ clients)
-        × AreTold (C.told (setting BrandParts ring options.n options.r) client.now) tellings) }
+        × AreTold (as_fact (C.told (setting BrandParts ring options.n options.r) client.now))
+        tellings) }
     ensures too_many { ¬ (AreLimits options) → IsErrOf result Fault.TooMany }
     ensures bad_quorum { IsErrOf result Fault.BadQuorum
         ↔ (AreLimits options × ¬ (IsQuorum options ring.nodes)) }
     ensures only { IfErr result (λ fault. (fault ≡ Fault.BadQuorum) ⊎ IsRunRefusal fault) }
 {
     let opened = Opened::new(alloc, ring, options)?;
-    run_clients::<Brand, C, R>(rt, alloc, opened, clients, client)
-}
-
-// The same under the name that was picked.
-fn run_clients<J: Naming + Send + Sync, C: Client + Sync, R: Threads + Wait + Sync>(
-    rt: &R,
-    alloc: Global,
-    opened: Opened,
-    clients: u8,
-    client: &C,
-) -> Result<Closed, Fault>
-    requires named { NamesBook J.book J.table J.ring J.n J.r opened }
-    ensures stores { IfOk result (TellsStores opened.ring opened.options.n) }
-    ensures acks { IfOk result (λ closed. (tellings : List SessionPart)
-        × TellsAcks tellings closed × (length tellings ≡ clients)
-        × AreTold (C.told (setting J opened.ring opened.options.n opened.options.r) client.now)
-        tellings) }
-    ensures closed { IfOk result (λ closed. (tellings : List SessionPart)
-        × IsClosed opened.ring opened.options.n opened.options.r tellings closed
-        × (length tellings ≡ clients)
-        × AreTold (C.told (setting J opened.ring opened.options.n opened.options.r) client.now)
-        tellings) }
-    ensures only { IfErr result IsRunRefusal }
-{
-    let cluster = Cluster::<J>::open(alloc, opened)?;
-    let mut sessions = Vec::new(alloc);
-    let done = run_seated(rt, alloc, &cluster, &mut sessions, clients, client);
-    match cluster.close(sessions) {
-        Ok(closed) => {
-            done?;
-            Ok(closed)
-        }
-        Err(refused) => Err(refused.abandon()),
-    }
-}
-
-// Opens a session for each client, and runs them.
-fn run_seated<J: Naming + Send + Sync, C: Client + Sync, R: Threads + Wait + Sync>(
-    rt: &R,
-    alloc: Global,
-    cluster: &Cluster<J>,
-    sessions: &mut Vec<SessionShare<J>>,
-    clients: u8,
-    client: &C,
-) -> Result<(), Fault>
-    requires none { sessions.old.items ≡ [] }
-    ensures ok { IfOk result (λ _. length sessions.new.items ≡ clients) }
-    ensures told { IfOk result (λ _. AreTold (C.told (setting J J.ring J.n J.r) client.now)
-        sessions.new.items) }
-    ensures only { IfErr result IsRunRefusal }
-{
-    seat_clients(rt, cluster, sessions, clients)?;
-    let mut seats = Vec::<Seat<J, Brand>>::with_capacity(alloc, sessions.len())?;
-    seat_all(sessions, Vec::new(alloc), &mut seats);
-    run_beside(rt, alloc, cluster, client, seats.as_mut_slice());
-    let have_run = rise_all(&mut seats, sessions);
-    seats.destroy_empty();
-    if have_run {
-        Ok(())
-    } else {
-        Err(Fault::OutOfMemory)
-    }
-}
-
-// A session for each client.
-pub(crate) fn seat_clients<J: Naming, R: Wait>(
-    rt: &R,
-    cluster: &Cluster<J>,
-    sessions: &mut Vec<SessionShare<J>>,
-    clients: u8,
-) -> Result<(), Fault>
-    requires none { sessions.old.items ≡ [] }
-    ensures ok { IfOk result (λ _. length sessions.new.items ≡ clients) }
-    ensures untold { IfOk result (λ _. All IsUntold sessions.new.items) }
-    ensures only { IfErr result IsRunRefusal }
-{
-    for _ in 0..clients {
-        let _place = cluster.seat(rt, sessions)?;
-    }
-    Ok(())
-}
-
-// The clients in threads of their own.
-fn run_beside<J: Naming + Send + Sync, C: Client + Sync, R: Threads + Wait + Sync>(
-    rt: &R,
-    alloc: Global,
-    cluster: &Cluster<J>,
-    client: &C,
-    seats: &mut [Seat<J, Brand>],
-)
-    requires fresh { All (λ seat. seat.has_run ≡ false) seats.old }
-    ensures count { length seats.new ≡ length seats.old }
-    ensures told { All (λ seat. seat.has_run ≡ true → ForSome seat.session
-        (C.told (setting J J.ring J.n J.r) client.now seat.number)) seats.new }
-{
-    for_each_mut(
-        rt,
-        seats,
-        MOST_CLIENTS,
-        &|_number, seat| { seat.run(rt, alloc, cluster, client) },
-    );
+    let (gate, operator) = (None, None);
+    run_clients::<Brand, C, Open, Nobody, R>(rt, alloc, opened, gate, operator, clients, client)
 }

@@ -1,4 +1,5 @@
 ghost use Rattle.std.specs.Prelude.{◌≡◌};
+ghost use Rattle.dy_cluster.specs.Named.{IsNodeOf};
 
 use crate::clusters::Cluster;
 use dy_dots::{Fault, NodeId};
@@ -16,6 +17,7 @@ pub struct Handover<'a, J: Naming> {
     post: Option<Post<J>>,
     node: NodeId,
     made: u64,
+    ghost ring: { IsNodeOf J.ring node },
 }
 
 impl<'a, J: Naming> Model for Handover<'a, J> {
@@ -29,6 +31,7 @@ impl<'a, J: Naming> Model for Handover<'a, J> {
 impl<J: Naming> Cluster<J> {
     /// Passes over the hints of this node, of which none is made yet. Takes no memory.
     pub fn handover(&self, post: Option<Post<J>>, node: NodeId) -> Handover<'_, J>
+        requires ring { IsNodeOf J.ring node }
         ensures { result ≡ 0 }
     {
         Handover {

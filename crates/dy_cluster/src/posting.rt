@@ -22,16 +22,19 @@ impl<J: Naming> Cluster<J> {
         Post::new(self.alloc, self.ring.nodes())
     }
 
-    /// A transport over the nodes' workers, which has the post from now on.
-    pub fn mailboxes(&self, post: Post<J>) -> Result<Mailboxes<'_, J>, Fault>
+    /// A transport over the nodes' workers, with ends of its own, which send to the same mailboxes
+    /// as the post does.
+    pub fn mailboxes(&self, post: &mut Post<J>) -> Result<Mailboxes<'_, J>, Fault>
         ensures ok { IfOk result (λ mailboxes. mailboxes ≡ nothing_told MAX_NODES) }
+        ensures post { post.new ≡ post.old }
         ensures memory { IsOkUnless result Fault.OutOfMemory }
     {
+        let ends = post.try_clone()?;
         Mailboxes::new(
             self.alloc,
             self.nodes.as_slice(),
             &self.book,
-            post,
+            ends,
             MAX_NODES as usize,
         )
     }

@@ -1,12 +1,12 @@
-// The places of clients that write to the nodes' workers.
-ghost use Rattle.std.specs.Prelude.{◌≡◌, ◌≤◌, ◌<◌, ℕ, [], length, vec_capacity, IsTrue};
-ghost use Rattle.std.specs.Prelude.{true, false, IsSome, Some};
+// The places of clients.
+ghost use Rattle.std.specs.Prelude.{◌≡◌, ◌≤◌, ◌<◌, ℕ, [], length, vec_len, vec_capacity, IsTrue};
+ghost use Rattle.std.specs.Prelude.{true, false, IsSome};
 ghost use Rattle.std.specs.List.{All};
 ghost use Rattle.std.specs.Option.{ForSome};
 ghost use Rattle.dy_dots.specs.declared.nodes.TheConstants.{MAX_NODES};
 ghost use Rattle.dy_shares.specs.Shares.{SessionPart};
 ghost use Rattle.dy_cluster.specs.Settings.{setting};
-ghost use Rattle.dy_cluster.specs.Tellings.{AreSeated, IsUntold, as_fact};
+ghost use Rattle.dy_cluster.specs.Tellings.{AreTold, IsUntold, as_fact};
 
 use crate::clusters::Cluster;
 use crate::connections::Connection;
@@ -16,7 +16,7 @@ use dy_shares::{Naming, SessionShare};
 use dy_transport::Transport;
 use std::alloc::Global;
 use std::marker::{Brand, PhantomData};
-use std::sync::Wait;
+use std::sync::{Mutex, Wait};
 
 // What the sessions of clients are told, by their numbers. Whoever runs the clients picks it, since
 // what threads leave behind is known by its type alone.
@@ -28,13 +28,11 @@ impl Telling for Brand {
     ghost told = { λ number telling. Unit {0} };
 }
 
-// A client's number and session, its post until it is taken or let go, and whether the client has
-// run.
+// A client's number and session, and whether the client has run.
 pub(crate) struct Seat<J: Naming, T: Telling> {
     number: usize,
     // It is always there, but while its client runs.
     session: Option<SessionShare<J>>,
-    post: Option<Post<J>>,
     has_run: bool,
     telling: PhantomData<T>,
     ghost few: { number < 255 },
@@ -43,30 +41,42 @@ pub(crate) struct Seat<J: Naming, T: Telling> {
     ghost told: { has_run ≡ true → ForSome session (as_fact T.told number) },
 }
 
-impl<J: Naming, T: Telling> Seat<J, T> {
-    // Lets the client do what it does, once: over its post, or where it has none on its own thread.
-    // Where there is no memory for what carries its messages it does not run. May wait for whatever
-    // it waits for.
-    pub(crate) fn run<C: Client, R: Wait>(
+// What a client's thread needs to know of its place, which may go there.
+pub(crate) trait Place<J: Naming> {
+    ghost told: { ℕ → SessionPart → Type 0 };
+
+    // Lets the client do what it does, once: over the post, which is let go then, or where there is
+    // none on its own thread. Where there is no memory for what carries its messages it does not
+    // run. May wait for whatever it waits for.
+    fn run<C: Client, R: Wait>(
         &mut self,
         rt: &R,
         alloc: Global,
         cluster: &Cluster<J>,
         client: &C,
+        post: &mut Option<Post<J>>,
     )
         requires tells { (number : ℕ) (telling : SessionPart) →
-            C.told (setting J J.ring J.n J.r) client.now number telling →
-            T.told number telling }
-        ensures told { self.old.has_run ≡ false → self.new.has_run ≡ true →
-            ForSome self.new.session
-            (C.told (setting J J.ring J.n J.r) client.now self.new.number) }
-    {
+            C.told (setting J J.ring J.n J.r) client.now number telling → told number telling };
+}
+
+impl<J: Naming, T: Telling> Place<J> for Seat<J, T> {
+    ghost told = { T.told };
+
+    fn run<C: Client, R: Wait>(
+        &mut self,
+        rt: &R,
+        alloc: Global,
+        cluster: &Cluster<J>,
+        client: &C,
+        post: &mut Option<Post<J>>,
+    ) {
         if self.has_run {
             return;
         }
-        match self.post.take() {
-            Some(post) => {
-                if let Ok(mailboxes) = cluster.mailboxes(post) {
+        match post.take() {
+            Some(mut post) => {
+                if let Ok(mailboxes) = cluster.mailboxes(&mut post) {
                     self.run_over(rt, alloc, cluster, client, mailboxes);
                 }
             }
@@ -77,7 +87,9 @@ impl<J: Naming, T: Telling> Seat<J, T> {
             }
         }
     }
+}
 
+impl<J: Naming, T: Telling> Seat<J, T> {
     // Lets the client do what it does over this transport.
     fn run_over<C: Client, M: Transport<J> + Drop, R: Wait>(
         &mut self,
@@ -108,56 +120,49 @@ impl<J: Naming, T: Telling> Seat<J, T> {
     }
 }
 
-// Each session takes a seat with a post, numbered from 0.
+// Each session takes a seat, numbered from 0, the last first.
 pub(crate) fn seat_all<J: Naming, T: Telling>(
     sessions: &mut Vec<SessionShare<J>>,
-    mut posts: Vec<Post<J>>,
-    seats: &mut Vec<Seat<J, T>>,
+    seats: &mut Vec<Mutex<Seat<J, T>>>,
 )
     requires few { length sessions.old.items ≤ 255 }
     requires untold { All IsUntold sessions.old.items }
-    requires none { seats.old.items ≡ [] }
+    requires none { vec_len seats.old ≡ 0 }
     requires room { length sessions.old.items ≤ vec_capacity seats.old }
     ensures emptied { sessions.new.items ≡ [] }
     ensures memory { vec_capacity sessions.new ≡ vec_capacity sessions.old }
-    ensures count { length seats.new.items ≡ length sessions.old.items }
-    ensures fresh { All (λ seat. seat.has_run ≡ false) seats.new.items }
+    ensures count { vec_len seats.new ≡ length sessions.old.items }
 {
-    sessions.reverse();
     while let Some(session) = sessions.pop() {
-        seats.push_reserved(Seat {
-            number: seats.len(),
+        seats.push_reserved(Mutex::new(Seat {
+            number: sessions.len(),
             session: Some(session),
-            post: posts.pop(),
             has_run: false,
             telling: PhantomData,
-        });
+        }));
     }
 }
 
-// Each session leaves its seat. Tells whether each client has run, and has the number of its place.
+// Each session leaves its seat, that of number 0 first. Tells whether each client has run, and has
+// the number of its place.
 pub(crate) fn rise_all<J: Naming, T: Telling>(
-    seats: &mut Vec<Seat<J, T>>,
+    seats: &mut Vec<Mutex<Seat<J, T>>>,
     sessions: &mut Vec<SessionShare<J>>,
 ) -> bool
     requires none { sessions.old.items ≡ [] }
-    requires room { length seats.old.items ≤ vec_capacity sessions.old }
-    ensures emptied { seats.new.items ≡ [] }
-    ensures count { length sessions.new.items ≡ length seats.old.items }
-    ensures risen { IsTrue result → AreSeated seats.old.items sessions.new.items
-        (λ seat number telling. (seat.has_run ≡ true) × (seat.number ≡ number)
-        × (seat.session ≡ Some telling)) }
+    requires room { vec_len seats.old ≤ vec_capacity sessions.old }
+    ensures emptied { vec_len seats.new ≡ 0 }
+    ensures count { length sessions.new.items ≡ vec_len seats.old }
+    ensures told { IsTrue result → AreTold (as_fact T.told) sessions.new.items }
 {
     let mut are_told = true;
-    seats.reverse();
-    while let Some(seat) = seats.pop() {
+    while let Some(lock) = seats.pop() {
         let Seat {
             number,
             session,
-            post: _,
             has_run,
             telling: _,
-        } = seat;
+        } = lock.into_inner();
         are_told = are_told & has_run & (number == sessions.len());
         let Some(session) = session else {
             unreachable!()
@@ -165,11 +170,4 @@ pub(crate) fn rise_all<J: Naming, T: Telling>(
         sessions.push_reserved(session);
     }
     are_told
-}
-
-// Lets every post go.
-pub(crate) fn let_go<J: Naming, T: Telling>(seats: &mut [Seat<J, T>]) {
-    for seat in seats.iter_mut() {
-        seat.post = None;
-    }
 }

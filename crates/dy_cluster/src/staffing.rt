@@ -1,7 +1,7 @@
-// Clients that write to the nodes' workers.
-ghost use denote.Param.Send.{IsSend};
-ghost use Rattle.std.specs.Prelude.{◌≡◌, ◌≤◌, ◌<◌, ◌↔◌, ◌⊎◌, ℕ, [], List, length, IsTrue};
-ghost use Rattle.std.specs.Prelude.{IfOk, IfErr, IsErrOf, IsOkUnless};
+// Clients in threads of their own, beside the nodes' workers or without.
+ghost use Rattle.std.specs.Prelude.{◌≡◌, ◌↔◌, ◌⊎◌, ℕ, [], List, length, IsTrue};
+ghost use Rattle.std.specs.Prelude.{IfOk, IfErr, IsErrOf, IsOk, IsOkUnless};
+ghost use Rattle.std.specs.List.{All};
 ghost use Rattle.std.specs.declared.marker.Brand.{Brand as BrandParts};
 ghost use Rattle.dy_book.specs.Limits.{AreLimits, IsQuorum};
 ghost use Rattle.dy_shares.specs.Shares.{SessionPart};
@@ -13,26 +13,27 @@ ghost use Rattle.dy_cluster.specs.Stores.{TellsAcks, TellsStores};
 ghost use Rattle.dy_cluster.specs.Tellings.{AreTold, IsUntold, as_fact};
 
 use crate::clusters::Cluster;
-use crate::embedding::{Client, MOST_CLIENTS, seat_clients};
+use crate::crews::{mail_for, run_beside, run_staffed};
+use crate::embedding::Client;
 use crate::openings::Opened;
+use crate::operators::{Nobody, Operator};
 use crate::restings::Closed;
-use crate::seats::{Seat, Telling, let_go, rise_all, seat_all};
+use crate::seats::{Seat, Telling, rise_all, seat_all};
 use dy_book::Options;
 use dy_dots::Fault;
-use dy_mailboxes::{Gate, Inbox, Post, Posted};
+use dy_mailboxes::Gate;
 use dy_ring::Ring;
 use dy_shares::{Naming, SessionShare};
 use std::alloc::Global;
 use std::marker::Brand;
-use std::sync::Wait;
-use std::thread;
-use std::thread::{Threads, for_each_mut};
+use std::sync::{Mutex, Wait};
+use std::thread::Threads;
 
 /// Opens a cluster on the ring, starts a worker for each node, runs so many clients beside each
-/// other, each with a connection of its own over them, and closes it. Where no thread can be had
-/// for a worker, no client runs, and that is told as want of memory; a client for which none can be
-/// had runs on the caller's. Where there is no memory for what carries the messages of one, it does
-/// not run, and that is told so too, once the others are done.
+/// other, each in a thread of its own with a connection of its own over the workers, and closes it.
+/// Where no thread can be had for a worker, no client runs, and that is told as want of memory. A
+/// client for which none can be had, or no memory for what carries its messages, does not run, and
+/// that is told so too, once the others are done.
 pub fn with_workers<C: Client + Sync, G: Gate + Sync, R: Threads + Wait + Sync>(
     rt: &R,
     alloc: Global,
@@ -57,15 +58,32 @@ pub fn with_workers<C: Client + Sync, G: Gate + Sync, R: Threads + Wait + Sync>(
     ensures only { IfErr result (λ fault. (fault ≡ Fault.BadQuorum) ⊎ IsRunRefusal fault) }
 {
     let opened = Opened::new(alloc, ring, options)?;
-    run_staffed::<Brand, C, G, R>(rt, alloc, opened, gate, clients, client)
+    let operator = None;
+    run_clients::<Brand, C, G, Nobody, R>(
+        rt,
+        alloc,
+        opened,
+        Some(gate),
+        operator,
+        clients,
+        client,
+    )
 }
 
-// The same under the name that was picked.
-fn run_staffed<J: Naming + Send + Sync, C: Client + Sync, G: Gate + Sync, R: Threads + Wait + Sync>(
+// Opens a cluster of the name that was picked, runs the clients, and closes it: beside workers
+// where there is a gate, and beside the operator where there is one.
+pub(crate) fn run_clients<
+    J: Naming + Send + Sync,
+    C: Client + Sync,
+    G: Gate + Sync,
+    O: Operator + Sync,
+    R: Threads + Wait + Sync,
+>(
     rt: &R,
     alloc: Global,
     opened: Opened,
-    gate: &G,
+    gate: Option<&G>,
+    operator: Option<&O>,
     clients: u8,
     client: &C,
 ) -> Result<Closed, Fault>
@@ -84,11 +102,12 @@ fn run_staffed<J: Naming + Send + Sync, C: Client + Sync, G: Gate + Sync, R: Thr
 {
     let cluster = Cluster::<J>::open(alloc, opened)?;
     let mut sessions = Vec::new(alloc);
-    let done = run_seated::<J, Brand, C, G, R>(
+    let done = run_seated::<J, Brand, C, G, O, R>(
         rt,
         alloc,
         &cluster,
         gate,
+        operator,
         &mut sessions,
         clients,
         client,
@@ -102,18 +121,20 @@ fn run_staffed<J: Naming + Send + Sync, C: Client + Sync, G: Gate + Sync, R: Thr
     }
 }
 
-// Opens a session and a post for each client, and runs them. The sessions are in the list again.
+// Opens a session for each client, and runs them. The sessions are in the list again.
 fn run_seated<
     J: Naming + Send + Sync,
     T: Telling + Send + Sync,
     C: Client + Sync,
     G: Gate + Sync,
+    O: Operator + Sync,
     R: Threads + Wait + Sync,
 >(
     rt: &R,
     alloc: Global,
     cluster: &Cluster<J>,
-    gate: &G,
+    gate: Option<&G>,
+    operator: Option<&O>,
     sessions: &mut Vec<SessionShare<J>>,
     clients: u8,
     client: &C,
@@ -126,93 +147,53 @@ fn run_seated<
     ensures only { IfErr result IsRunRefusal }
 {
     seat_clients(rt, cluster, sessions, clients)?;
-    let (post, inboxes) = cluster.post()?;
-    let posts = posts_for(alloc, post, clients)?;
-    let mut seats = Vec::<Seat<J, T>>::with_capacity(alloc, sessions.len())?;
-    seat_all(sessions, posts, &mut seats);
-    run_all(
-        rt,
-        alloc,
-        cluster,
-        gate,
-        inboxes,
-        client,
-        seats.as_mut_slice(),
-    );
+    let mail = match gate {
+        Some(_gate) => Some(mail_for(alloc, cluster, clients)?),
+        None => None,
+    };
+    let mut seats = Vec::<Mutex<Seat<J, T>>>::with_capacity(alloc, sessions.len())?;
+    seat_all(sessions, &mut seats);
+    let places = seats.as_slice();
+    let is_staffed = match (gate, mail) {
+        (Some(gate), Some(mail)) => {
+            run_staffed(rt, alloc, cluster, gate, operator, mail, client, places)
+        }
+        _ => {
+            run_beside(rt, alloc, cluster, client, Vec::new(alloc), places);
+            true
+        }
+    };
     let have_run = rise_all(&mut seats, sessions);
     seats.destroy_empty();
-    if have_run {
+    end_of(is_staffed, have_run)
+}
+
+// A session for each client.
+fn seat_clients<J: Naming, R: Wait>(
+    rt: &R,
+    cluster: &Cluster<J>,
+    sessions: &mut Vec<SessionShare<J>>,
+    clients: u8,
+) -> Result<(), Fault>
+    requires none { sessions.old.items ≡ [] }
+    ensures ok { IfOk result (λ _. length sessions.new.items ≡ clients) }
+    ensures untold { IfOk result (λ _. All IsUntold sessions.new.items) }
+    ensures only { IfErr result IsRunRefusal }
+{
+    for _ in 0..clients {
+        let _place = cluster.seat(rt, sessions)?;
+    }
+    Ok(())
+}
+
+// What becomes of a run: a thread that can't be made is memory that is wanting.
+fn end_of(is_staffed: bool, have_run: bool) -> Result<(), Fault>
+    ensures ok { IsOk result ↔ (IsTrue is_staffed × IsTrue have_run) }
+    ensures memory { IsOkUnless result Fault.OutOfMemory }
+{
+    if is_staffed & have_run {
         Ok(())
     } else {
         Err(Fault::OutOfMemory)
     }
-}
-
-// A post for each client. The one that they are made from is let go.
-fn posts_for<J: Naming>(
-    alloc: Global,
-    mut post: Post<J>,
-    clients: u8,
-) -> Result<Vec<Post<J>>, Fault>
-    ensures count { IfOk result (λ posts. length posts.items ≡ clients) }
-    ensures memory { IsOkUnless result Fault.OutOfMemory }
-{
-    let mut posts = Vec::with_capacity(alloc, usize::from(clients))?;
-    for _ in 0..clients {
-        posts.push(post.try_clone()?)?;
-    }
-    Ok(posts)
-}
-
-// Starts a worker for each node, and then the clients, but none where a worker could not be
-// started. A message that lies in a mailbox lives as long as any post does, so a client that posts
-// to a worker which never starts would wait for ever: none runs before all are started. At the end
-// every post is let go, and by that the workers end.
-fn run_all<
-    J: Naming + Send + Sync,
-    T: Telling + Send + Sync,
-    C: Client + Sync,
-    G: Gate + Sync,
-    R: Threads + Wait + Sync,
->(
-    rt: &R,
-    alloc: Global,
-    cluster: &Cluster<J>,
-    gate: &G,
-    inboxes: Vec<Inbox<Posted<J>>>,
-    client: &C,
-    seats: &mut [Seat<J, T>],
-)
-    requires tells { (number : ℕ) (telling : SessionPart) →
-        C.told (setting J J.ring J.n J.r) client.now number telling → T.told number telling }
-{
-    thread::scope(
-        thread::scope_env(),
-        rt,
-        |scope|
-            requires sends { IsSend T.row }
-            requires tells { (number : ℕ) (telling : SessionPart) →
-                C.told (setting J J.ring J.n J.r) client.now number telling →
-                T.told number telling }
-        {
-            let mut is_staffed = true;
-            for (number, inbox) in inboxes.into_iter().enumerate() {
-                if scope
-                    .spawn(move || cluster.serve_at(rt, number, inbox, gate))
-                    .is_err()
-                {
-                    is_staffed = false;
-                }
-            }
-            if is_staffed {
-                for_each_mut(
-                    rt,
-                    seats,
-                    MOST_CLIENTS,
-                    &|_number, seat| { seat.run(rt, alloc, cluster, client) },
-                );
-            }
-            let_go(seats);
-        },
-    )
 }

@@ -1,8 +1,8 @@
 // What was present in a cluster that was closed, carried over into a new one.
 use crate::posted::with_values;
-use crate::rings::with_five_nodes;
+use crate::rings::{set_up, with_five_nodes};
 use dy_cluster::{
-    Closed, Cluster, Connection, Context, Fault, Key, Naming, NodeId, Session, Transport, Value,
+    Closed, Cluster, Connection, Context, Fault, Key, Naming, Session, Transport, Value,
     Work, carry_over,
 };
 use std::alloc::Global;
@@ -71,7 +71,7 @@ fn put_past_homes<J: Naming, T: Transport<J>, R: Wait>(
     let context = context_of(rt, alloc, connection, HINTED)?;
     let cluster = connection.cluster();
     for number in 0..3 {
-        cluster.set_up(rt, NodeId::nth(number), false);
+        set_up(rt, cluster, number, false);
     }
     put(rt, alloc, connection, HINTED, &context, "new")
 }

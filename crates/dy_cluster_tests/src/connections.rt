@@ -2,9 +2,9 @@
 ghost use Rattle.std.specs.Prelude.{◌<◌, vec_capacity, vec_len};
 
 use crate::posted::with_values;
-use crate::rings::{options, with_five_nodes};
+use crate::rings::{options, set_up, with_five_nodes};
 use dy_cluster::{
-    Cluster, Connection, Context, Fault, GetDone, Key, Naming, NodeId, PutDone, Session, Transport,
+    Cluster, Connection, Context, Fault, GetDone, Key, Naming, PutDone, Session, Transport,
     Value, Work,
 };
 use dy_mailboxes::Post;
@@ -137,7 +137,7 @@ struct Outage {
 
 // Whether node 1 has a row of the key for itself.
 fn has_row<J: Naming, R: Wait>(rt: &R, cluster: &Cluster<J>, key: &Key) -> Result<bool, Fault> {
-    let node = NodeId::nth(1);
+    let node = cluster.node(1).ok_or(Fault::NotEnough)?;
     let rows = cluster.show(rt, node, key)?;
     Ok(rows.iter().any(|it| it.0 == node))
 }
@@ -172,9 +172,9 @@ impl Calling for Outage {
     ) -> Result<(), Fault> {
         let key = Key::new(alloc, b"a")?;
         let cluster = connection.cluster();
-        cluster.set_up(rt, NodeId::nth(1), false);
+        set_up(rt, cluster, 1, false);
         put(rt, alloc, connection, &key)?;
-        cluster.set_up(rt, NodeId::nth(1), true);
+        set_up(rt, cluster, 1, true);
         self.unrepaired = has_row_unrepaired(rt, connection, &key).ok();
         self.mended = has_row_mended(rt, connection, &key).ok();
         Ok(())

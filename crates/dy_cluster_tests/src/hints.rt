@@ -1,5 +1,6 @@
 // A home that goes down and comes up, and passes of its stand-in, beside puts and gets.
 use crate::posted::{get_over, is_told, put_over, put_told};
+use crate::rings::set_up;
 use crate::signals::Signal;
 use crate::workers::with_five_workers;
 use dy_cluster::{Client, Cluster, Connection, Fault, Naming, NodeId, Transport};
@@ -36,8 +37,10 @@ fn pass_over<J: Naming, T: Transport<J>, R: Wait>(
 
 // Two passes of node 3 on the client's own thread.
 fn hand_over<J: Naming, R: Wait>(rt: &R, cluster: &Cluster<J>) {
-    let mut passes = cluster.handover(None, NodeId::nth(3));
-    worker(rt, &mut passes, 2);
+    if let Some(node) = cluster.node(3) {
+        let mut passes = cluster.handover(None, node);
+        worker(rt, &mut passes, 2);
+    }
 }
 
 // A get, and a put with its context: its answers.
@@ -58,10 +61,10 @@ impl Hinted {
         alloc: Global,
         connection: &mut Connection<'_, J, T>,
     ) {
-        connection.cluster().set_up(rt, NodeId::nth(1), false);
+        set_up(rt, connection.cluster(), 1, false);
         let told = put_told(rt, alloc, connection, 3);
         *self.told.lock(rt) = told.ok();
-        connection.cluster().set_up(rt, NodeId::nth(1), true);
+        set_up(rt, connection.cluster(), 1, true);
         for _ in 0..2 {
             let _ = pass_over(rt, connection);
         }

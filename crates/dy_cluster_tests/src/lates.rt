@@ -32,7 +32,10 @@ impl Client for Late {
         _number: usize,
         connection: &mut Connection<'_, J, T>,
     ) {
-        connection.cluster().fault(rt, NodeId::nth(1), Mode::Late);
+        let cluster = connection.cluster();
+        if let Some(node) = cluster.node(1) {
+            cluster.fault(rt, node, Mode::Late);
+        }
         let told = put_told(rt, alloc, connection, 3);
         *self.told.lock(rt) = told.ok();
     }

@@ -2,7 +2,7 @@
 ghost use Rattle.dy_cluster.specs.Named.{NamesBook};
 
 use crate::posted::put_told;
-use crate::rings::{five_nodes, options, with_five_nodes};
+use crate::rings::{five_nodes, options, set_up, with_five_nodes};
 use dy_cluster::{Closed, Cluster, Fault, Naming, NodeId, Opened, Session, Work};
 use dy_mailboxes::{Open, Post};
 use std::alloc::Global;
@@ -39,10 +39,11 @@ fn put_and_leave<J: Naming, R: Wait>(
     sessions: &mut Vec<Session<J>>,
 ) -> Result<String, Fault> {
     let second = post.try_clone()?;
-    cluster.set_up(rt, NodeId::nth(1), false);
+    set_up(rt, cluster, 1, false);
     let _left = put_by(rt, alloc, cluster, second, 3, sessions);
-    cluster.set_up(rt, NodeId::nth(1), true);
-    let pass = cluster.handoff_by_post(rt, &mut post, NodeId::nth(3))?;
+    set_up(rt, cluster, 1, true);
+    let node = cluster.node(3).ok_or(Fault::NotEnough)?;
+    let pass = cluster.handoff_by_post(rt, &mut post, node)?;
     if pass.stored != 1 {
         return Err(Fault::Down);
     }

@@ -1,5 +1,5 @@
 use dy_book::{MAX_STEPS, MAX_VERSIONS};
-use dy_cluster::{Closed, Fault, Options, Ring, Work, with_cluster};
+use dy_cluster::{Closed, Cluster, Fault, Naming, Options, Ring, Work, with_cluster};
 use dy_dots::MAX_COUNTER;
 use std::alloc::Global;
 use std::sync::Wait;
@@ -20,6 +20,13 @@ pub fn five_nodes(alloc: Global) -> Result<Ring, Fault> {
         lists.push(list)?;
     }
     Ring::from_tokens(alloc, lists.as_slice())
+}
+
+// The node goes down, or comes up, where the ring has it.
+pub fn set_up<J: Naming, R: Wait>(rt: &R, cluster: &Cluster<J>, number: usize, is_up: bool) {
+    if let Some(node) = cluster.node(number) {
+        cluster.set_up(rt, node, is_up);
+    }
 }
 
 // Three homes a key, of which a put and a get need two.

@@ -1,6 +1,7 @@
 pub mod Clusters
 pub mod Ends
 pub mod Lines
+pub mod Outages
 pub mod Seeds
 pub mod Turns
 pub mod Words

@@ -8,7 +8,7 @@ use dy_draws::draw;
 use rand_pcg::Lcg64Xsh32;
 use rand_pcg::rand_core::SeedableRng;
 use std::alloc::Global;
-use std::sync::{Mutex, Wait};
+use std::sync::Wait;
 
 /// How many keys there are.
 const KEYS: u32 = 16;
@@ -17,7 +17,7 @@ const KEYS: u32 = 16;
 #[derive(Drop)]
 pub(crate) struct Clients {
     pub plan: Storm,
-    outages: Mutex<Outages>,
+    pub outages: Outages,
 }
 
 impl Clients {
@@ -27,14 +27,8 @@ impl Clients {
     {
         Clients {
             plan,
-            outages: Mutex::new(Outages::new(plan)),
+            outages: Outages::new(plan),
         }
-    }
-
-    /// How many versions were handed over as they made their turns.
-    pub fn handed_over(self) -> usize {
-        let Clients { plan: _, outages } = self;
-        outages.into_inner().handed_over()
     }
 }
 
@@ -60,7 +54,7 @@ impl Client for Clients {
             let key = draw(&mut generator, KEYS);
             play(rt, alloc, connection, key, number, turn);
             if self.plan.faults {
-                self.outages.lock(rt).go_on(rt, connection.cluster());
+                self.outages.rounds.count(rt);
             }
         }
     }

@@ -3,9 +3,11 @@
 
 mod clients;
 mod counts;
+mod events;
 mod outages;
 mod plans;
 mod rings;
+mod rounds;
 mod storms;
 mod turns;
 mod words;

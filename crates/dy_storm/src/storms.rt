@@ -1,16 +1,22 @@
-ghost use Rattle.std.specs.Prelude.{◌≡◌, IfOk, IfErr};
+ghost use Rattle.std.specs.Prelude.{◌≡◌, ◌+◌, ◌%◌, ◌^◌, List, length, IfOk, IfErr};
 ghost use Rattle.std.specs.declared.marker.Brand.{Brand as BrandParts};
 ghost use Rattle.dy_ring.specs.Rings.{Tokens};
 ghost use Rattle.dy_ring.specs.Lists.{IsRingOf};
+ghost use Rattle.dy_shares.specs.Shares.{SessionPart};
+ghost use Rattle.dy_cluster.specs.Ends.{IsClosed};
 ghost use Rattle.dy_cluster.specs.Refusals.{IsRunRefusal};
+ghost use Rattle.dy_cluster.specs.Settings.{setting};
+ghost use Rattle.dy_cluster.specs.Tellings.{AreTold, as_fact};
 ghost use Rattle.dy_storm.specs.Clusters.{five_tokens};
 ghost use Rattle.dy_storm.specs.Ends.{IsStormed};
+ghost use Rattle.dy_storm.specs.Seeds.{generator_of};
+ghost use Rattle.dy_storm.specs.Turns.{AreTurns};
 
 use crate::clients::Clients;
 use crate::counts::Counts;
 use crate::plans::Storm;
 use crate::rings::{five_nodes, options};
-use dy_cluster::{Closed, Fault, with_workers};
+use dy_cluster::{Closed, Fault, Ring, with_operator, with_workers};
 use dy_mailboxes::Open;
 use std::alloc::Global;
 use std::sync::Wait;
@@ -26,8 +32,8 @@ pub struct StormDone {
 }
 
 /// Opens a cluster of five nodes with workers in threads of their own, runs the clients beside each
-/// other, and closes it. A client for which no thread can be had runs on the caller's; where a
-/// worker can have none, nobody puts, and the storm is refused for want of memory.
+/// other, each in a thread too, and with faults one more thread for these, and closes it. Where a
+/// thread can't be made, the storm is refused for want of memory.
 pub fn storm<R: Threads + Wait + Sync>(
     rt: &R,
     alloc: Global,
@@ -39,11 +45,35 @@ pub fn storm<R: Threads + Wait + Sync>(
 {
     let ring = five_nodes(alloc)?;
     let clients = Clients::new(plan);
-    let closed = with_workers(rt, alloc, ring, options(), &Open, plan.threads, &clients)?;
+    let closed = run(rt, alloc, ring, &clients)?;
     let counts = Counts::of(plan, &closed.audit);
     Ok(StormDone {
         counts,
         closed,
-        handed_over: clients.handed_over(),
+        handed_over: clients.outages.handed_over(),
     })
+}
+
+// Opens a cluster on the ring, runs the clients, with faults where there are to be some, and closes
+// it.
+fn run<R: Threads + Wait + Sync>(
+    rt: &R,
+    alloc: Global,
+    ring: Ring,
+    clients: &Clients,
+) -> Result<Closed, Fault>
+    requires nodes { IsRingOf five_tokens ring }
+    ensures closed { IfOk result (λ closed. (tellings : List SessionPart)
+        × IsClosed ring 3 2 tellings closed × (length tellings ≡ clients.now.plan.threads)
+        × AreTold (as_fact (λ number telling. AreTurns (setting BrandParts ring 3 2)
+        (generator_of ((clients.now.plan.seed + number) % 2 ^ 64)) number clients.now.plan.puts
+        telling)) tellings) }
+    ensures only { IfErr result IsRunRefusal }
+{
+    let threads = clients.plan.threads;
+    if !clients.plan.faults {
+        return with_workers(rt, alloc, ring, options(), &Open, threads, clients);
+    }
+    let outages = &clients.outages;
+    with_operator(rt, alloc, ring, options(), &Open, threads, clients, outages)
 }

@@ -1,6 +1,6 @@
 use crate::carts::{CART, united};
 use crate::states::{clear, put};
-use dy_cluster::{Connection, Context, Fault, Key, Naming, NodeId, Transport, Value};
+use dy_cluster::{Cluster, Connection, Context, Fault, Key, Naming, Transport, Value};
 use std::alloc::Global;
 use std::sync::Wait;
 
@@ -18,16 +18,23 @@ pub(crate) fn visit<J: Naming, T: Transport<J>, R: Wait>(
 ) -> Result<(), Fault> {
     let cart = Key::new(alloc, CART)?;
     let (mut seen, mut none) = (Context::new(alloc), Context::new(alloc));
-    let ((first, second), node) = (ITEMS[number % 3], NodeId::nth(number % 3));
-    connection.cluster().set_up(rt, node, false);
+    let (first, second) = ITEMS[number % 3];
+    set_up(rt, connection.cluster(), number % 3, false);
     let _ = put(rt, alloc, connection, login, &mut seen, "here");
     let _ = put(rt, alloc, connection, &cart, &mut none, first);
     let _ = add(rt, alloc, connection, &cart, second);
-    connection.cluster().set_up(rt, node, true);
+    set_up(rt, connection.cluster(), number % 3, true);
     if number < 2 {
         let _ = clear(rt, alloc, connection, login, &mut seen);
     }
     Ok(())
+}
+
+/// The node goes down, or comes up, where the ring has it.
+fn set_up<J: Naming, R: Wait>(rt: &R, cluster: &Cluster<J>, number: usize, is_up: bool) {
+    if let Some(node) = cluster.node(number) {
+        cluster.set_up(rt, node, is_up);
+    }
 }
 
 /// Adds an item to the union of all carts that lie there side by side.

@@ -1,6 +1,6 @@
 use crate::shoppers::visit;
 use crate::states::{beat, clear, reconcile};
-use dy_cluster::{Client, Connection, Context, Key, Naming, NodeId, Transport};
+use dy_cluster::{Client, Connection, Context, Key, Naming, Transport};
 use std::alloc::Global;
 use std::sync::Wait;
 use std::sync::atomic::{AtomicUsize, Ordering};
@@ -47,8 +47,11 @@ impl Shop {
         alloc: Global,
         connection: &mut Connection<'_, J, T>,
     ) {
-        for number in 0..5usize {
-            let _ = connection.cluster().handoff(rt, NodeId::nth(number));
+        let cluster = connection.cluster();
+        for number in 0..usize::from(cluster.nodes()) {
+            if let Some(node) = cluster.node(number) {
+                let _ = cluster.handoff(rt, node);
+            }
         }
         for number in 0..5usize {
             if let Ok(key) = Key::new(alloc, NAMES[number].as_bytes()) {

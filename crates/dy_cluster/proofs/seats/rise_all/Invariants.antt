@@ -1,18 +1,14 @@
-use Rattle.std.proofs.Common.{◌≡◌, ◌+◌, Some, true, length, vec_capacity}
-use Rattle.std.specs.List.{All, Contains}
-use Rattle.dy_cluster.specs.Tellings.{AreSeated}
+use Rattle.std.proofs.Common.{◌≡◌, ◌+◌, true, length, vec_len, vec_capacity}
+use Rattle.dy_cluster.specs.Tellings.{AreTold, as_fact}
 use Rattle.dy_cluster.proofs.seats.rise_all.Given as goal
 
--- each session is seated or back, there is room for those that are seated, which are some of all,
--- and those that are back are each of a seat of its number, unless one is not
-abbrev pub invariant-loop-seat : goal.invariant-loop-seat
-invariant-loop-seat g l =
-    (length l.seats.items + length l.sessions.items ≡ length l.initial.seats.items)
+-- each session is seated or back, there is room for those that are seated, and those that are back
+-- were told so, unless one was not
+abbrev pub invariant-loop-lock : goal.invariant-loop-lock
+invariant-loop-lock g l =
+    (vec_len l.seats + length l.sessions.items ≡ vec_len l.initial.seats)
     × (vec_capacity l.sessions ≡ vec_capacity l.initial.sessions)
-    × All (Contains l.initial.seats.items) l.seats.items
-    × (l.are_told ≡ true → AreSeated l.initial.seats.items l.sessions.items
-    (λ seat number telling. (seat.has_run ≡ true) × (seat.number ≡ number)
-    × (seat.session ≡ Some telling)))
+    × (l.are_told ≡ true → AreTold (as_fact g.T.Telling.told) l.sessions.items)
 
-abbrev pub decreases-loop-seat : goal.decreases-loop-seat
-decreases-loop-seat g l = length l.seats.items
+abbrev pub decreases-loop-lock : goal.decreases-loop-lock
+decreases-loop-lock g l = goal.left-loop-lock g l

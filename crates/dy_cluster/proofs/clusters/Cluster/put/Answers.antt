@@ -12,11 +12,11 @@ returns-then-w-lt1-clause-ends g c =
       refl,
       refl,
       (
-        c.unlisted.result,
+        c.put_untried.result,
         refl,
-        c.unlisted.ensures.dot,
-        c.unlisted.ensures.answers,
-        c.unlisted.ensures.fault,
+        c.put_untried.ensures.dot,
+        c.put_untried.ensures.answers,
+        c.put_untried.ensures.fault,
       ),
     )
 
@@ -28,11 +28,11 @@ returns-then-self-w-clause-ends g c =
       refl,
       refl,
       (
-        c.unlisted-then-self-w.result,
+        c.put_untried-then-self-w.result,
         refl,
-        c.unlisted-then-self-w.ensures.dot,
-        c.unlisted-then-self-w.ensures.answers,
-        c.unlisted-then-self-w.ensures.fault,
+        c.put_untried-then-self-w.ensures.dot,
+        c.put_untried-then-self-w.ensures.answers,
+        c.put_untried-then-self-w.ensures.fault,
       ),
     )
 

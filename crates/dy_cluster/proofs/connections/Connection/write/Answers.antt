@@ -7,10 +7,10 @@ returns-in-Err-clause-ends g c = inr (
   refl,
   c.in-Err.ensures.err,
   (
-    c.unlisted.result,
+    c.put_untried.result,
     refl,
-    c.unlisted.ensures.dot,
-    c.unlisted.ensures.answers,
-    c.unlisted.ensures.fault ∙ c.in-Err.ensures.memory,
+    c.put_untried.ensures.dot,
+    c.put_untried.ensures.answers,
+    c.put_untried.ensures.fault ∙ c.in-Err.ensures.memory,
   ),
 )

@@ -1,5 +1,5 @@
 use Rattle.dy_cluster.specs.Settings.{setting}
-use Rattle.dy_cluster.proofs.staffing.run_staffed.Given as goal
+use Rattle.dy_cluster.proofs.staffing.run_clients.Given as goal
 
 -- the sessions are to tell what the client says
 abbrev pub ghosts-run_seated : goal.ghosts-run_seated

@@ -1,5 +1,5 @@
 use Rattle.std.proofs.Common.{◌≡◌, length}
-use Rattle.dy_cluster.proofs.staffing.posts_for.Given as goal
+use Rattle.dy_cluster.proofs.crews.mail_for.Given as goal
 
 -- as many posts are made as rounds were
 abbrev pub invariant-loop : goal.invariant-loop

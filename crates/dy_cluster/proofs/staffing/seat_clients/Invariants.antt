@@ -1,7 +1,7 @@
 use Rattle.std.proofs.Common.{◌≡◌, length}
 use Rattle.std.specs.List.{All}
 use Rattle.dy_cluster.specs.Tellings.{IsUntold}
-use Rattle.dy_cluster.proofs.embedding.seat_clients.Given as goal
+use Rattle.dy_cluster.proofs.staffing.seat_clients.Given as goal
 
 -- as many sessions are seated as rounds were made, and none was told anything
 abbrev pub invariant-loop : goal.invariant-loop

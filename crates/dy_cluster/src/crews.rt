@@ -1,0 +1,182 @@
+// The threads of clients, and of those who work beside them.
+ghost use Rattle.std.specs.Prelude.{◌≡◌, ◌↔◌, ℕ, length, IsTrue, IfOk, IsOkUnless};
+ghost use Rattle.dy_shares.specs.Shares.{SessionPart};
+ghost use Rattle.dy_cluster.specs.Settings.{setting};
+
+use crate::clusters::Cluster;
+use crate::embedding::Client;
+use crate::operators::Operator;
+use crate::seats::Place;
+use dy_dots::Fault;
+use dy_mailboxes::{Gate, Inbox, Post, Posted};
+use dy_shares::Naming;
+use std::alloc::Global;
+use std::sync::{Mutex, Wait};
+use std::thread;
+use std::thread::Threads;
+
+// The ends of the nodes' mailboxes: those that receive, a post for each client, and one more.
+#[derive(Drop)]
+pub(crate) struct Mail<J: Naming> {
+    pub inboxes: Vec<Inbox<Posted<J>>>,
+    pub posts: Vec<Post<J>>,
+    pub post: Post<J>,
+}
+
+// Those of the cluster's nodes.
+pub(crate) fn mail_for<J: Naming>(
+    alloc: Global,
+    cluster: &Cluster<J>,
+    clients: u8,
+) -> Result<Mail<J>, Fault>
+    ensures inboxes { IfOk result (λ mail. length mail.inboxes.items ≡ J.ring.nodes) }
+    ensures posts { IfOk result (λ mail. length mail.posts.items ≡ clients) }
+    ensures memory { IsOkUnless result Fault.OutOfMemory }
+{
+    let (mut post, inboxes) = cluster.post()?;
+    let mut posts = Vec::with_capacity(alloc, usize::from(clients))?;
+    for _ in 0..clients {
+        posts.push(post.try_clone()?)?;
+    }
+    Ok(Mail {
+        inboxes,
+        posts,
+        post,
+    })
+}
+
+// Starts a worker for each node, then the operator, and then the clients: none behind one that
+// could not be started. Tells whether the workers and the operator were. A message that lies in a
+// mailbox lives as long as any post does, so a client that posts to a worker which never starts
+// would wait for ever: none runs before all are started. Whoever has a post lets it go as he ends,
+// and by that the workers end.
+pub(crate) fn run_staffed<
+    J: Naming + Send + Sync,
+    S: Place<J> + Send,
+    C: Client + Sync,
+    G: Gate + Sync,
+    O: Operator + Sync,
+    R: Threads + Wait + Sync,
+>(
+    rt: &R,
+    alloc: Global,
+    cluster: &Cluster<J>,
+    gate: &G,
+    operator: Option<&O>,
+    mail: Mail<J>,
+    client: &C,
+    seats: &[Mutex<S>],
+) -> bool
+    requires tells { (number : ℕ) (telling : SessionPart) →
+        C.told (setting J J.ring J.n J.r) client.now number telling → S.told number telling }
+{
+    let Mail {
+        inboxes,
+        posts,
+        post,
+    } = mail;
+    thread::scope(
+        thread::scope_env(),
+        rt,
+        |scope|
+            requires tells { (number : ℕ) (telling : SessionPart) →
+                C.told (setting J J.ring J.n J.r) client.now number telling →
+                S.told number telling }
+        {
+            let mut started = 0usize;
+            for (number, inbox) in inboxes.into_iter().enumerate() {
+                let worker = scope.spawn(move || cluster.serve_at(rt, number, inbox, gate));
+                started = started.saturating_add(usize::from(worker.is_ok()));
+            }
+            let mut is_staffed = are_all(started, cluster.nodes());
+            if is_staffed {
+                if let Some(operator) = operator {
+                    let thread = scope.spawn(move || operate(rt, alloc, cluster, operator, post));
+                    is_staffed = thread.is_ok();
+                }
+            }
+            if is_staffed {
+                run_beside(rt, alloc, cluster, client, posts, seats);
+            }
+            if let Some(operator) = operator {
+                operator.end(rt);
+            }
+            is_staffed
+        },
+    )
+}
+
+// Whether so many threads are one for each node.
+fn are_all(started: usize, nodes: u8) -> bool
+    ensures { IsTrue result ↔ (started ≡ nodes) }
+{
+    started == usize::from(nodes)
+}
+
+// What the operator's thread does.
+fn operate<J: Naming, O: Operator, R: Wait>(
+    rt: &R,
+    alloc: Global,
+    cluster: &Cluster<J>,
+    operator: &O,
+    mut post: Post<J>,
+) {
+    operator.run(rt, alloc, cluster, &mut post);
+}
+
+// Runs the clients, each in a thread of its own, with a post where there is one for it. Where a
+// thread can't be made, its client and those behind it do not run. Ends once all that run are done.
+pub(crate) fn run_beside<
+    J: Naming + Send + Sync,
+    S: Place<J> + Send,
+    C: Client + Sync,
+    R: Threads + Wait + Sync,
+>(
+    rt: &R,
+    alloc: Global,
+    cluster: &Cluster<J>,
+    client: &C,
+    mut posts: Vec<Post<J>>,
+    seats: &[Mutex<S>],
+)
+    requires tells { (number : ℕ) (telling : SessionPart) →
+        C.told (setting J J.ring J.n J.r) client.now number telling → S.told number telling }
+{
+    thread::scope(
+        thread::scope_env(),
+        rt,
+        |scope|
+            requires tells { (number : ℕ) (telling : SessionPart) →
+                C.told (setting J J.ring J.n J.r) client.now number telling →
+                S.told number telling }
+        {
+            for seat in seats.iter() {
+                let post = posts.pop();
+                let thread = scope.spawn(
+                    move || requires tells { (number : ℕ) (telling : SessionPart) →
+                        C.told (setting J J.ring J.n J.r) client.now number telling →
+                        S.told number telling }
+                    { sit(rt, alloc, cluster, client, seat, post) },
+                );
+                if thread.is_err() {
+                    break;
+                }
+            }
+        },
+    )
+}
+
+// What a client's thread does.
+fn sit<J: Naming, S: Place<J>, C: Client, R: Wait>(
+    rt: &R,
+    alloc: Global,
+    cluster: &Cluster<J>,
+    client: &C,
+    seat: &Mutex<S>,
+    mut post: Option<Post<J>>,
+)
+    requires tells { (number : ℕ) (telling : SessionPart) →
+        C.told (setting J J.ring J.n J.r) client.now number telling → S.told number telling }
+{
+    seat.lock(rt).run(rt, alloc, cluster, client, &mut post);
+}

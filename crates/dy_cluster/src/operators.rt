@@ -1,0 +1,100 @@
+ghost use Rattle.std.specs.Prelude.{◌≡◌, ◌↔◌, ◌⊎◌, List, length, IfOk, IfErr, IsErrOf};
+ghost use Rattle.std.specs.declared.marker.Brand.{Brand as BrandParts};
+ghost use Rattle.dy_book.specs.Limits.{AreLimits, IsQuorum};
+ghost use Rattle.dy_shares.specs.Shares.{SessionPart};
+ghost use Rattle.dy_cluster.specs.Ends.{IsClosed};
+ghost use Rattle.dy_cluster.specs.Refusals.{IsRunRefusal};
+ghost use Rattle.dy_cluster.specs.Settings.{setting};
+ghost use Rattle.dy_cluster.specs.Stores.{TellsAcks, TellsStores};
+ghost use Rattle.dy_cluster.specs.Tellings.{AreTold, as_fact};
+
+use crate::clusters::Cluster;
+use crate::embedding::Client;
+use crate::openings::Opened;
+use crate::restings::Closed;
+use crate::staffing::run_clients;
+use dy_book::Options;
+use dy_dots::Fault;
+use dy_mailboxes::{Gate, Post};
+use dy_ring::Ring;
+use dy_shares::Naming;
+use std::alloc::Global;
+use std::marker::Brand;
+use std::sync::Wait;
+use std::thread::Threads;
+
+/// What one more thread does beside the clients: it lets nodes fail and come back, and makes passes.
+pub trait Operator {
+    /// Is called once, in a thread of its own, before the first client begins; not where a thread
+    /// for a worker or for it can't be had. It may wait for what clients do until `end` is called.
+    fn run<J: Naming, R: Wait>(
+        &self,
+        rt: &R,
+        alloc: Global,
+        cluster: &Cluster<J>,
+        post: &mut Post<J>,
+    );
+
+    /// Is called once, from another thread: every client has ended, or never begins. Behind it `run`
+    /// waits for none of them.
+    fn end<R: Wait>(&self, rt: &R);
+}
+
+// In the place of an operator where there is none.
+pub(crate) struct Nobody;
+
+impl Operator for Nobody {
+    fn run<J: Naming, R: Wait>(
+        &self,
+        _rt: &R,
+        _alloc: Global,
+        _cluster: &Cluster<J>,
+        _post: &mut Post<J>,
+    ) {
+    }
+
+    fn end<R: Wait>(&self, _rt: &R) {}
+}
+
+/// The same as `with_workers` beside an operator, in one more thread. Where that can't be had, no
+/// client runs, and that is told as want of memory.
+pub fn with_operator<
+    C: Client + Sync,
+    G: Gate + Sync,
+    O: Operator + Sync,
+    R: Threads + Wait + Sync,
+>(
+    rt: &R,
+    alloc: Global,
+    ring: Ring,
+    options: Options,
+    gate: &G,
+    clients: u8,
+    client: &C,
+    operator: &O,
+) -> Result<Closed, Fault>
+    ensures stores { IfOk result (TellsStores ring options.n) }
+    ensures acks { IfOk result (λ closed. (tellings : List SessionPart)
+        × TellsAcks tellings closed × (length tellings ≡ clients)
+        × AreTold (as_fact (C.told (setting BrandParts ring options.n options.r) client.now))
+        tellings) }
+    ensures closed { IfOk result (λ closed. (tellings : List SessionPart)
+        × IsClosed ring options.n options.r tellings closed × (length tellings ≡ clients)
+        × AreTold (as_fact (C.told (setting BrandParts ring options.n options.r) client.now))
+        tellings) }
+    ensures too_many { ¬ (AreLimits options) → IsErrOf result Fault.TooMany }
+    ensures bad_quorum { IsErrOf result Fault.BadQuorum
+        ↔ (AreLimits options × ¬ (IsQuorum options ring.nodes)) }
+    ensures only { IfErr result (λ fault. (fault ≡ Fault.BadQuorum) ⊎ IsRunRefusal fault) }
+{
+    let opened = Opened::new(alloc, ring, options)?;
+    run_clients::<Brand, C, G, O, R>(
+        rt,
+        alloc,
+        opened,
+        Some(gate),
+        Some(operator),
+        clients,
+        client,
+    )
+}
