@@ -1,15 +1,15 @@
 -- What a script does, from its commands to what is printed of them.
-use Rattle.std.specs.Prelude.{◌≡◌, ◌⊎◌, ◌<◌, ℕ, ◌+◌, List, [], ◌∷◌, ◌++◌, Option, Result}
+use Rattle.std.specs.Prelude.{◌≡◌, ◌⊎◌, ℕ, ◌+◌, List, [], ◌∷◌, ◌++◌, Option, Result}
 use Rattle.std.specs.Io.KnownBytes.{Appends}
 use Rattle.std.specs.declared.marker.Brand.{Brand}
 use Rattle.dy_dots.specs.declared.faults.Fault.{Fault}
-use Rattle.dy_dots.specs.declared.nodes.TheConstants.{MAX_NODES}
 use Rattle.dy_ring.specs.Rings.{Tokens}
 use Rattle.dy_script.specs.Orders.{CommandParts, WriteParts, written, puts, deletes, gets}
 use Rattle.dy_script.specs.Orders.{downs, ups, sets_mode, delivers, hands_off, shows}
 use Rattle.dy_script.specs.Reading.{ScriptParts}
 use Rattle.dy_shares.specs.Shares.{SessionPart}
 use Rattle.dy_cluster.specs.Ends.{IsClosed}
+use Rattle.dy_cluster.specs.Named.{IsNodeOf}
 use Rattle.dy_cluster.specs.Settings.{Setting, setting}
 use Rattle.dy_cluster.specs.declared.restings.Closed.{Closed}
 use Rattle.dy_lines.specs.Outcomes.{command_text}
@@ -74,19 +74,19 @@ DoesDelete s w (written key context session own) outcome before after =
     × IsWrite s session (given_or w own) word.Delete judged outcome before after
 
 -- what a command did to a node
-abbrev pub DoesAt : Word → ℕ → Outcome → Seated → Seated → Type 0
-DoesAt word node outcome before after =
-    (node < MAX_NODES → outcome ≡ Done word) × IsApart before after
+abbrev pub DoesAt : Setting → Word → ℕ → Outcome → Seated → Seated → Type 0
+DoesAt s word node outcome before after =
+    (IsNodeOf s.ring node → outcome ≡ Done word) × IsApart before after
 
 -- what a command did, and what came of it
 abbrev pub Does : Setting → ℕ → CommandParts → Outcome → Seated → Seated → Type 0
 Does s w (puts write value) outcome before after = DoesPut s w write value outcome before after
 Does s w (deletes write) outcome before after = DoesDelete s w write outcome before after
 Does s w (gets key session) outcome before after = IsGet s session key outcome before after
-Does s w (downs node) outcome before after = DoesAt word.Down node outcome before after
-Does s w (ups node) outcome before after = DoesAt word.Up node outcome before after
+Does s w (downs node) outcome before after = DoesAt s word.Down node outcome before after
+Does s w (ups node) outcome before after = DoesAt s word.Up node outcome before after
 Does s w (sets_mode node mode) outcome before after =
-    DoesAt word.SetMode node outcome before after
+    DoesAt s word.SetMode node outcome before after
 Does s w (delivers node) outcome before after = IsDeliveryTold outcome × IsApart before after
 Does s w (hands_off node) outcome before after =
     IsPassTold s.book node outcome × IsApart before after

@@ -1,8 +1,7 @@
 // What a command does at one node.
-ghost use Rattle.std.specs.Prelude.{◌≡◌, ◌<◌, ◌↔◌, None, IfOk, IsOkUnless, IfSome, IsSome};
-ghost use Rattle.std.specs.Prelude.{List, map, ℕ, string_bytes};
-ghost use Rattle.dy_dots.specs.declared.nodes.TheConstants.{MAX_NODES};
+ghost use Rattle.std.specs.Prelude.{◌≡◌, None, IfOk, IsOkUnless, List, map, ℕ};
 ghost use Rattle.dy_siblings.specs.Siblings.{Siblings};
+ghost use Rattle.dy_cluster.specs.Named.{IsNodeOf};
 ghost use Rattle.dy_cluster.specs.Shows.{IsShow};
 ghost use Rattle.dy_runner.specs.Answers.{IsDeliveryTold, IsPassTold, IsShowTold};
 ghost use Rattle.dy_runner.specs.Answers.{delivery_outcome, kept_row, pass_outcome};
@@ -20,17 +19,6 @@ use dy_siblings::Key;
 use std::alloc::Global;
 use std::sync::Wait;
 
-// The node of this number. A script that was read names nodes of its ring alone.
-fn node_of(number: usize) -> Option<NodeId>
-    ensures some { IsSome result ↔ (number < MAX_NODES) }
-    ensures value { IfSome result (λ node. node ≡ number) }
-{
-    match u8::try_from(number) {
-        Ok(number) => NodeId::new(number),
-        Err(_) => None,
-    }
-}
-
 /// Takes the node down, or brings it up.
 pub(crate) fn run_set_up<J: Naming, R: Wait>(
     rt: &R,
@@ -39,9 +27,9 @@ pub(crate) fn run_set_up<J: Naming, R: Wait>(
     number: usize,
     is_up: bool,
 ) -> Outcome
-    ensures { number < MAX_NODES → result ≡ Outcome.Done word }
+    ensures { IsNodeOf J.ring number → result ≡ Outcome.Done word }
 {
-    match node_of(number) {
+    match cluster.node(number) {
         Some(node) => {
             cluster.set_up(rt, node, is_up);
             Outcome::Done { word }
@@ -57,9 +45,9 @@ pub(crate) fn run_set_mode<J: Naming, R: Wait>(
     number: usize,
     mode: Mode,
 ) -> Outcome
-    ensures { number < MAX_NODES → result ≡ Outcome.Done Word.SetMode }
+    ensures { IsNodeOf J.ring number → result ≡ Outcome.Done Word.SetMode }
 {
-    match node_of(number) {
+    match cluster.node(number) {
         Some(node) => {
             cluster.fault(rt, node, mode_of(mode));
             Outcome::Done {
@@ -78,7 +66,7 @@ pub(crate) fn run_deliver<J: Naming, R: Wait>(
 ) -> Outcome
     ensures { IsDeliveryTold result }
 {
-    match node_of(number) {
+    match cluster.node(number) {
         Some(node) => delivered(cluster.deliver(rt, node)),
         None => refused(Word::Deliver, Fault::Down),
     }
@@ -102,7 +90,7 @@ pub(crate) fn run_handoff<J: Naming, R: Wait>(
 ) -> Outcome
     ensures { IsPassTold J number result }
 {
-    match node_of(number) {
+    match cluster.node(number) {
         Some(node) => handed_over(cluster.handoff(rt, node)),
         None => refused(Word::Handoff, Fault::Down),
     }
@@ -132,7 +120,7 @@ pub(crate) fn run_show<J: Naming, R: Wait>(
 ) -> Outcome
     ensures { IsShowTold number key.now result }
 {
-    let Some(node) = node_of(number) else {
+    let Some(node) = cluster.node(number) else {
         return refused(Word::Show, Fault::Down);
     };
     match shown(rt, alloc, cluster, node, key) {
