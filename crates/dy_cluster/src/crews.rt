@@ -8,7 +8,7 @@ use crate::embedding::Client;
 use crate::operators::Operator;
 use crate::seats::Place;
 use dy_dots::Fault;
-use dy_mailboxes::{Gate, Inbox, Post, Posted};
+use dy_mailboxes::{Gate, Inbox, Post};
 use dy_shares::Naming;
 use std::alloc::Global;
 use std::sync::{Mutex, Wait};
@@ -18,7 +18,7 @@ use std::thread::Threads;
 // The ends of the nodes' mailboxes: those that receive, a post for each client, and one more.
 #[derive(Drop)]
 pub(crate) struct Mail<J: Naming> {
-    pub inboxes: Vec<Inbox<Posted<J>>>,
+    pub inboxes: Vec<Inbox<J>>,
     pub posts: Vec<Post<J>>,
     pub post: Post<J>,
 }
@@ -84,8 +84,8 @@ pub(crate) fn run_staffed<
                 S.told number telling }
         {
             let mut started = 0usize;
-            for (number, inbox) in inboxes.into_iter().enumerate() {
-                let worker = scope.spawn(move || cluster.serve_at(rt, number, inbox, gate));
+            for inbox in inboxes {
+                let worker = scope.spawn(move || cluster.serve(rt, inbox, gate));
                 started = started.saturating_add(usize::from(worker.is_ok()));
             }
             let mut is_staffed = are_all(started, cluster.nodes());

@@ -1,11 +1,12 @@
 // Mailboxes before the nodes, transports over them, and the workers behind.
 ghost use Rattle.std.specs.Prelude.{◌≡◌, length, IfOk, IsOkUnless};
+ghost use Rattle.std.specs.List.{range_with_len};
 ghost use Rattle.dy_dots.specs.declared.nodes.TheConstants.{MAX_NODES};
 ghost use Rattle.dy_transport.specs.Told.{nothing_told};
 
 use crate::clusters::Cluster;
-use dy_dots::{Fault, MAX_NODES, NodeId};
-use dy_mailboxes::{Gate, Inbox, Mailboxes, Post, Posted, serve};
+use dy_dots::{Fault, MAX_NODES};
+use dy_mailboxes::{Gate, Inbox, Mailboxes, Post, serve};
 use dy_shares::Naming;
 use std::sync::Wait;
 
@@ -14,9 +15,10 @@ impl<J: Naming> Cluster<J> {
     /// nodes' numbers. The mailboxes close when every post is dropped. Whoever lets a post go
     /// before each node's worker has started may wait for ever: a message that lies in a mailbox
     /// lives as long as any post does.
-    pub fn post(&self) -> Result<(Post<J>, Vec<Inbox<Posted<J>>>), Fault>
+    pub fn post(&self) -> Result<(Post<J>, Vec<Inbox<J>>), Fault>
         ensures post { IfOk result (λ p. p.0 ≡ J.ring.nodes) }
         ensures inboxes { IfOk result (λ p. length p.1.items ≡ J.ring.nodes) }
+        ensures order { IfOk result (λ p. p.1.items ≡ range_with_len 0 J.ring.nodes) }
         ensures memory { IsOkUnless result Fault.OutOfMemory }
     {
         Post::new(self.alloc, self.ring.nodes())
@@ -39,22 +41,9 @@ impl<J: Naming> Cluster<J> {
         )
     }
 
-    /// A worker of the node: answers what comes to its mailbox until every post is dropped. A node
-    /// that the ring has not answers nothing. May wait for asks and for locks.
-    pub fn serve<G: Gate, R: Wait>(&self, rt: &R, node: NodeId, inbox: Inbox<Posted<J>>, gate: &G) {
-        self.serve_at(rt, usize::from(node.number()), inbox, gate);
-    }
-
-    // A worker of the node at this place.
-    pub(crate) fn serve_at<G: Gate, R: Wait>(
-        &self,
-        rt: &R,
-        place: usize,
-        mut inbox: Inbox<Posted<J>>,
-        gate: &G,
-    ) {
-        if let Some(lock) = self.nodes.get(place) {
-            serve(rt, lock, &self.book, &mut inbox, gate);
-        }
+    /// A worker of the node whose inbox it is: answers what comes to its mailbox until every post is
+    /// dropped. May wait for asks and for locks.
+    pub fn serve<G: Gate, R: Wait>(&self, rt: &R, inbox: Inbox<J>, gate: &G) {
+        serve(rt, self.nodes.as_slice(), &self.book, inbox, gate);
     }
 }

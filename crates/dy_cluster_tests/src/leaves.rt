@@ -59,10 +59,9 @@ fn put_beside<J: Naming + Send + Sync, R: Threads + Wait + Sync>(
 ) -> Result<String, Fault> {
     let (post, inboxes) = cluster.post()?;
     thread::scope(thread::scope_env(), rt, |scope| {
-        for (number, inbox) in inboxes.into_iter().enumerate() {
-            let node = NodeId::nth(number % 5);
+        for inbox in inboxes {
             if scope
-                .spawn(move || cluster.serve(rt, node, inbox, &Open))
+                .spawn(move || cluster.serve(rt, inbox, &Open))
                 .is_err()
             {
                 return Err(Fault::OutOfMemory);
