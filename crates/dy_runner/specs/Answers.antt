@@ -5,7 +5,7 @@ use Rattle.std.specs.declared.alloc.Global.{Global}
 use Rattle.std.specs.declared.vec.Vec.{Vec}
 use Rattle.dy_dots.specs.Dots.{DotSet}
 use Rattle.dy_dots.specs.declared.faults.Fault.{Fault}
-use Rattle.dy_dots.specs.declared.faults.Fault.TheVariants.{Down, NotEnough, OutOfMemory}
+use Rattle.dy_dots.specs.declared.faults.Fault.TheVariants.{Down, NotEnough, OutOfMemory, TooMany}
 use Rattle.dy_dots.specs.declared.nodes.TheConstants.{MAX_NODES}
 use Rattle.dy_siblings.specs.Siblings.{Siblings, own_dots}
 use Rattle.dy_preference.specs.Preferences.{Preferred}
@@ -128,4 +128,5 @@ pub record IsGetTold (J : Type 0) (list : Preferred) (r : ℕ) (key : List ℕ) 
 -- there was no room for the session, so nobody was tried
 abbrev pub IsUnseated : Word → Outcome → List SessionPart → List SessionPart → Type 0
 IsUnseated word outcome before after =
-    (after ≡ before) × ((f : Fault) × (outcome ≡ Refused word f None))
+    (after ≡ before)
+    × ((f : Fault) × ((f ≡ OutOfMemory) ⊎ (f ≡ TooMany)) × (outcome ≡ Refused word f None))

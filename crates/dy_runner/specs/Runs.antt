@@ -1,5 +1,5 @@
 -- What a script does, from its commands to what is printed of them.
-use Rattle.std.specs.Prelude.{◌≡◌, ◌⊎◌, ℕ, ◌+◌, List, [], ◌∷◌, ◌++◌, Option, Result}
+use Rattle.std.specs.Prelude.{◌≡◌, ◌⊎◌, ◌<◌, ℕ, ◌+◌, Bool, false, List, [], ◌∷◌, ◌++◌, Option, Result}
 use Rattle.std.specs.Io.KnownBytes.{Appends}
 use Rattle.std.specs.declared.marker.Brand.{Brand}
 use Rattle.dy_dots.specs.declared.faults.Fault.{Fault}
@@ -18,44 +18,51 @@ use Rattle.dy_lines.specs.declared.outcomes.Outcome.{Outcome}
 use Rattle.dy_lines.specs.declared.outcomes.Outcome.TheVariants.{Done}
 use Rattle.dy_lines.specs.declared.outcomes.Word.{Word}
 use Rattle.dy_lines.specs.declared.outcomes.Word.TheVariants as word
-use Rattle.dy_runner.specs.Answers.{IsDeliveryTold, IsPassTold, IsShowTold, IsUnseated}
+use Rattle.dy_runner.specs.Answers.{IsDeliveryTold, IsPassTold, IsShowTold}
 use Rattle.dy_runner.specs.AuditLines.{audit_lines}
 use Rattle.dy_runner.specs.Openings.{given_or}
 use Rattle.dy_runner.specs.RingLines.{IsLaidOut}
-use Rattle.dy_runner.specs.Seats.{IsToldAt, IsOpened, seat_of}
-use Rattle.dy_runner.specs.Texts.{IsDeleteJudged, IsPutJudged}
-use Rattle.dy_runner.specs.Writes.{IsRead, RunsJudged}
+use Rattle.dy_runner.specs.Seats.{IsOpenUnless, IsOpened, seat_of}
+use Rattle.dy_runner.specs.Texts.{IsDeleteJudged, IsKeyJudged, IsPutJudged}
+use Rattle.dy_runner.specs.Writes.{ReadsJudged, RunsJudged}
 use Rattle.dy_runner.specs.declared.givens.Given.{Given}
 use Rattle.dy_runner.specs.declared.seats.Seats.{Seats}
 
--- the sessions of a script, in the order of their opening: their numbers, and what each was told
+-- the sessions of a script, in the order of their opening: their numbers, and what each was told;
+-- and whether the one that was asked for last could not be opened
 pub record Seated : Type 0 where
   pub numbers : List ℕ
   pub tellings : List SessionPart
+  pub refused : Bool
 
 -- no session is opened yet
 abbrev pub none_seated : Seated
-none_seated = record { numbers = []; tellings = [] }
+none_seated = record { numbers = []; tellings = []; refused = false }
 
 -- what was judged so was written in the session of this number, in a cluster of this setting; the
--- session was opened if it was not there
+-- session was opened if it was not there, or could not be opened
 pub record IsWrite (s : Setting) (number w : ℕ) (word : Word) (judged : Result Given Fault)
     (outcome : Outcome) (before after : Seated) : Type 0 where
   pub opened : IsOpened number before.numbers after.numbers
+  pub is_open : IsOpenUnless after.refused number after.numbers
   pub told : RunsJudged s.book s.ring s.n (seat_of number after.numbers) w word outcome
       before.tellings after.tellings judged
 
--- the key was read in the session of this number
+-- the key was judged, and read in the session of this number; the session was opened if it was
+-- not there, or could not be opened
 pub record IsGet (s : Setting) (number : ℕ) (key : List ℕ) (outcome : Outcome)
     (before after : Seated) : Type 0 where
   pub opened : IsOpened number before.numbers after.numbers
-  pub told : IsToldAt (seat_of number after.numbers) before.tellings after.tellings
-      (IsRead s.book s.ring s.n s.r key outcome)
-      ⊎ IsUnseated word.Get outcome before.tellings after.tellings
+  pub is_open : IsOpenUnless after.refused number after.numbers
+  pub judged : Result (List ℕ) Fault
+  pub judged_is : IsKeyJudged key judged
+  pub told : ReadsJudged s.book s.ring s.n s.r (seat_of number after.numbers) key outcome
+      before.tellings after.tellings judged
 
 -- the sessions on these seats
 abbrev pub seated : Seats → List SessionPart → Seated
-seated seats tellings = record { numbers = seats.numbers.items; tellings = tellings }
+seated seats tellings =
+    record { numbers = seats.numbers.items; tellings = tellings; refused = seats.refused }
 
 -- no session was opened, and none was told anything
 abbrev pub IsApart : Seated → Seated → Type 0
@@ -113,8 +120,9 @@ pub record HasRun (s : Setting) (script : ScriptParts) (tellings : List SessionP
     (before after : Option (List ℕ)) : Type 0 where
   pub outcomes : List Outcome
   pub numbers : List ℕ
+  pub refused : Bool
   pub done : DoAll s script.w script.run outcomes none_seated
-      (record { numbers = numbers; tellings = tellings })
+      (record { numbers = numbers; tellings = tellings; refused = refused })
   pub wrote : Appends before after (lines_from 1 outcomes)
 
 -- what was written is a line for what came of each command of the script, in their order, on a

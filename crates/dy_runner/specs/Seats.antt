@@ -1,5 +1,6 @@
 -- Which session of a script lies where among those that a cluster opened.
-use Rattle.std.specs.Prelude.{◌≡◌, ◌==◌, ◌++◌, ◌∷◌, ◌⊎◌, [], ℕ, List, Some, length}
+use Rattle.std.specs.Prelude.{◌≡◌, ◌==◌, ◌<◌, ◌++◌, ◌∷◌, ◌⊎◌, [], ℕ, Bool, true, List, Some}
+use Rattle.std.specs.Prelude.{length}
 use Rattle.std.specs.Prelude.{slice_get, slice_set}
 use Rattle.std.specs.List.{position_or_len}
 use Rattle.dy_shares.specs.Shares.{SessionPart}
@@ -7,6 +8,14 @@ use Rattle.dy_shares.specs.Shares.{SessionPart}
 -- where the session of this number is among those opened, or where it is to be opened
 abbrev pub seat_of : ℕ → List ℕ → ℕ
 seat_of number numbers = position_or_len (λ n. n == number) numbers
+
+-- the session of this number is open: it has a place
+abbrev pub IsOpen : ℕ → List ℕ → Type 0
+IsOpen number numbers = seat_of number numbers < length numbers
+
+-- it is, or it could not be opened
+abbrev pub IsOpenUnless : Bool → ℕ → List ℕ → Type 0
+IsOpenUnless refused number numbers = IsOpen number numbers ⊎ (refused ≡ true)
 
 -- the numbers of the sessions that are opened are those that were, or this one behind them, which
 -- was not among them

@@ -43,3 +43,9 @@ pub record IsDeleteJudged (key : List ℕ) (context : Option (List ℕ))
     (judged : Result Given Fault) : Type 0 where
   pub ok : IfOk judged (IsGiven key context None)
   pub only : IfErr judged (IsGivenRefused key context)
+
+-- how the key of a get is judged: by its size
+pub record IsKeyJudged (key : List ℕ) (judged : Result (List ℕ) Fault) : Type 0 where
+  pub ok : IfOk judged (λ k. k ≡ key)
+  pub size : IsErrOf judged KeySize ↔ (IsKey key → ⊥)
+  pub only : IfErr judged (λ f. (f ≡ KeySize) ⊎ (f ≡ OutOfMemory))

@@ -6,9 +6,10 @@ use Rattle.dy_shares.specs.Shares.{SessionPart}
 use Rattle.dy_cluster.specs.Lists.{list_of}
 use Rattle.dy_lines.specs.declared.outcomes.Outcome.{Outcome}
 use Rattle.dy_lines.specs.declared.outcomes.Word.{Word}
+use Rattle.dy_lines.specs.declared.outcomes.Word.TheVariants as word
 use Rattle.dy_lines.specs.declared.outcomes.Outcome.TheVariants.{Refused}
 use Rattle.dy_runner.specs.Answers.{IsGetTold, IsPutTold, IsUnseated}
-use Rattle.dy_runner.specs.Seats.{IsToldAt}
+use Rattle.dy_runner.specs.Seats.{IsSeated, IsToldAt}
 use Rattle.dy_runner.specs.declared.givens.Given.{Given}
 
 -- the outcome tells a put of what is given, for the key's own list
@@ -25,17 +26,29 @@ WritesAt J ring n place w g word outcome before after =
     IsToldAt place before after (IsWritten J ring n w g word outcome)
     ⊎ IsUnseated word outcome before after
 
--- what was judged so was written at this place, or its refusal is told and nobody was asked
+-- what was judged so was written at this place; or its refusal is told, whether or not there was
+-- room for the session, and nobody was asked
 abbrev pub RunsJudged :
     Type 0 → Tokens → ℕ → ℕ → ℕ → Word → Outcome → List SessionPart → List SessionPart
     → Result Given Fault → Type 0
 RunsJudged J ring n place w word outcome before after (Ok g) =
     WritesAt J ring n place w g word outcome before after
 RunsJudged J ring n place w word outcome before after (Err f) =
-    (after ≡ before) × (outcome ≡ Refused word f None)
+    IsSeated before after × (outcome ≡ Refused word f None)
 
 -- the outcome tells a get of the key, for its own list
 abbrev pub IsRead :
     Type 0 → Tokens → ℕ → ℕ → List ℕ → Outcome → SessionPart → SessionPart → Type 0
 IsRead J ring n r key outcome before after =
     IsGetTold J (list_of ring n key) r key outcome before after
+
+-- the session at this place read the key that was judged so, or there was no room for it; or the
+-- key's refusal is told, whether or not there was room, and nobody was asked
+abbrev pub ReadsJudged :
+    Type 0 → Tokens → ℕ → ℕ → ℕ → List ℕ → Outcome → List SessionPart → List SessionPart
+    → Result (List ℕ) Fault → Type 0
+ReadsJudged J ring n r place key outcome before after (Ok k) =
+    IsToldAt place before after (IsRead J ring n r key outcome)
+    ⊎ IsUnseated word.Get outcome before after
+ReadsJudged J ring n r place key outcome before after (Err f) =
+    IsSeated before after × (outcome ≡ Refused word.Get f None)

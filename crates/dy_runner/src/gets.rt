@@ -1,13 +1,14 @@
-ghost use Rattle.std.specs.Prelude.{◌≡◌, ◌⊎◌, length, IfOk, IsOk, IsOkUnless};
+ghost use Rattle.std.specs.Prelude.{◌≡◌, ℕ, List, Result, length, IfOk, IsOk, IsOkUnless};
 ghost use Rattle.dy_dots.specs.declared.nodes.TheConstants.{MAX_NODES};
 ghost use Rattle.dy_reads.specs.Lists.{homes_in};
 ghost use Rattle.dy_repair.specs.Stales.{AreCurrent};
 ghost use Rattle.dy_cluster.specs.Connections.{IsMended};
 ghost use Rattle.dy_cluster.specs.Lists.{list_of};
-ghost use Rattle.dy_lines.specs.declared.outcomes.Word.TheVariants as word;
-ghost use Rattle.dy_runner.specs.Answers.{IsUnseated, TellsGet};
-ghost use Rattle.dy_runner.specs.Seats.{IsOpened, IsToldAt, seat_of};
-ghost use Rattle.dy_runner.specs.Writes.{IsRead};
+ghost use Rattle.dy_dots.specs.declared.faults.Fault.{Fault as FaultParts};
+ghost use Rattle.dy_runner.specs.Answers.{TellsGet};
+ghost use Rattle.dy_runner.specs.Seats.{IsOpenUnless, IsOpened, seat_of};
+ghost use Rattle.dy_runner.specs.Texts.{IsKeyJudged};
+ghost use Rattle.dy_runner.specs.Writes.{IsRead, ReadsJudged};
 
 use crate::renewals::renew;
 use crate::seats::Seats;
@@ -23,7 +24,8 @@ use dy_transport::Direct;
 use std::alloc::Global;
 use std::sync::Wait;
 
-/// Gets the key in the session of this number, and repairs what was found stale.
+/// Gets the key in the session of this number, which is opened even where the key is refused, and
+/// repairs what was found stale.
 pub(crate) fn run_get<J: Naming, R: Wait>(
     rt: &R,
     alloc: Global,
@@ -39,19 +41,20 @@ pub(crate) fn run_get<J: Naming, R: Wait>(
     ensures room { direct.new.room ≡ MAX_NODES }
     ensures together { length seats.new.numbers.items ≡ length sessions.new.items }
     ensures opened { IsOpened number seats.old.numbers.items seats.new.numbers.items }
-    ensures told { IsToldAt (seat_of number seats.new.numbers.items)
-        sessions.old.items sessions.new.items (IsRead J J.ring J.n J.r key.now result)
-        ⊎ IsUnseated word.Get result sessions.old.items sessions.new.items }
+    ensures is_open { IsOpenUnless seats.new.refused number seats.new.numbers.items }
+    ensures told { (judged : Result (List ℕ) FaultParts) × IsKeyJudged key.now judged
+        × ReadsJudged J J.ring J.n J.r (seat_of number seats.new.numbers.items) key.now result
+        sessions.old.items sessions.new.items judged }
 {
+    let place = seats.place_of(rt, cluster, sessions, number);
     let key = match Key::new(alloc, key.as_bytes()) {
         Ok(key) => key,
         Err(fault) => return refused(Word::Get, fault),
     };
-    let place = match seats.place_of(rt, cluster, sessions, number) {
-        Ok(place) => place,
-        Err(fault) => return refused(Word::Get, fault),
-    };
-    get_in(rt, cluster, direct, &mut sessions[place], &key)
+    match place {
+        Ok(place) => get_in(rt, cluster, direct, &mut sessions[place], &key),
+        Err(fault) => refused(Word::Get, fault),
+    }
 }
 
 // Gets in this session, and mends what was found stale. What comes of that changes nothing in the

@@ -4,9 +4,9 @@ ghost use Rattle.dy_dots.specs.declared.nodes.TheConstants.{MAX_NODES};
 ghost use Rattle.dy_lines.specs.declared.outcomes.Word.TheVariants as word;
 ghost use Rattle.dy_runner.specs.Answers.{TellsPut};
 ghost use Rattle.dy_runner.specs.Openings.{given_or};
-ghost use Rattle.dy_runner.specs.Seats.{IsOpened, seat_of};
+ghost use Rattle.dy_runner.specs.Seats.{IsOpenUnless, IsOpened, seat_of};
 ghost use Rattle.dy_runner.specs.Texts.{IsDeleteJudged, IsPutJudged};
-ghost use Rattle.dy_runner.specs.Writes.{IsWritten, RunsJudged, WritesAt};
+ghost use Rattle.dy_runner.specs.Writes.{IsWritten, RunsJudged};
 ghost use Rattle.dy_runner.specs.declared.givens.Given.{Given as GivenParts};
 
 use crate::givens::{Given, read_delete, read_put};
@@ -22,7 +22,7 @@ use dy_transport::Direct;
 use std::alloc::Global;
 use std::sync::Wait;
 
-/// Puts the value in the session that is named.
+/// Puts the value in the session that is named, which is opened even where the texts are refused.
 pub(crate) fn run_put<J: Naming, R: Wait>(
     rt: &R,
     alloc: Global,
@@ -39,6 +39,7 @@ pub(crate) fn run_put<J: Naming, R: Wait>(
     ensures room { direct.new.room ≡ MAX_NODES }
     ensures together { length seats.new.numbers.items ≡ length sessions.new.items }
     ensures opened { IsOpened write.now.session seats.old.numbers.items seats.new.numbers.items }
+    ensures is_open { IsOpenUnless seats.new.refused write.now.session seats.new.numbers.items }
     ensures told { (judged : Result GivenParts FaultParts)
         × IsPutJudged (string_bytes write.now.key)
         (option_map string_bytes write.now.context) value.now judged
@@ -47,18 +48,27 @@ pub(crate) fn run_put<J: Naming, R: Wait>(
         (given_or w write.now.w) word.Put result
         sessions.old.items sessions.new.items judged }
 {
-    match read_put(alloc, write, value) {
-        Ok(given) => {
-            let number = write.session;
-            let w = write.w.unwrap_or(w);
-            let word = Word::Put;
-            run_write(rt, cluster, direct, seats, sessions, number, w, word, given)
-        }
+    let place = seats.place_of(rt, cluster, sessions, write.session);
+    let given = match read_put(alloc, write, value) {
+        Ok(given) => given,
+        Err(fault) => return refused(Word::Put, fault),
+    };
+    let w = write.w.unwrap_or(w);
+    match place {
+        Ok(place) => write_in(
+            rt,
+            cluster,
+            direct,
+            &mut sessions[place],
+            w,
+            Word::Put,
+            given,
+        ),
         Err(fault) => refused(Word::Put, fault),
     }
 }
 
-/// Deletes the key in the session that is named.
+/// Deletes the key in the session that is named, which is opened even where the texts are refused.
 pub(crate) fn run_delete<J: Naming, R: Wait>(
     rt: &R,
     alloc: Global,
@@ -74,6 +84,7 @@ pub(crate) fn run_delete<J: Naming, R: Wait>(
     ensures room { direct.new.room ≡ MAX_NODES }
     ensures together { length seats.new.numbers.items ≡ length sessions.new.items }
     ensures opened { IsOpened write.now.session seats.old.numbers.items seats.new.numbers.items }
+    ensures is_open { IsOpenUnless seats.new.refused write.now.session seats.new.numbers.items }
     ensures told { (judged : Result GivenParts FaultParts)
         × IsDeleteJudged (string_bytes write.now.key)
         (option_map string_bytes write.now.context) judged
@@ -82,42 +93,18 @@ pub(crate) fn run_delete<J: Naming, R: Wait>(
         (given_or w write.now.w) word.Delete result
         sessions.old.items sessions.new.items judged }
 {
-    match read_delete(alloc, write) {
-        Ok(given) => {
-            let number = write.session;
-            let w = write.w.unwrap_or(w);
-            let word = Word::Delete;
-            run_write(rt, cluster, direct, seats, sessions, number, w, word, given)
-        }
-        Err(fault) => refused(Word::Delete, fault),
-    }
-}
-
-// Puts what is given in the session of this number.
-fn run_write<J: Naming, R: Wait>(
-    rt: &R,
-    cluster: &Cluster<J>,
-    direct: &mut Direct<'_, J>,
-    seats: &mut Seats,
-    sessions: &mut Vec<Session<J>>,
-    number: u8,
-    w: u8,
-    word: Word,
-    given: Given,
-) -> Outcome
-    requires room { direct.old.room ≡ MAX_NODES }
-    requires together { length seats.old.numbers.items ≡ length sessions.old.items }
-    ensures room { direct.new.room ≡ MAX_NODES }
-    ensures together { length seats.new.numbers.items ≡ length sessions.new.items }
-    ensures opened { IsOpened number seats.old.numbers.items seats.new.numbers.items }
-    ensures told { WritesAt J J.ring J.n (seat_of number seats.new.numbers.items)
-        w given word result sessions.old.items sessions.new.items }
-{
-    let place = match seats.place_of(rt, cluster, sessions, number) {
-        Ok(place) => place,
-        Err(fault) => return refused(word, fault),
+    let number = write.session;
+    let place = seats.place_of(rt, cluster, sessions, number);
+    let given = match read_delete(alloc, write) {
+        Ok(given) => given,
+        Err(fault) => return refused(Word::Delete, fault),
     };
-    write_in(rt, cluster, direct, &mut sessions[place], w, word, given)
+    let w = write.w.unwrap_or(w);
+    let word = Word::Delete;
+    match place {
+        Ok(place) => write_in(rt, cluster, direct, &mut sessions[place], w, word, given),
+        Err(fault) => refused(word, fault),
+    }
 }
 
 // Puts in this session.

@@ -17,7 +17,11 @@ returns-clause-run g c =
     let closed = c.in_ok-closed.closed in
     let told = c.in_ok-closed.ensures in
     let run = told.2 in
-    let sessions : Seated = record { numbers = run.numbers; tellings = told.0 } in
+    let sessions : Seated = record {
+      numbers = run.numbers;
+      tellings = told.0;
+      refused = run.refused;
+    } in
     let asked = c.in_ok-options.ensures.ok in (
       lines_from 1 run.outcomes ++ audit_lines script.w script.settled closed.audit,
       record {
