@@ -1,9 +1,12 @@
-ghost use Rattle.std.specs.Prelude.{◌≤◌, IfErr};
+ghost use Rattle.std.specs.Prelude.{◌≡◌, ◌≤◌, IfErr, IfOk, IfSome, map, string_bytes};
+ghost use Rattle.dy_cli.specs.Words.{IsStormOf};
+ghost use Rattle.dy_cli.specs.declared.jobs.Job.TheVariants as Job;
+ghost use Rattle.dy_storm.specs.declared.plans.Storm.{Storm as StormPlan};
 
 use crate::jobs::Job;
+use crate::numbers::storm_of;
 use clap::error::ErrorKind;
 use clap::{Arg, ArgAction, ArgMatches, Command, Error};
-use dy_storm::Storm;
 use std::alloc::{AllocError, Global};
 use std::io;
 
@@ -28,10 +31,12 @@ Scripts and lines: docs/FORMATS.md. Refusals, and what to do: docs/REFUSALS.md."
 
 /// The job that the words after the program's name ask for, or the status to end with.
 pub fn words(alloc: Global, words: &[String]) -> Result<Job, u8>
-    ensures { IfErr result (λ status. (1 ≤ status) × (status ≤ 2)) }
+    ensures status { IfErr result (λ status. (1 ≤ status) × (status ≤ 2)) }
+    ensures storm { IfOk result (λ job. (storm : StormPlan) → job ≡ Job.Storm storm →
+        IsStormOf (map string_bytes words.now) storm) }
 {
     match matches_of(alloc, words) {
-        Ok(matches) => match job_of(alloc, &matches) {
+        Ok(matches) => match job_of(alloc, words, &matches) {
             Ok(Some(job)) => Ok(job),
             Ok(None) => Err(2),
             Err(_) => Err(1),
@@ -46,20 +51,23 @@ pub fn words(alloc: Global, words: &[String]) -> Result<Job, u8>
 /// Prints how to use the program, where the words ask for it or ask for no job.
 pub fn explain<R: Print + Eprint>(rt: &R, alloc: Global, words: &[String]) -> io::Result<()> {
     match matches_of(alloc, words) {
-        Ok(_) => Ok(()),
+        Ok(_) => eprintln!(rt; "error: SEED, THREADS and PUTS are words of digits alone"),
         Err(error) => error.print(rt),
     }
 }
 
-/// The job that the matches name.
-fn job_of(alloc: Global, matches: &ArgMatches) -> Result<Option<Job>, AllocError> {
+/// The job that the matches of the words name.
+fn job_of(alloc: Global, words: &[String], matches: &ArgMatches) -> Result<Option<Job>, AllocError>
+    ensures { IfOk result (λ found. IfSome found (λ job. (storm : StormPlan) →
+        job ≡ Job.Storm storm → IsStormOf (map string_bytes words.now) storm)) }
+{
     let Some((name, inner)) = matches.subcommand() else {
         return Ok(None);
     };
     Ok(match name {
         "run" => file_of(alloc, inner)?.map(|file| Job::Run(file)),
         "ring" => file_of(alloc, inner)?.map(|file| Job::Ring(file)),
-        "storm" => storm_of(inner).map(|plan| Job::Storm(plan)),
+        "storm" => storm_of(words, inner.get_flag("faults")).map(|plan| Job::Storm(plan)),
         _ => None,
     })
 }
@@ -70,16 +78,6 @@ fn file_of(alloc: Global, matches: &ArgMatches) -> Result<Option<String>, AllocE
         Some(file) => Ok(Some(String::from_str(alloc, file)?)),
         None => Ok(None),
     }
-}
-
-/// The storm that the matches say.
-fn storm_of(matches: &ArgMatches) -> Option<Storm> {
-    Some(Storm {
-        seed: matches.get_one::<u64>("seed")?,
-        threads: matches.get_one::<u8>("threads")?,
-        puts: matches.get_one::<u32>("puts")?,
-        faults: matches.get_flag("faults"),
-    })
 }
 
 /// What clap makes of the words.

@@ -4,6 +4,7 @@
 
 mod command_lines;
 mod jobs;
+mod numbers;
 mod performing;
 mod refusing;
 
