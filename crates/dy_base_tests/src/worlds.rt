@@ -57,7 +57,7 @@ fn alone(alloc: Global, world: &World, key: &Key, dot: Dot) -> Result<Row, Fault
     }
 }
 
-fn held_step(
+pub(crate) fn held_step(
     alloc: Global,
     world: &World,
     key: &Key,
@@ -97,7 +97,7 @@ fn step(alloc: Global, world: &World, key: &Key, dot: Dot, scene: Scene) -> Resu
 }
 
 /// Makes the step, where it is allowed.
-fn is_made(alloc: Global, world: &mut World, step: Step) -> Result<bool, Fault> {
+pub(crate) fn is_made(alloc: Global, world: &mut World, step: Step) -> Result<bool, Fault> {
     if !world.allows(alloc, &step)? {
         return Ok(false);
     }
@@ -147,7 +147,7 @@ fn empty_world(alloc: Global) -> Result<World, Fault> {
     if ring.nodes() < 2 {
         return Err(Fault::TooMany);
     }
-    run_steps(alloc, ring, 2, Vec::new(alloc))
+    run_steps(alloc, ring, 2, &[])
 }
 
 /// What is counted once each step is made, and whether the world tells of it.

@@ -116,17 +116,18 @@ fn perform(
 }
 
 /// The world after the steps, which are a legal log on this ring with n homes a key.
-pub fn run_steps(alloc: Global, ring: Ring, n: u8, steps: Vec<Step>) -> Result<World, Fault>
+pub fn run_steps(alloc: Global, ring: Ring, n: u8, steps: &[Step]) -> Result<World, Fault>
     requires some { 1 ≤ n }
     requires enough { n ≤ ring.nodes }
-    requires legal { IsLegal (layout_of ring n) steps.items }
+    requires legal { IsLegal (layout_of ring n) steps.now }
     ensures log { IfOk result
-        (λ world. world ≡ record { ring = ring; n = n; steps = steps.items }) }
+        (λ world. world ≡ record { ring = ring; n = n; steps = steps.now }) }
     ensures memory { IsOkUnless result Fault.OutOfMemory }
 {
     let mut world = World::new(alloc, ring, n)?;
     for step in steps {
-        let _answer = world.apply(alloc, step)?;
+        let copy = step.try_clone(alloc)?;
+        let _answer = world.apply(alloc, copy)?;
     }
     Ok(world)
 }

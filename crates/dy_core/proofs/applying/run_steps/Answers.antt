@@ -1,37 +1,41 @@
-use Rattle.std.proofs.Common.{◌≡◌, ◌++◌, ◌∷◌, [], suc, take, length, length-append, sym, subst, ap, ◌∙◌, arith}
-use Rattle.std.proofs.Math.Seq.{take-suc}
-use Rattle.std.proofs.lemmas.Iterator.Adapters.{YieldsList-from_vec}
-use Rattle.std.proofs.lemmas.Iterator.Consumers.{YieldsList-turn}
+-- Each turn makes the next of the steps, which is allowed after those before it.
+use Rattle.std.proofs.Common.{◌≡◌, ◌+◌, ◌++◌, ◌∷◌, [], List, take, sym, subst, ap, ◌∙◌}
+use Rattle.std.proofs.lemmas.List.{take_all, take_more}
 use Rattle.dy_core.specs.Worlds.{layout_of}
 use Rattle.dy_core.specs.Steps.{IsAllowed}
-use Rattle.dy_core.specs.Logs.{world_after, with_step}
+use Rattle.dy_core.specs.Logs.{Log, world_after, with_step}
+use Rattle.dy_core.specs.declared.steps.Step.{Step}
 use Rattle.dy_core.proofs.OverLogs.{legal_at}
 use Rattle.dy_core.proofs.applying.run_steps.Goals as goal
 
 pub apply-requires : goal.apply-requires
 apply-requires c =
-    let turn = YieldsList-turn (YieldsList-from_vec {s = c.into_iter-step-iterator.result} c.args.steps.items (cc) (cc)) c.loop-step.yielded c.loop-step.step-iterator c.loop-step.yielded_by c.next.result c.next.new.self c.in-Some.step c.in-Some.is c.next.ensures.steps in
+    let layout = layout_of c.args.ring c.args.n in
+    let i = c.loop-step.step-index in
+    let steps = c.args.steps.now in
     record {
       allowed =
-          subst (λ log. IsAllowed (layout_of log.ring log.n) (world_after log.steps) c.in-Some.step) (sym c.loop-step.invariant.world)
-          (subst (λ steps. IsAllowed (layout_of c.args.ring c.args.n) (world_after steps) c.in-Some.step) (sym c.loop-step.invariant.front)
-          (legal_at (layout_of c.args.ring c.args.n) c.args.steps.items c.requires.legal (length c.loop-step.yielded) c.in-Some.step turn.0 turn.1));
+          subst (λ (log : Log). IsAllowed (layout_of log.ring log.n) (world_after log.steps) c.in_ok-copy.copy)
+          (sym c.loop-step.invariant)
+          (subst (λ (s : Step). IsAllowed layout (world_after (take i steps)) s)
+          (sym c.in_ok-copy.ensures.ok)
+          (legal_at layout steps c.requires.legal i c.step-item.result c.loop-step-test.true
+          c.step-item.is));
     }
 
--- one step more is done, which is the next of all
+-- one step more is made
 pub loop-step-preserved : goal.loop-step-preserved
 loop-step-preserved c =
-    let steps = c.args.steps.items in
-    let done = c.loop-step.yielded in
-    let step = c.in-Some.step in
-    let turn = YieldsList-turn (YieldsList-from_vec {s = c.into_iter-step-iterator.result} steps (cc) (cc)) done c.loop-step.step-iterator c.loop-step.yielded_by c.next.result c.next.new.self step c.in-Some.is c.next.ensures.steps in
-    let more : suc (length done) ≡ length (done ++ step ∷ []) = (let l = length-append done (step ∷ []) in omega arith) in
-    record {
-      can = tt;
-      finite = tt;
-      world = c.in_ok-_answer.ensures.log ∙ ap (λ w. with_step w step) c.loop-step.invariant.world;
-      front = ap (λ xs. xs ++ step ∷ []) c.loop-step.invariant.front
-          ∙ ap (λ x. take (length done) steps ++ x ∷ []) turn.1
-          ∙ sym (take-suc steps (length done) step turn.0)
-          ∙ ap (λ n. take n steps) more;
-    }
+    let i = c.loop-step.step-index in
+    let steps = c.args.steps.now in
+    let world_of : List Step → Log = λ ss. record { ring = c.args.ring; n = c.args.n; steps = ss } in
+    c.in_ok-_answer.ensures.log ∙ ap (λ w. with_step w c.in_ok-copy.copy) c.loop-step.invariant
+    ∙ ap world_of (ap (λ s. take i steps ++ s ∷ []) (c.in_ok-copy.ensures.ok ∙ c.step-item.is)
+    ∙ sym (take_more steps i c.step-item.result c.loop-step-test.true))
+
+-- all are made
+pub returns-clause-log : goal.returns-clause-log
+returns-clause-log c =
+    let world_of : List Step → Log = λ ss. record { ring = c.args.ring; n = c.args.n; steps = ss } in
+    c.loop-step.invariant
+    ∙ ap world_of (take_all c.loop-step.step-index c.args.steps.now c.loop-step-test.false)
