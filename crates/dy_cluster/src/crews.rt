@@ -153,9 +153,10 @@ pub(crate) fn run_beside<
             for seat in seats.iter() {
                 let post = posts.pop();
                 let thread = scope.spawn(
-                    move || requires tells { (number : ℕ) (telling : SessionPart) →
-                        C.told (setting J J.ring J.n J.r) client.now number telling →
-                        S.told number telling }
+                    move ||
+                        requires tells { (number : ℕ) (telling : SessionPart) →
+                            C.told (setting J J.ring J.n J.r) client.now number telling →
+                            S.told number telling }
                     { sit(rt, alloc, cluster, client, seat, post) },
                 );
                 if thread.is_err() {

@@ -50,8 +50,7 @@ impl Operator for Nobody {
         _alloc: Global,
         _cluster: &Cluster<J>,
         _post: &mut Post<J>,
-    ) {
-    }
+    ) {}
 
     fn end<R: Wait>(&self, _rt: &R) {}
 }

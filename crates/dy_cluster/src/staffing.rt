@@ -59,15 +59,7 @@ pub fn with_workers<C: Client + Sync, G: Gate + Sync, R: Threads + Wait + Sync>(
 {
     let opened = Opened::new(alloc, ring, options)?;
     let operator = None;
-    run_clients::<Brand, C, G, Nobody, R>(
-        rt,
-        alloc,
-        opened,
-        Some(gate),
-        operator,
-        clients,
-        client,
-    )
+    run_clients::<Brand, C, G, Nobody, R>(rt, alloc, opened, Some(gate), operator, clients, client)
 }
 
 // Opens a cluster of the name that was picked, runs the clients, and closes it: beside workers

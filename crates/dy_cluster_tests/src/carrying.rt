@@ -2,8 +2,8 @@
 use crate::posted::with_values;
 use crate::rings::{set_up, with_five_nodes};
 use dy_cluster::{
-    Closed, Cluster, Connection, Context, Fault, Key, Naming, Session, Transport, Value,
-    Work, carry_over,
+    Closed, Cluster, Connection, Context, Fault, Key, Naming, Session, Transport, Value, Work,
+    carry_over,
 };
 use std::alloc::Global;
 use std::sync::Wait;

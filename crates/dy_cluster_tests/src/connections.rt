@@ -4,8 +4,8 @@ ghost use Rattle.std.specs.Prelude.{◌<◌, vec_capacity, vec_len};
 use crate::posted::with_values;
 use crate::rings::{options, set_up, with_five_nodes};
 use dy_cluster::{
-    Cluster, Connection, Context, Fault, GetDone, Key, Naming, PutDone, Session, Transport,
-    Value, Work,
+    Cluster, Connection, Context, Fault, GetDone, Key, Naming, PutDone, Session, Transport, Value,
+    Work,
 };
 use dy_mailboxes::Post;
 use std::alloc::Global;

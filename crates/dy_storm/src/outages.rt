@@ -38,11 +38,7 @@ impl Outages {
     fn generator(&self) -> Lcg64Xsh32
         ensures { result ≡ generator_of ((self.now.plan.seed + self.now.plan.threads) % 2 ^ 64) }
     {
-        Lcg64Xsh32::seed_from_u64(
-            self.plan
-                .seed
-                .wrapping_add(u64::from(self.plan.threads)),
-        )
+        Lcg64Xsh32::seed_from_u64(self.plan.seed.wrapping_add(u64::from(self.plan.threads)))
     }
 
     /// How many versions the passes handed over.

@@ -61,11 +61,12 @@ invariant_of-share-2 g c =
     ∙ (ap (λ n. s.numbers.acks.items ++ n ∷ []) number
     ∙ (ap (λ xs. xs ++ at ∷ []) c.share.invariant.1.acks_are
     ∙ sym (ap (map number_of) acks ∙ map-append number_of (done_acks s.share.part) (ack_at at step)))) in (
-    subst (λ k. IsSessionShare nodes r k c.max-share-inside.result c.join-2.new.self (told_as (done_acks c.append.new.share.part) c.push_reserved.new.self.items)) (sym index)
-    (subst (λ xs. IsSessionShare nodes r s.share.index c.max-share-inside.result c.join-2.new.self (told_as xs c.push_reserved.new.self.items)) (sym acks)
-    (subst (λ rs. IsSessionShare nodes r s.share.index c.max-share-inside.result c.join-2.new.self (told_as (old.acks ++ ack_at at step) rs)) (sym pushed)
-    (subst (λ xs. IsSessionShare nodes r s.share.index c.max-share-inside.result xs (with_ack old at step receipts)) long acked))),
-    record { acks_are = numbers; fetches_are = c.share.invariant.1.fetches_are })
+      subst (λ k. IsSessionShare nodes r k c.max-share-inside.result c.join-2.new.self (told_as (done_acks c.append.new.share.part) c.push_reserved.new.self.items)) (sym index)
+          (subst (λ xs. IsSessionShare nodes r s.share.index c.max-share-inside.result c.join-2.new.self (told_as xs c.push_reserved.new.self.items)) (sym acks)
+          (subst (λ rs. IsSessionShare nodes r s.share.index c.max-share-inside.result c.join-2.new.self (told_as (old.acks ++ ack_at at step) rs)) (sym pushed)
+          (subst (λ xs. IsSessionShare nodes r s.share.index c.max-share-inside.result xs (with_ack old at step receipts)) long acked))),
+      record { acks_are = numbers; fetches_are = c.share.invariant.1.fetches_are },
+    )
 
 -- the share has the ack more
 pub returns-clause-share : goal.returns-clause-share
