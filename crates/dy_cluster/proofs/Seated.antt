@@ -1,6 +1,7 @@
 -- Sessions that were told so, each by its number, and one more behind the others.
-use Rattle.std.proofs.Common.{◌≡◌, ◌++◌, ◌∷◌, ◌⊎◌, [], ℕ, zero, suc, List, length, Some}
-use Rattle.std.proofs.Common.{inl, inr, refl, ap, sym, subst}
+use Rattle.std.proofs.Common.{◌≡◌, ◌∙◌, ◌++◌, ◌∷◌, ◌⊎◌, ◌&&◌, [], ℕ, zero, suc, List, length}
+use Rattle.std.proofs.Common.{Bool, true, eqb, Some, inl, inr, refl, ap, sym, subst}
+use Rattle.std.proofs.lemmas.Bool.{and_parts, eqb-true}
 use Rattle.std.specs.List.{slice_get}
 use Rattle.dy_shares.specs.Shares.{SessionPart}
 use Rattle.dy_cluster.specs.Tellings.{AreTold}
@@ -25,3 +26,15 @@ told_more told tellings telling are is number other there =
       | inr last ↦ subst (told number) last.1
           (subst (λ (n : ℕ). told n telling) (sym last.0) is)
     ]
+
+-- the same where it was found that the client has run, and has the number of its place
+pub told_next : (told : ℕ → SessionPart → Type 0) (tellings : List SessionPart)
+    (telling : SessionPart) (were has_run : Bool) (number place : ℕ) →
+    (were && has_run) && eqb number place ≡ true → place ≡ length tellings →
+    (were ≡ true → AreTold told tellings) → (has_run ≡ true → told number telling) →
+    AreTold told (tellings ++ telling ∷ [])
+told_next told tellings telling were has_run number place all is before own =
+    let both = and_parts (were && has_run) (eqb number place) all in
+    let run = and_parts were has_run both.0 in
+    told_more told tellings telling (before run.0)
+    (subst (λ (n : ℕ). told n telling) (eqb-true number place both.1 ∙ is) (own run.1))
