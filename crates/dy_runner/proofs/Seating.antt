@@ -1,12 +1,13 @@
 -- Where sessions are.
 use Rattle.std.proofs.Common.{◌≡◌, ◌==◌, ◌<◌, ℕ, List, [], ◌∷◌, ◌++◌, length, get_or, false}
-use Rattle.std.proofs.Common.{Some, sym, ap, ◌∙◌, arith, eq-eqb}
+use Rattle.std.proofs.Common.{Option, Some, None, unwrap_or, sym, ap, ◌∙◌, arith, eq-eqb}
 use Rattle.std.specs.Prelude.{slice_get, slice_set}
 use Rattle.std.proofs.lemmas.Grind.{common_steps}
 use Rattle.std.proofs.lemmas.List.Folds.{position_or_len_push}
 use Rattle.std.proofs.lemmas.List.Sums.{position_or_len_is}
 use Rattle.std.proofs.lemmas.Option.{slice_get-get_or}
 use Rattle.dy_shares.specs.Shares.{SessionPart}
+use Rattle.dy_runner.specs.Openings.{given_or}
 use Rattle.dy_runner.specs.Seats.{IsSeated, IsToldAt, seat_of}
 
 -- the first place that has the number
@@ -46,3 +47,8 @@ told_at at place before seated old new Tells same within here opened tells = rec
   after_is = ap (λ (k : ℕ). slice_set seated k new) same;
   tells = tells;
 }
+
+-- the number that was named, or else this
+pub number_of_homes : (w : ℕ) (own : Option ℕ) (n : ℕ) → n ≡ unwrap_or own w → n ≡ given_or w own
+number_of_homes w None n e = e
+number_of_homes w (Some x) n e = e

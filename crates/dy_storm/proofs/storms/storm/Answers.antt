@@ -11,10 +11,10 @@ of-counts-requires g c =
     let closed = c.in_ok-closed.ensures.closed in
     let tells = closed.1.1.audit.tells in
     let plan = c.new-clients.result.plan in
-    let threads = c.args.plan.threads in
+    let threads = plan.threads in
     let most : count_acks closed.0 + count_gets closed.0 ≤ 2 * threads * plan.puts =
     turns_most _ (λ number. generator_of ((plan.seed + number) % 2 ^ 64)) threads plan.puts
     closed.0 closed.2 closed.3 in
-    let same : 2 * threads * plan.puts ≡ 2 * threads * c.args.plan.puts =
-    ap (λ (p : Storm). 2 * threads * p.puts) c.new-clients.ensures in
+    let same : 2 * threads * plan.puts ≡ 2 * c.args.plan.threads * c.args.plan.puts =
+    ap (λ (p : Storm). 2 * p.threads * p.puts) c.new-clients.ensures in
     record { most = omega (arith, tells.acks, tells.gets, most, same) }
