@@ -29,6 +29,9 @@ use Rattle.dy_core.proofs.Keeping.{all_from}
 use Rattle.std.proofs.lemmas.List.Elements.{All-contains, Contains-append_cases}
 use Rattle.dy_book.specs.inside.Lists.{IsInOrder}
 use Rattle.dy_shares.specs.Shares.{acks_of, HasAll, IsMissing, NodePart, SessionPart}
+use Rattle.dy_shares.specs.Numbers.{AreNumbersOf}
+use Rattle.dy_shares.specs.declared.step_numbers.StepNumbers.{StepNumbers}
+use Rattle.dy_book.specs.Audits.{AreTold}
 use Rattle.dy_dots.specs.declared.faults.Fault.{Fault}
 use Rattle.dy_book.specs.inside.Indexes.{IsPart, places_in}
 use Rattle.dy_book.specs.declared.parts.KeyPart.{KeyPart}
@@ -163,3 +166,11 @@ pub if_first : {T E : Type 0} (r : Result T E) (A C : E → Type 0) (B : Type 0)
     IfErr r (λ e. A e × B) → IfErr r (λ e. A e ⊎ C e)
 if_first (Ok x) A C B h = tt
 if_first (Err e) A C B h = inl h.0
+
+-- the numbers that one session more was told
+pub told_more : (ns : List StepNumbers) (ss : List SessionPart) (n : StepNumbers) (s : SessionPart) →
+    AreTold ns ss → AreNumbersOf n s → AreTold (ns ++ n ∷ []) (ss ++ s ∷ [])
+told_more [] [] n s told one = (one, tt)
+told_more [] (t ∷ ss) n s told one = absurd told
+told_more (m ∷ ns) [] n s told one = absurd told
+told_more (m ∷ ns) (t ∷ ss) n s told one = (told.0, told_more ns ss n s told.1 one)

@@ -10,6 +10,7 @@ pub mod Making
 pub mod OfKeys
 pub mod Parting
 pub mod Pasts
+pub mod Reading
 pub mod Settling
 pub mod Sinces
 pub mod Sorting

@@ -1,19 +1,26 @@
 -- Audits: what a book tells as it ends.
-use Rattle.std.specs.Prelude.{◌≡◌, ◌↔◌, IsTrue, ℕ, List, length, map}
+use Rattle.std.specs.Prelude.{◌≡◌, ◌↔◌, IsTrue, ℕ, List, [], ◌∷◌, length, map}
 use Rattle.std.specs.List.{All, Contains, sum_by}
 use Rattle.dy_dots.specs.declared.dots.Dot.{Dot}
 use Rattle.dy_siblings.specs.declared.versions.Version.{Version}
 use Rattle.dy_ring.specs.Rings.{Tokens}
-use Rattle.dy_core.specs.Worlds.{World, layout_of}
+use Rattle.dy_core.specs.Worlds.{Layout, World, layout_of}
 use Rattle.dy_core.specs.Covers.{AcksAreCovered}
 use Rattle.dy_core.specs.Listings.{ListsHoldings, ListsAcks, ListsCovers, ListsSettled}
 use Rattle.dy_core.specs.declared.acks.Acked.{Acked}
 use Rattle.dy_core.specs.declared.holdings.Holding.{Holding}
+use Rattle.dy_core.specs.declared.steps.Step.{Step}
+use Rattle.dy_core.specs.Logs.{IsLegal, world_after}
 use Rattle.dy_shares.specs.Shares.{Account, AckTold, AreAll, IsAckOf, NodePart, SessionPart}
-use Rattle.dy_shares.specs.Shares.{shows_held}
+use Rattle.dy_shares.specs.Shares.{shows_held, steps_of}
+use Rattle.dy_shares.specs.Numbers.{AreNumbersOf}
+use Rattle.dy_shares.specs.Trails.{AreKept}
+use Rattle.dy_shares.specs.declared.step_numbers.StepNumbers.{StepNumbers}
 use Rattle.dy_book.specs.Books.{BookParts, world_of}
 use Rattle.dy_book.specs.declared.audits.AckedAt.{AckedAt}
 use Rattle.dy_book.specs.declared.audits.Audit.{Audit}
+use Rattle.dy_book.specs.declared.histories.History.{History}
+use Rattle.dy_book.specs.inside.Indexes.{IsIndex}
 
 -- how many acks the sessions were told
 abbrev pub count_acks : List SessionPart → ℕ
@@ -32,7 +39,21 @@ pub record ListsCovered (w : World) (acked : List AckedAt) : Type 0 where
   pub acks : ListsAcks w (map (λ x. x.ack) acked)
   pub places : All (λ x. ListsCovers w x.ack.key x.ack.dot x.places.items) acked
 
--- the audit tells what the book has, and how many acks and gets these sessions were told
+-- the history keeps these steps, a legal log, and the index of the world after it
+pub record IsHistoryOf (h : History) (steps : List Step) : Type 0 where
+  pub layout : Layout
+  pub legal : IsLegal layout steps
+  pub kept : AreKept h.trail.items steps
+  pub index : IsIndex (world_after steps) h.keys.entries
+
+-- the numbers are those that these sessions were told, one session after another
+abbrev pub AreTold : List StepNumbers → List SessionPart → Type 0
+AreTold [] [] = Unit {0}
+AreTold [] (s ∷ ss) = ⊥
+AreTold (n ∷ ns) [] = ⊥
+AreTold (n ∷ ns) (s ∷ ss) = AreNumbersOf n s × AreTold ns ss
+
+-- the audit tells what the book has, each step of its log, and what these sessions were told
 pub record Tells (b : BookParts) (tellings : List SessionPart) (a : Audit) : Type 0 where
   pub held : ListsHoldings (world_of b) a.held.items
   pub acked : ListsCovered (world_of b) a.acked.items
@@ -40,6 +61,13 @@ pub record Tells (b : BookParts) (tellings : List SessionPart) (a : Audit) : Typ
   pub gets : a.gets ≡ count_gets tellings
   pub steps : a.steps ≡ length b.log
   pub settled : ListsSettled (world_of b) a.settled.items
+  pub history : IsHistoryOf a.history (steps_of b.log)
+  pub told : AreTold a.told.items tellings
+
+-- with the history of the book's log the audit tells what the book has
+abbrev pub TellsWith : BookParts → List SessionPart → Audit → Type 0
+TellsWith b tellings a =
+    (h : History) → IsHistoryOf h (steps_of b.log) → Tells b tellings (record a { history = h })
 
 -- the list has a holding at this place with a version of this dot
 pub record TellsHeld (held : List Holding) (holder home : ℕ) (key : List ℕ) (d : Dot) : Type 0 where

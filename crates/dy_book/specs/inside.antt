@@ -3,4 +3,5 @@ pub mod Indexes
 pub mod Kept
 pub mod Lists
 pub mod Pasts
+pub mod Readings
 pub mod Refusals

@@ -7,17 +7,19 @@ ghost use Rattle.std.specs.BTreeMap.{IsOrdered};
 ghost use Rattle.dy_core.specs.Orders.{key_cmp};
 ghost use Rattle.dy_core.specs.Listings.{ListsAcks, ListsCovers, ListsHoldings, ListsSettled};
 ghost use Rattle.dy_shares.specs.Shares.{IsMissing};
-ghost use Rattle.dy_book.specs.Audits.{IsAuditOf, ListsCovered, Tells, count_acks, count_gets};
+ghost use Rattle.dy_book.specs.Audits.{AreTold, IsAuditOf, ListsCovered, TellsWith, count_acks};
+ghost use Rattle.dy_book.specs.Audits.{count_gets};
 ghost use Rattle.dy_book.specs.Books.{world_of};
 
 use crate::audits::{AckedAt, Audit};
 use crate::books::Book;
+use crate::histories::History;
 use crate::parts::KeyPart;
 use crate::{custodies, lists};
 use dy_core::{Acked, Holding, Place};
 use dy_dots::{Dot, Fault};
 use dy_shares::laws::shares_say_all;
-use dy_shares::{EndRefused, Naming, NodeShare, SessionShare};
+use dy_shares::{EndRefused, Naming, NodeShare, SessionShare, StepNumbers};
 use dy_siblings::Key;
 use std::alloc::Global;
 use std::collections::BTreeMap;
@@ -112,6 +114,22 @@ fn gets_of<J: Naming>(sessions: &[SessionShare<J>]) -> u128
     gets
 }
 
+// The step numbers that each session was told.
+fn numbers_told<J: Naming>(
+    alloc: Global,
+    sessions: &[SessionShare<J>],
+) -> Result<Vec<StepNumbers>, Fault>
+    ensures ok { IfOk result (λ told. AreTold told.items sessions.now) }
+    ensures memory { IsOkUnless result Fault.OutOfMemory }
+{
+    let mut told = Vec::with_capacity(alloc, sessions.len())?;
+    for session in sessions {
+        let numbers = session.numbers().try_clone(alloc)?;
+        told.push(numbers)?;
+    }
+    Ok(told)
+}
+
 impl<J: Naming> Book<J> {
     /// All places that cover the dot, by home and holder.
     pub fn covers(&self, key: &Key, dot: Dot) -> Result<Vec<Place>, Fault>
@@ -174,14 +192,15 @@ impl<J: Naming> Book<J> {
         Ok(settled)
     }
 
-    // What the book has, and how many acks and gets these sessions were told.
+    // What the book has, and what these sessions were told; the history is still to come.
     fn audit(&self, sessions: &[SessionShare<J>]) -> Result<Audit, Fault>
-        ensures ok { IfOk result (λ audit. Tells self.now sessions.now audit) }
+        ensures ok { IfOk result (λ audit. TellsWith self.now sessions.now audit) }
         ensures memory { IsOkUnless result Fault.OutOfMemory }
     {
         let held = self.held()?;
         let acked = self.acked()?;
         let settled = self.settled()?;
+        let told = numbers_told(self.alloc, sessions)?;
         let acks = acks_told(sessions);
         let gets = gets_of(sessions);
         let steps = self.ledger.steps();
@@ -192,6 +211,8 @@ impl<J: Naming> Book<J> {
             gets,
             steps,
             settled,
+            history: History::new(self.alloc),
+            told,
         })
     }
 
@@ -232,14 +253,14 @@ impl<J: Naming> Book<J> {
         }
     }
 
-    // Ends the ledger, and then gives the audit that tells what the book has.
+    // Ends the ledger, and then gives the audit that tells what the book has, with its history.
     fn end_with(
         self,
-        audit: Audit,
+        mut audit: Audit,
         nodes: Vec<NodeShare<J>>,
         sessions: Vec<SessionShare<J>>,
     ) -> Result<Audit, CloseRefused<J>>
-        requires tells { Tells self sessions.items audit }
+        requires tells { TellsWith self sessions.items audit }
         ensures exact { IfOk result
             (λ audit. IsAuditOf J.ring J.n J.r self nodes.items sessions.items audit) }
         ensures shares_missing { IfErr result (λ refused. (refused.fault ≡ Fault.SharesMissing)
@@ -257,8 +278,9 @@ impl<J: Naming> Book<J> {
             keys,
         } = self;
         match ledger.end(nodes, sessions) {
-            Ok(()) => {
+            Ok(trail) => {
                 shares_say_all();
+                audit.history = History { trail, keys };
                 Ok(audit)
             }
             Err(

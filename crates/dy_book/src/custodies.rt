@@ -22,7 +22,7 @@ use std::cmp::Ordering;
 use std::marker::Model;
 
 // What a holder holds for a home of one key: the row, and the dots of its versions, to be lent.
-#[derive(Drop)]
+#[derive(Debug, Drop)]
 pub struct Custody {
     pub(crate) holder: NodeId,
     pub(crate) home: NodeId,

@@ -11,7 +11,7 @@ use std::marker::Model;
 use std::slice;
 
 // The dots of a row's versions, in their order. One dot takes no memory.
-#[derive(Drop)]
+#[derive(Debug, Drop)]
 pub struct Dots {
     one: Option<Dot>,
     more: Vec<Dot>,

@@ -29,14 +29,12 @@ fn steps_of_issue<'a>(
     version: &'a Version,
     row: &'a Row,
 ) -> [StepRef<'a>; 2]
-    requires { row.now ≡ row_alone version.now }
+    requires row { row.now ≡ row_alone version.now }
+    requires maker { version.now.dot.node ≡ node }
     ensures { result ≡ issue_steps node home version.now }
 {
     let place = Place { holder: node, home };
-    [
-        StepRef::issue(node, version.key(), version.past(), version.value()),
-        StepRef::hold(place, row),
-    ]
+    [StepRef::issue(version), StepRef::hold(place, row)]
 }
 
 // Adds the version and holds it alone, in the log and in the part of its key, or changes neither.

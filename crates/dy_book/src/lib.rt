@@ -8,6 +8,7 @@ mod closes;
 mod custodies;
 mod dots;
 mod fetches;
+mod histories;
 mod holds;
 mod incomings;
 mod issues;
@@ -17,8 +18,10 @@ mod parts;
 mod plans;
 mod receipts;
 mod releases;
+mod steps;
 
 pub use audits::{AckedAt, Audit};
 pub use books::Book;
 pub use closes::CloseRefused;
+pub use histories::History;
 pub use options::{MAX_STEPS, MAX_VERSIONS, Options};

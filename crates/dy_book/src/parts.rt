@@ -15,7 +15,7 @@ use std::alloc::Global;
 use std::marker::Model;
 
 // The versions that one node made, in the order of their counters, of which none is left out.
-#[derive(Drop)]
+#[derive(Debug, Drop)]
 pub struct Made {
     versions: Vec<Version>,
 }
@@ -63,6 +63,12 @@ impl Made {
         self.versions.get(place)
     }
 
+    fn as_slice(&self) -> &[Version]
+        ensures { result.now ≡ self.now }
+    {
+        self.versions.as_slice()
+    }
+
     fn add(&mut self, version: Version) -> Result<(), Fault>
         ensures ok { OnOk result (self.new ≡ self.old ++ version ∷ []) }
         ensures err { OnErr result (self.new ≡ self.old) }
@@ -82,7 +88,7 @@ impl Made {
 }
 
 // The versions of one key by node, and what is held of it.
-#[derive(Drop)]
+#[derive(Debug, Drop)]
 pub struct KeyPart {
     pub(crate) made: Vec<Made>,
     pub(crate) places: Vec<Custody>,
@@ -107,6 +113,16 @@ impl KeyPart {
         match self.made.get(node.number() as usize) {
             Some(made) => made.len(),
             None => 0,
+        }
+    }
+
+    // The versions that the node made, in the order of their counters.
+    pub(crate) fn versions_by(&self, node: NodeId) -> &[Version]
+        ensures { result.now ≡ list_at self.now.made.items node }
+    {
+        match self.made.get(node.number() as usize) {
+            Some(made) => made.as_slice(),
+            None => &[],
         }
     }
 

@@ -2,10 +2,13 @@
 -- the shares are all.
 use Rattle.std.proofs.Common.{refl, ap, subst}
 use Rattle.dy_core.specs.Worlds.{layout_of}
-use Rattle.dy_core.specs.Logs.{IsLegal}
+use Rattle.dy_core.specs.Logs.{IsLegal, world_after}
 use Rattle.dy_core.proofs.OverLogs.{acks_covered}
 use Rattle.dy_shares.specs.Shares.{AreAll, IsMissing, steps_of}
-use Rattle.dy_book.specs.Audits.{account_of}
+use Rattle.dy_shares.specs.Trails.{AreKept}
+use Rattle.dy_book.specs.Audits.{IsHistoryOf, account_of}
+use Rattle.dy_book.specs.declared.histories.History.{History}
+use Rattle.dy_book.specs.inside.Indexes.{IsIndex}
 use Rattle.dy_book.proofs.Telling.{told_as_held}
 use Rattle.dy_book.proofs.books.Book.end_with.Goals as goal
 
@@ -20,7 +23,16 @@ returns-in-Ok-clause-exact g c =
     c.self.invariant.legal in
     let all = subst (λ a. AreAll nodes r a parts tellings)
     (ap account_of c.self.view_is) c.in-Ok.ensures.exact in
-    let tells = c.requires.tells in
+    let history : History = record { trail = c.in-Ok.trail; keys = c.self.inside.keys } in
+    let is : IsHistoryOf history (steps_of c.args.self.log) = record {
+      layout = layout;
+      legal = legal;
+      kept = subst (λ b. AreKept c.in-Ok.trail.items (steps_of b.log)) c.self.view_is
+          c.in-Ok.ensures.trail;
+      index = subst (λ b. IsIndex (world_after (steps_of b.log)) c.self.inside.keys.entries)
+          c.self.view_is c.self.invariant.index;
+    } in
+    let tells = c.requires.tells history is in
     record {
       all = all;
       tells = tells;

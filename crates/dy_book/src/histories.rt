@@ -1,0 +1,51 @@
+ghost use Rattle.std.specs.Prelude.{◌≡◌, ◌≤◌, ◌-◌, List, [], Some, length, slice_get, IfOk};
+ghost use Rattle.std.specs.Prelude.{IsOkUnless};
+ghost use Rattle.dy_core.specs.declared.steps.Step.{Step as OneStep};
+ghost use Rattle.dy_book.specs.Audits.{IsHistoryOf};
+
+use crate::parts::KeyPart;
+use crate::steps::step_of;
+use dy_core::Step;
+use dy_dots::Fault;
+use dy_shares::KeptStep;
+use dy_siblings::Key;
+use std::alloc::Global;
+use std::collections::BTreeMap;
+
+/// The steps of a log whose book has ended, to be read by their numbers.
+#[derive(Debug, Drop)]
+pub struct History {
+    pub(crate) trail: Vec<KeptStep>,
+    pub(crate) keys: BTreeMap<Key, KeyPart>,
+}
+
+impl History {
+    // No step.
+    pub(crate) fn new(alloc: Global) -> History {
+        History {
+            trail: Vec::new(alloc),
+            keys: BTreeMap::new(alloc),
+        }
+    }
+
+    /// How many steps there are. Takes no memory.
+    pub fn len(&self) -> usize
+        ensures { (steps : List OneStep) → IsHistoryOf self.now steps → result ≡ length steps }
+    {
+        self.trail.len()
+    }
+
+    /// The step of this number, from 1.
+    pub fn step(&self, alloc: Global, at: usize) -> Result<Step, Fault>
+        requires from_one { 1 ≤ at }
+        requires within { (steps : List OneStep) × IsHistoryOf self.now steps × (at ≤ length steps) }
+        ensures ok { (steps : List OneStep) → IsHistoryOf self.now steps →
+            IfOk result (λ step. slice_get steps (at - 1) ≡ Some step) }
+        ensures memory { IsOkUnless result Fault.OutOfMemory }
+    {
+        let trail = self.trail.as_slice();
+        let kept = &trail[at - 1];
+        let step = step_of(alloc, &self.keys, kept)?;
+        Ok(step)
+    }
+}
