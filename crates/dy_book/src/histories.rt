@@ -43,8 +43,7 @@ impl History {
             IfOk result (λ step. slice_get steps (at - 1) ≡ Some step) }
         ensures memory { IsOkUnless result Fault.OutOfMemory }
     {
-        let trail = self.trail.as_slice();
-        let kept = &trail[at - 1];
+        let kept = &self.trail[at - 1];
         let step = step_of(alloc, &self.keys, kept)?;
         Ok(step)
     }

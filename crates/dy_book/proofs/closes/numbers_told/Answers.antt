@@ -12,7 +12,7 @@ loop-session-preserved g c =
     let i = c.loop-session.session-index in
     let s = c.session-item.result in
     let n = c.in_ok-numbers.numbers in
-    let of = c.numbers-session.ensures in
+    let of = c.numbers.ensures in
     subst (λ (ns : List StepNumbers). AreTold ns (take (i + 1) ss)) (sym c.in_ok-push.ensures.items)
     (subst (AreTold (c.loop-session.told.items ++ n ∷ []))
     (sym (take_more ss i s c.loop-session-test.true ∙ ap (λ (x : SessionPart). take i ss ++ x ∷ []) (sym c.session-item.is)))
