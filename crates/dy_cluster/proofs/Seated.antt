@@ -1,10 +1,18 @@
--- Sessions that were told so, each by its number, and one more behind the others.
+-- Sessions that were told so, each by its number, and one more behind the others, or one less.
 use Rattle.std.proofs.Common.{◌≡◌, ◌∙◌, ◌++◌, ◌∷◌, ◌⊎◌, ◌&&◌, [], ℕ, zero, suc, List, length}
 use Rattle.std.proofs.Common.{Bool, true, eqb, Some, inl, inr, refl, ap, sym, subst}
 use Rattle.std.proofs.lemmas.Bool.{and_parts, eqb-true}
-use Rattle.std.specs.List.{slice_get}
+use Rattle.std.proofs.lemmas.List.Elements.{All-cons, All-head, All-nil, All-tail}
+use Rattle.std.specs.List.{All, slice_get}
 use Rattle.dy_shares.specs.Shares.{SessionPart}
 use Rattle.dy_cluster.specs.Tellings.{AreTold}
+
+-- what all have, the first of them have
+pub all_front : {X : Type 0} (P : X → Type 0) (xs more : List X) → All P (xs ++ more) → All P xs
+all_front P [] more all = All-nil P
+all_front P (x ∷ xs) more all =
+    All-cons P x xs (All-head P x (xs ++ more) all)
+    (all_front P xs more (All-tail P x (xs ++ more) all))
 
 before_or_last : {S : Type 0} (xs : List S) (x y : S) (n : ℕ) →
     slice_get (xs ++ x ∷ []) n ≡ Some y → (slice_get xs n ≡ Some y) ⊎ ((n ≡ length xs) × (x ≡ y))

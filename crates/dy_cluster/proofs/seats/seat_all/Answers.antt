@@ -1,0 +1,18 @@
+-- The session that is taken is the last of those that are left.
+use Rattle.std.proofs.Common.{◌∙◌, ◌∷◌, [], length, length-append, ap, subst, arith}
+use Rattle.std.specs.List.{All}
+use Rattle.dy_cluster.specs.Tellings.{IsUntold}
+use Rattle.dy_cluster.proofs.Seated.{all_front}
+use Rattle.dy_cluster.proofs.seats.seat_all.Goals as goal
+
+pub loop-session-preserved : goal.loop-session-preserved
+loop-session-preserved g c =
+    let before = c.loop-session.invariant in
+    let rest = c.pop.new.self.items in
+    let last = c.in-Some.session ∷ [] in
+    let taken = c.in-Some.ensures.items in (
+      omega (arith, before.0, c.push_reserved.ensures.len, ap length taken ∙ length-append rest last),
+      c.push_reserved.ensures.capacity ∙ before.1,
+      c.in-Some.ensures.capacity ∙ before.2,
+      all_front IsUntold rest last (subst (All IsUntold) taken before.3),
+    )
