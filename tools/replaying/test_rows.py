@@ -300,6 +300,19 @@ told 14 16 session 0
 told 2 4 session 1
 end acked 3 gets 3 refused 0
 """,
+    # The hint of the later version covers the earlier one, which alone was acknowledged.
+    "a hint of a later version": HEAD + """
+step 1 issue 0 61 n0:1 behind - value 78
+step 2 hold 0/0 61 n0:1
+step 3 hold 3/1 61 n0:1
+step 4 ack 61 n0:1 w 2 session 0
+step 5 issue 0 61 n0:2 behind n0:1 value 79
+step 6 hold 0/0 61 n0:2
+step 7 hold 3/1 61 n0:2
+step 8 hold 1/1 61 n0:2
+step 9 release 3/1 61 n0:2
+end acked 1 gets 0 refused 1
+""",
 }
 
 
