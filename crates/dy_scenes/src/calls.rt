@@ -11,17 +11,18 @@ use dy_siblings::Value;
 use dy_transport::{Direct, Transport};
 use std::sync::Wait;
 
-// A put over this transport, that names so many homes and follows nothing.
+// A put of the text over this transport, that names so many homes and follows nothing.
 pub fn put_over<J: Naming, T: Transport<J>, R: Wait>(
     rt: &R,
     transport: &mut T,
     stage: &Stage<'_, J>,
     session: &mut SessionShare<J>,
     w: u8,
+    text: &[u8],
 ) -> Result<Result<PutDone<J>, PutFault>, Fault>
     requires { T.told transport.old ≡ nothing_told 32 }
 {
-    let value = Value::new(stage.alloc, b"x")?;
+    let value = Value::new(stage.alloc, text)?;
     let context = Context::new(stage.alloc);
     Ok(put(
         rt,
@@ -43,21 +44,23 @@ fn put_over_direct<J: Naming, R: Wait>(
     stage: &Stage<'_, J>,
     session: &mut SessionShare<J>,
     w: u8,
+    text: &[u8],
 ) -> Result<Result<PutDone<J>, PutFault>, Fault>
     requires { direct.old ≡ nothing_told 32 }
 {
-    put_over(rt, direct, stage, session, w)
+    put_over(rt, direct, stage, session, w, text)
 }
 
-// A put on the caller's own thread.
+// A put of the text on the caller's own thread.
 pub fn put_directly<J: Naming, R: Wait>(
     rt: &R,
     stage: &Stage<'_, J>,
     session: &mut SessionShare<J>,
     w: u8,
+    text: &[u8],
 ) -> Result<Result<PutDone<J>, PutFault>, Fault> {
     let mut direct = Direct::new(stage.alloc, stage.nodes, stage.book, 32)?;
-    put_over_direct(rt, &mut direct, stage, session, w)
+    put_over_direct(rt, &mut direct, stage, session, w, text)
 }
 
 // The node hands over its hints over this transport.

@@ -5,6 +5,7 @@ ghost use Rattle.dy_transport.specs.Told.{nothing_told};
 use crate::at_nodes::{set_delay, set_up, write_rows};
 use crate::calls::{hand_over_one, put_directly};
 use crate::lossy::put_lossy;
+use crate::races::put_between;
 use crate::records::put_and_look_up;
 use crate::stages::Stage;
 use crate::texts::{write_list, write_pass, write_put};
@@ -30,6 +31,8 @@ pub enum Deed {
     HandOverOne,
     // The same, and after the hints were listed it stores a message, and node 0 comes up.
     HandOverWhileDelivered,
+    // The same call by call: after the hints were listed another value is put, and node 0 comes up.
+    HandOverWhilePut(u8),
 }
 
 // What is done at a node.
@@ -42,15 +45,16 @@ pub enum NodeDeed {
     Show,
 }
 
-// A put, which is told.
-fn put_and_write<J: Naming, R: Wait>(
+// A put of the text, which is told.
+pub fn put_and_write<J: Naming, R: Wait>(
     rt: &R,
     stage: &Stage<'_, J>,
     session: &mut SessionShare<J>,
     w: u8,
+    text: &[u8],
     out: &mut String,
 ) -> Result<(), Fault> {
-    let ended = put_directly(rt, stage, session, w)?;
+    let ended = put_directly(rt, stage, session, w, text)?;
     write_put(out, &ended)
 }
 
@@ -131,7 +135,7 @@ fn done<J: Naming, R: Wait>(
     out: &mut String,
 ) -> Result<(), Fault> {
     match deed {
-        Deed::Put(w) => put_and_write(rt, stage, session, w, out),
+        Deed::Put(w) => put_and_write(rt, stage, session, w, b"x", out),
         Deed::PutAndLookUp(w) => put_and_look_up(rt, stage, session, w, out),
         Deed::PutLossy(w) => put_lossy_and_write(rt, stage, session, w, out),
         Deed::PutWhileHandedOver(w) => {
@@ -140,6 +144,7 @@ fn done<J: Naming, R: Wait>(
         Deed::At(node, deed) => done_at(rt, stage, deed, node, out),
         Deed::HandOverOne => write_pass(out, &hand_over_one(rt, stage, NodeId::nth(3))),
         Deed::HandOverWhileDelivered => pass_while_and_write(rt, stage, out),
+        Deed::HandOverWhilePut(w) => put_between(rt, stage, session, w, out),
     }
 }
 

@@ -4,6 +4,10 @@
 #[cfg(test)]
 mod at_nodes;
 #[cfg(test)]
+mod books;
+#[cfg(test)]
+mod by_books;
+#[cfg(test)]
 mod calls;
 #[cfg(test)]
 mod deeds;
@@ -17,6 +21,8 @@ mod lost_answers;
 mod members;
 #[cfg(test)]
 mod plays;
+#[cfg(test)]
+mod races;
 #[cfg(test)]
 mod records;
 #[cfg(test)]

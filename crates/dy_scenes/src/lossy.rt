@@ -42,7 +42,7 @@ fn put_over_lossy<J: Naming, R: Wait>(
 ) -> Result<Result<PutDone<J>, PutFault>, Fault>
     requires { lossy.old.line.told ≡ nothing_told 32 }
 {
-    put_over(rt, lossy, stage, session, w)
+    put_over(rt, lossy, stage, session, w, b"x")
 }
 
 // A put over a line on which node 1's answers are lost.

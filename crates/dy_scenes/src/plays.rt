@@ -185,7 +185,7 @@ fn play_on<J: Naming, R: Wait>(
 }
 
 // A new book of the ring, and the shares of its nodes.
-fn opened<J: Naming>(
+pub fn opened<J: Naming>(
     alloc: Global,
     blank: Blank,
     ring: &Ring,

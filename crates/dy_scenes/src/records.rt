@@ -106,7 +106,7 @@ pub fn put_and_look_up<J: Naming, R: Wait>(
     w: u8,
     out: &mut String,
 ) -> Result<(), Fault> {
-    let ended = put_directly(rt, stage, session, w)?;
+    let ended = put_directly(rt, stage, session, w, b"x")?;
     write_put(out, &ended)?;
     match ended {
         Ok(done) => {

@@ -62,7 +62,7 @@ pub fn put_wrapped<J: Naming, R: Wait>(
 ) -> Result<Result<PutDone<J>, PutFault>, Fault>
     requires { wrapped.old.direct ≡ nothing_told 32 }
 {
-    put_over(rt, wrapped, stage, session, w)
+    put_over(rt, wrapped, stage, session, w, b"x")
 }
 
 // The node hands over its hints over this transport.
