@@ -24,7 +24,11 @@ fn row_of(alloc: Global, key: &Key, text: &[u8]) -> Result<Row, Fault>
         return Err(Fault::CounterFull);
     };
     let key = key.try_clone(alloc)?;
-    let version = Version::new(alloc, key, dot, Context::new(alloc), Some(value))?;
+    let past = Context::new(alloc);
+    if past.contains(dot) {
+        return Err(Fault::CounterFull);
+    }
+    let version = Version::new(alloc, key, dot, past, Some(value))?;
     Row::of(alloc, version)
 }
 
