@@ -137,6 +137,7 @@ fn shown<J: Naming, R: Wait>(
     node: NodeId,
     key: &str,
 ) -> Result<Vec<Kept>, Fault>
+    requires { IsNodeOf J.ring node }
     ensures { IfOk result (λ kept. (rows : List (ℕ × Siblings))
         × IsShow key.now rows × (kept.items ≡ map kept_row rows)) }
 {
