@@ -8,9 +8,9 @@ use dy_siblings::Key;
 use std::alloc::Global;
 use std::test::Fail;
 
-/// The empty world of five nodes, with three homes a key. The tokens of the nodes 4, 0, 1 and 3 lie
-/// at b68c.., ea05.., f3ed.. and 1669.., and the key `b` at 92eb..: its homes are the nodes 4, 0 and
-/// 1, and node 3 stands in first.
+/// The empty world of five nodes, with three homes a key. The tokens of the nodes 4, 0, 1 and 3
+/// lie at b68c.., ea05.., f3ed.. and 1669.., and the key `b` at 92eb..: its homes are the nodes 4,
+/// 0 and 1, and node 3 stands in first.
 fn empty_world(alloc: Global) -> Result<World, Fault> {
     let ring = Ring::derived(alloc, 5, 1)?;
     if ring.nodes() < 3 {
