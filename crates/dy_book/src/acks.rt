@@ -1,4 +1,4 @@
-// How puts are acknowledged, and hints given up.
+// How puts are acknowledged.
 ghost use Rattle.std.specs.Prelude.{◌≡◌, ◌≢◌, ◌+◌, ◌<◌, ◌≤◌, ◌↔◌, ◌⊎◌, ◌∷◌, ℕ, List, [], map};
 ghost use Rattle.std.specs.Prelude.{length, nat_eq, take, IfOk, IfErr, OnOk, OnErr, IsErrOf};
 ghost use Rattle.std.specs.Prelude.{IsOkUnless};
@@ -14,8 +14,8 @@ use dy_dots::Fault;
 use dy_shares::{Naming, Receipt, SessionShare};
 
 impl<J: Naming> Book<J> {
-    /// A put of w homes is acknowledged to the session: w receipts of one key and dot, of distinct
-    /// homes and distinct holders.
+    /// Acknowledges a put of w homes to the session. It spends w receipts of one key and dot, of
+    /// distinct homes and distinct holders.
     pub fn ack(
         &mut self,
         share: &mut SessionShare<J>,

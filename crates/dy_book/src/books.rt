@@ -23,8 +23,8 @@ use std::alloc::Global;
 use std::collections::BTreeMap;
 use std::marker::Model;
 
-/// The custody book: the one log of steps, with the book's part of each share, and what the world
-/// after the log has, key by key. It can't be dropped: it ends with its shares.
+/// The custody book: the log of steps, the book's part of each share, and by key what the world
+/// after the log has. It can't be dropped: it ends with its shares.
 pub struct Book<J: Naming> {
     pub(crate) alloc: Global,
     pub(crate) ring: Ring,
@@ -50,7 +50,8 @@ impl<J: Naming> Model for Book<J> {
 }
 
 impl<J: Naming> Book<J> {
-    /// The book of a ring whose log is empty, and the shares of its nodes in their order.
+    /// Opens a book of the ring with an empty log. Gives the shares of its nodes too, in their
+    /// order.
     pub fn open(
         alloc: Global,
         blank: Blank,
@@ -91,7 +92,7 @@ impl<J: Naming> Book<J> {
         Ok((book, shares))
     }
 
-    /// One more session, which was told nothing yet. Takes no memory.
+    /// Opens one more session, whose list is empty. Takes no memory.
     pub fn session(&mut self) -> Result<SessionShare<J>, Fault>
         ensures book { OnOk result (self.new ≡ with_session self.old) }
         ensures share { IfOk result (λ s. s ≡ first_session self.old.sessions) }
@@ -136,7 +137,7 @@ impl<J: Naming> Book<J> {
         self.ledger.since()
     }
 
-    /// How far counters go. Takes no memory.
+    /// The greatest counter that a node may use. Takes no memory.
     pub fn counter_limit(&self) -> u32
         ensures value { result ≡ self.now.options.counter_limit }
         ensures few { result ≤ MAX_COUNTER }
@@ -155,8 +156,9 @@ impl<J: Naming> Book<J> {
         self.options
     }
 
-    /// Whenever the book's lock is free, each acknowledged put has its w distinct homes covered, on
-    /// as many distinct nodes, by its version or by one that causally follows it. Takes no memory.
+    /// Whenever the book's lock is free, the w distinct homes of each acknowledged put are covered,
+    /// on as many distinct nodes. They are by its version, or by one that causally follows it.
+    /// Takes no memory.
     pub fn acks_are_covered(&self)
         ensures { AcksAreCovered (layout_of J.ring J.n) (world_of self.now) }
     {
@@ -170,7 +172,7 @@ impl<J: Naming> Book<J> {
         let _alloc = &self.alloc;
     }
 
-    /// Whether a node's share or a session's is not among these. Takes no memory.
+    /// Whether the share of a node or of a session is not among these. Takes no memory.
     pub fn lacks(&self, nodes: &[NodeShare<J>], sessions: &[SessionShare<J>]) -> bool
         ensures { MatchBool result
             (IsMissing J.ring.nodes self.now.sessions nodes.now sessions.now)
@@ -179,7 +181,7 @@ impl<J: Naming> Book<J> {
         self.ledger.lacks(nodes, sessions)
     }
 
-    // What is known of the key, where there is anything.
+    // The key's part, if the book knows the key.
     pub(crate) fn part(&self, key: &Key) -> Option<&KeyPart>
         ensures { IsPart (world_of self.now) key.now (option_copied result) }
     {
@@ -193,7 +195,7 @@ impl<J: Naming> Book<J> {
         self.last_in(self.part(key), node)
     }
 
-    // The same, where this is what is known of the key.
+    // The same, by the key's part.
     pub(crate) fn last_in(&self, part: Option<&KeyPart>, node: NodeId) -> usize
         ensures { (key : List ℕ) → IsPart (world_of self.now) key (option_copied part.entry) →
             result ≡ (world_of self.now).counters node key }
@@ -214,7 +216,7 @@ impl<J: Naming> Book<J> {
         self.version_in(self.part(key), dot)
     }
 
-    // The same, where this is what is known of the key.
+    // The same, by the key's part.
     pub(crate) fn version_in<'a>(
         &'a self,
         part: Option<&'a KeyPart>,
@@ -240,7 +242,7 @@ impl<J: Naming> Book<J> {
         self.options.steps_limit - self.ledger.steps()
     }
 
-    /// Ends the book with whatever shares are there, and tells nothing. Takes no memory.
+    /// Ends the book with the shares that are there, and gives no audit. Takes no memory.
     pub fn abandon(self, nodes: Vec<NodeShare<J>>, sessions: Vec<SessionShare<J>>) {
         let Book {
             alloc: _,

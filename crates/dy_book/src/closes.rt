@@ -24,7 +24,8 @@ use dy_siblings::Key;
 use std::alloc::Global;
 use std::collections::BTreeMap;
 
-/// A share is missing, or memory is. The book and all the shares come back, each list in its order.
+/// Why a book was not closed: a share is missing, or memory is. The book and all shares come back,
+/// each list in its order.
 pub struct CloseRefused<J: Naming> {
     pub fault: Fault,
     pub book: Book<J>,
@@ -33,7 +34,7 @@ pub struct CloseRefused<J: Naming> {
 }
 
 impl<J: Naming> CloseRefused<J> {
-    /// Ends the book with whatever shares are there, and tells nothing. Takes no memory.
+    /// Ends the book with the shares that came back, and gives no audit. Takes no memory.
     pub fn abandon(self) {
         let CloseRefused {
             fault: _,
@@ -92,7 +93,7 @@ fn settled_of(alloc: Global, keys: &BTreeMap<Key, KeyPart>) -> Result<Vec<Key>, 
     Ok(settled)
 }
 
-// How many acks the sessions were told.
+// How many acks the sessions have.
 fn acks_told<J: Naming>(sessions: &[SessionShare<J>]) -> u128
     ensures { result ≡ count_acks sessions.now }
 {
@@ -103,7 +104,7 @@ fn acks_told<J: Naming>(sessions: &[SessionShare<J>]) -> u128
     acks
 }
 
-// How many gets the sessions were told.
+// How many gets the sessions have.
 fn gets_of<J: Naming>(sessions: &[SessionShare<J>]) -> u128
     ensures { result ≡ count_gets sessions.now }
 {
@@ -114,7 +115,7 @@ fn gets_of<J: Naming>(sessions: &[SessionShare<J>]) -> u128
     gets
 }
 
-// The step numbers that each session was told.
+// The step numbers of each session's acks and answers.
 fn numbers_told<J: Naming>(
     alloc: Global,
     sessions: &[SessionShare<J>],
@@ -192,7 +193,7 @@ impl<J: Naming> Book<J> {
         Ok(settled)
     }
 
-    // What the book has, and what these sessions were told; the history is still to come.
+    // The audit of the book with these sessions, but for its history.
     fn audit(&self, sessions: &[SessionShare<J>]) -> Result<Audit, Fault>
         ensures ok { IfOk result (λ audit. TellsWith self.now sessions.now audit) }
         ensures memory { IsOkUnless result Fault.OutOfMemory }
@@ -216,7 +217,7 @@ impl<J: Naming> Book<J> {
         })
     }
 
-    /// Ends the book and tells what it has, where each of its shares is handed in.
+    /// Closes the book, if each of its shares is handed in, and gives its audit.
     pub fn close(
         self,
         nodes: Vec<NodeShare<J>>,
@@ -253,7 +254,7 @@ impl<J: Naming> Book<J> {
         }
     }
 
-    // Ends the ledger, and then gives the audit that tells what the book has, with its history.
+    // Ends the ledger, and adds its history to the audit.
     fn end_with(
         self,
         mut audit: Audit,

@@ -21,7 +21,8 @@ use std::alloc::Global;
 use std::cmp::Ordering;
 use std::marker::Model;
 
-// What a holder holds for a home of one key: the row, and the dots of its versions, to be lent.
+// What a holder holds for a home of one key: the row, and the dots of its versions as a slice that
+// can be lent.
 #[derive(Debug, Drop)]
 pub struct Custody {
     pub(crate) holder: NodeId,
@@ -112,8 +113,8 @@ impl Custody {
         self.holder != self.home && !self.row.is_empty()
     }
 
-    // Where the row has one version more than what is held, side by side with all of that: holds
-    // that one too, which makes the merge of both, and gives its dot.
+    // Inserts the row's version, if the row has exactly one that is not held, and it is concurrent
+    // with all that is held. That makes the merge of both. Gives the version's dot.
     fn put_beside(&mut self, alloc: Global, row: &Row) -> Result<Option<Dot>, Fault>
         requires one_key { self.old.row.key ≡ row.now.key }
         requires agree { AreOneByDot (self.old.row.versions ++ row.now.versions) }
@@ -132,7 +133,8 @@ impl Custody {
     {
         match self.row.put_beside(alloc, row)? {
             Some(put) => {
-                // The row has the version of the dot put.1 at put.0 now, and the dots follow.
+                // The row has the version now, with the dot put.1 at the index put.0. The dots
+                // follow.
                 if let Err(fault) = self.dots.insert(alloc, put.0, put.1) {
                     self.row.remove(put.1);
                     return Err(fault);
@@ -192,7 +194,7 @@ pub(crate) fn find<'a>(
     }
 }
 
-// Where in the list the custody at the place is.
+// The index of the place's custody in the list.
 fn index_of(places: &[Custody], holder: NodeId, home: NodeId, key: &Key) -> Option<usize>
     ensures bound { IfSome result (λ at. at < length places.now) }
     ensures there { IfSome result (λ at. (c : HoldingParts) →
@@ -209,8 +211,9 @@ fn index_of(places: &[Custody], holder: NodeId, home: NodeId, key: &Key) -> Opti
     None
 }
 
-// Where the row has one version more than what is held at the place, side by side with all of
-// that: that one is held too, in the place of what is there. Gives where in the list, and its dot.
+// Inserts the row's version into what is held at the place. The row must have exactly one that is
+// not held there, and it must be concurrent with all that is; else nothing changes. Gives the
+// custody's index in the list, and the dot.
 pub(crate) fn put_beside(
     alloc: Global,
     places: &mut [Custody],
@@ -295,7 +298,7 @@ pub(crate) fn merged_at(
     }
 }
 
-// Puts the custody in its place, instead of one at the same place. There is room.
+// Puts the custody into the list, or replaces the one of the same place. There is room.
 pub(crate) fn put(list: &mut Vec<Custody>, item: Custody)
     requires { vec_len list.old < vec_capacity list.old }
     ensures { list.new.items ≡ put holding_cmp list.old.items item }

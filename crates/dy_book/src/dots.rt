@@ -1,4 +1,4 @@
-// The dots of a row, to be lent.
+// The dots of a row, as a slice that can be lent.
 ghost use Rattle.std.specs.Prelude.{◌≡◌, ◌≤◌, insert, length, map, not, IfOk, OnOk, OnErr};
 ghost use Rattle.std.specs.Prelude.{IsOkUnless};
 ghost use Rattle.std.specs.List.{filter};

@@ -1,4 +1,4 @@
-// What is held, as the book tells it.
+// What the book says is held.
 ghost use Rattle.std.specs.Prelude.{◌≡◌, ◌+◌, ◌<◌, ◌↔◌, ◌⊎◌, ◌∷◌, ℕ, [], map, length, IfOk, IfErr};
 ghost use Rattle.std.specs.Prelude.{OnOk, OnErr, IsErrOf, IsOkUnless, MatchOption};
 ghost use Rattle.dy_siblings.specs.Siblings.{IsSameRow};
@@ -41,7 +41,7 @@ impl<J: Naming> Book<J> {
         }
     }
 
-    /// The row that the share's node holds for the home, as a step of the log whose number is
+    /// Makes a fetch of the row that the share's node holds for the home. The number of its step is
     /// greater than the since.
     pub fn fetch_step(
         &mut self,
@@ -74,7 +74,7 @@ impl<J: Naming> Book<J> {
         Ok(seen)
     }
 
-    // The same where a step is left.
+    // The same, where a step is left.
     fn fetch_at(&mut self, holder: NodeId, home: NodeId, key: &Key) -> Result<Seen<J>, Fault>
         requires { HasRoom self.old 1 }
         ensures log { OnOk result

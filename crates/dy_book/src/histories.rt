@@ -1,6 +1,7 @@
 ghost use Rattle.std.specs.Prelude.{◌≡◌, ◌≤◌, ◌-◌, List, [], Some, length, slice_get, IfOk};
 ghost use Rattle.std.specs.Prelude.{IsOkUnless};
 ghost use Rattle.dy_core.specs.declared.steps.Step.{Step as OneStep};
+ghost use Rattle.dy_shares.specs.Trails.{AreKept};
 ghost use Rattle.dy_book.specs.Audits.{IsHistoryOf};
 
 use crate::parts::KeyPart;
@@ -12,7 +13,7 @@ use dy_siblings::Key;
 use std::alloc::Global;
 use std::collections::BTreeMap;
 
-/// The steps of a log whose book has ended, to be read by their numbers.
+/// The steps of a book that was closed, to be read by their numbers.
 #[derive(Debug, Drop)]
 pub struct History {
     pub(crate) trail: Vec<KeptStep>,
@@ -35,10 +36,20 @@ impl History {
         self.trail.len()
     }
 
+    /// Each step as it is kept, the oldest first. Takes no memory.
+    pub fn kept(&self) -> &[KeptStep]
+        ensures trail { result.now ≡ self.now.trail.items }
+        ensures kept { (steps : List OneStep) → IsHistoryOf self.now steps →
+            AreKept result.now steps }
+    {
+        self.trail.as_slice()
+    }
+
     /// The step of this number, from 1.
     pub fn step(&self, alloc: Global, at: usize) -> Result<Step, Fault>
         requires from_one { 1 ≤ at }
-        requires within { (steps : List OneStep) × IsHistoryOf self.now steps × (at ≤ length steps) }
+        requires within { (steps : List OneStep) × IsHistoryOf self.now steps
+            × (at ≤ length steps) }
         ensures ok { (steps : List OneStep) → IsHistoryOf self.now steps →
             IfOk result (λ step. slice_get steps (at - 1) ≡ Some step) }
         ensures memory { IsOkUnless result Fault.OutOfMemory }

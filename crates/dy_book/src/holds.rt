@@ -1,4 +1,4 @@
-// How the book grows by what is held.
+// How holds are added to the book.
 ghost use Rattle.std.specs.Prelude.{◌≡◌, ◌≢◌, ◌<◌, ◌↔◌, ◌⊎◌, ◌++◌, ◌∷◌, ℕ, [], Some, map};
 ghost use Rattle.std.specs.Prelude.{IsTrue, IsSome, IfOk, IfErr, OnOk, OnErr, IsErrOf, IsOkUnless};
 ghost use Rattle.std.specs.List.{All};
@@ -46,7 +46,7 @@ fn make_part(alloc: Global, keys: &mut BTreeMap<Key, KeyPart>, key: &Key) -> Res
     Ok(())
 }
 
-// Makes a part for the key of a row without a version, where there is none yet and a step is left.
+// Makes a part for the key of a row without versions, if there is none yet and a step is left.
 fn make_part_of(
     alloc: Global,
     keys: &mut BTreeMap<Key, KeyPart>,
@@ -90,7 +90,7 @@ fn held_after(
     Ok(custody)
 }
 
-// Holds the row at its place, and says these steps to the ledger, or does neither.
+// Holds the row at its place, and adds these steps to the ledger, or does neither.
 pub(crate) fn hold_at<J: Naming>(
     alloc: Global,
     ledger: &mut Ledger<J>,
@@ -132,8 +132,8 @@ pub(crate) fn hold_at<J: Naming>(
     Ok(())
 }
 
-// Holds the row in the log and in the part of its key, where each of its versions is issued and a
-// step is left, and gives its receipts; or changes nothing.
+// Holds the row in the log and in the part of its key, if each of its versions is the issued one
+// and a step is left. Gives its receipts. A refusal changes nothing.
 fn hold_in<J: Naming>(
     alloc: Global,
     ledger: &mut Ledger<J>,
@@ -184,8 +184,8 @@ fn hold_in<J: Naming>(
 }
 
 impl<J: Naming> Book<J> {
-    /// What the node holds for the home becomes its merge with the incoming row; one receipt for
-    /// each incoming version, in the order of the dots.
+    /// Merges the row into what the node holds for the home. Gives a receipt for each version of
+    /// the row, in the order of the dots.
     pub fn hold(
         &mut self,
         share: &mut NodeShare<J>,
@@ -233,8 +233,8 @@ impl<J: Naming> Book<J> {
         Ok(receipts)
     }
 
-    /// Whether each version of the row is issued, and a step is left, so that a hold of it is
-    /// refused for memory alone. Takes no memory.
+    /// Whether each version of the row is the issued one, and a step is left. A hold of the row can
+    /// then be refused for memory alone. Takes no memory.
     pub fn check_hold(&self, incoming: &Row) -> Result<(), Fault>
         ensures ok { OnOk result
             (AreMadeOf (world_of self.now) incoming.now.key incoming.now.versions

@@ -1,4 +1,4 @@
-// Which of the versions that come are issued.
+// Which versions of an incoming row are the issued ones.
 ghost use Rattle.std.specs.Prelude.{◌≡◌, ◌<◌, ◌↔◌, [], IsTrue, MatchOption, None};
 ghost use Rattle.std.specs.List.{Contains};
 ghost use Rattle.std.specs.Option.{option_copied};
@@ -15,8 +15,7 @@ use dy_dots::{Dot, Fault};
 use dy_shares::{Ledger, Naming};
 use dy_siblings::{Row, Version};
 
-// Whether the version is the issued one of its key and dot, where this is what is known of the
-// key.
+// Whether the version is the issued one of its key and dot, by the key's part.
 fn is_issued_as<J: Naming>(ledger: &Ledger<J>, part: Option<&KeyPart>, version: &Version) -> bool
     requires legal { IsLegal (layout_of J.ring J.n) (steps_of ledger.now.log) }
     requires part { IsPart (world_after (steps_of ledger.now.log)) version.now.key
@@ -36,8 +35,7 @@ fn is_issued_as<J: Naming>(ledger: &Ledger<J>, part: Option<&KeyPart>, version: 
     }
 }
 
-// The least dot of the row's versions that aren't issued as they are, where this is what is known
-// of its key.
+// The least dot of the row's versions that is not of the issued version, by the key's part.
 pub(crate) fn first_not_issued<J: Naming>(
     ledger: &Ledger<J>,
     part: Option<&KeyPart>,
@@ -59,8 +57,8 @@ pub(crate) fn first_not_issued<J: Naming>(
     None
 }
 
-// Why the row is not held, where nothing is known of its key: the first of its versions is not
-// issued, or it has none, and no step is left.
+// Why a row of a key that the book does not know is not held. Its first version is not issued; or
+// it has none, and no step is left.
 pub(crate) fn refusal_of_unknown<J: Naming>(
     ledger: &Ledger<J>,
     row: &Row,
@@ -80,7 +78,7 @@ pub(crate) fn refusal_of_unknown<J: Naming>(
 }
 
 impl<J: Naming> Book<J> {
-    // The least dot of the row's versions that aren't issued as they are.
+    // The least dot of the row's versions that is not of the issued version.
     pub(crate) fn first_not_issued(&self, row: &Row) -> Option<Dot>
         ensures { MatchOption result
             (AreMadeOf (world_of self.now) row.now.key row.now.versions)

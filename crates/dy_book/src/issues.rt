@@ -1,4 +1,4 @@
-// How the book grows by versions, each with its first hold.
+// How versions are added to the book, each with its first hold.
 ghost use Rattle.std.specs.Prelude.{◌≡◌, ◌≢◌, ◌<◌, ℕ, Some, map, IsTrue, IfOk, OnOk, OnErr};
 ghost use Rattle.std.specs.Prelude.{IsOkUnless};
 ghost use Rattle.dy_dots.specs.declared.dots.TheConstants.{MAX_COUNTER};
@@ -21,8 +21,8 @@ use dy_shares::{Ledger, Naming, NodeShare, Receipt, StepRef};
 use dy_siblings::{Row, Version};
 use std::alloc::Global;
 
-// The issue of the version, which names its whole past, and the hold of it alone, which this row
-// is.
+// The issue of the version, with its whole past as context, and the hold of this row, which is the
+// version alone.
 fn steps_of_issue<'a>(
     node: NodeId,
     home: NodeId,
@@ -37,7 +37,7 @@ fn steps_of_issue<'a>(
     [StepRef::issue(version), StepRef::hold(place, row)]
 }
 
-// Adds the version and holds it alone, in the log and in the part of its key, or changes neither.
+// Adds the version, and holds it alone, in the log and in the part of its key, or in neither.
 fn issue_in<J: Naming>(
     alloc: Global,
     ledger: &mut Ledger<J>,
@@ -75,7 +75,7 @@ fn issue_in<J: Naming>(
 }
 
 impl<J: Naming> Book<J> {
-    /// The issue of this version and the hold of it alone, both or neither, and the receipt of it.
+    /// Issues the version and holds it alone, or does neither. Gives the receipt.
     pub fn issue(
         &mut self,
         share: &mut NodeShare<J>,

@@ -7,7 +7,7 @@ use dy_core::Ranked;
 use dy_dots::Fault;
 use std::cmp::Ordering;
 
-// The items in order, and of those that tie the first.
+// The items in order. Of items that tie it keeps the first.
 pub(crate) fn ordered<T: Ranked + Drop>(mut items: Vec<T>) -> Result<Vec<T>, Fault>
     requires { IsTotalOrder T.ranked }
     ensures ok { IfOk result (λ list. IsInOrder T.ranked items.items list.items) }

@@ -10,8 +10,8 @@ pub const MAX_VERSIONS: usize = 100_000;
 /// How many steps a book makes at most.
 pub const MAX_STEPS: usize = 1_000_000;
 
-/// How many homes a key has, how many answers a get needs, and how many homes a put that names no
-/// number of its own; and the limits of a book.
+/// The numbers of a quorum and the limits of a book. A key has `n` homes, and a get needs `r`
+/// answers. `w` is the number of homes of a put that names none of its own.
 #[derive(Clone, Copy, Debug, PartialEq, Eq)]
 pub struct Options {
     pub n: u8,
@@ -25,7 +25,8 @@ pub struct Options {
 impl Options {
     ghost use Rattle.dy_book.specs.Limits.{AreLimits, IsQuorum};
 
-    /// So many homes a key, answers a get and homes a put, with the greatest limits.
+    /// The options with these numbers of homes a key, answers a get and homes a put, and the
+    /// greatest limits.
     pub const fn of(n: u8, r: u8, w: u8) -> Options
         ensures numbers { (result.n ≡ n) × (result.r ≡ r) × (result.w ≡ w) }
         ensures counters { result.counter_limit ≡ MAX_COUNTER }

@@ -14,7 +14,7 @@ use dy_siblings::Version;
 use std::alloc::Global;
 use std::marker::Model;
 
-// The versions that one node made, in the order of their counters, of which none is left out.
+// All versions that one node made, in the order of their counters.
 #[derive(Debug, Drop)]
 pub struct Made {
     versions: Vec<Version>,
@@ -184,7 +184,7 @@ impl KeyPart {
     }
 }
 
-// Makes lists without a version, until there is one for the node.
+// Adds empty lists, until there is one for the node.
 fn make_room(alloc: Global, made: &mut Vec<Made>, node: usize) -> Result<(), Fault>
     requires { node < MAX_NODES }
     ensures room { OnOk result (node < length made.new.items) }

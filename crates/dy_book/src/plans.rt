@@ -19,7 +19,7 @@ use dy_dots::{Context, Dot, Fault, Run};
 use dy_shares::{Naming, NodeShare};
 use dy_siblings::{Key, Value, Version};
 
-// The first counter of the dots of the set that lie without a gap below this one of them.
+// Of the dots of the set that lie below this one without a gap, the first counter.
 fn low_end(past: &Context, dot: Dot) -> u32
     requires { set.contains past.now dot ≡ true }
     ensures low { result ≤ dot.counter }
@@ -47,7 +47,7 @@ fn low_end(past: &Context, dot: Dot) -> u32
 }
 
 impl<J: Naming> Book<J> {
-    // The least dot of the run that is of no version of the key of which this is known.
+    // The least dot of the run that no version of the key has, by the key's part.
     fn first_unknown(&self, part: Option<&KeyPart>, run: &Run) -> Option<Dot>
         requires low { 1 ≤ run.now.first }
         requires high { run.now.last ≤ MAX_COUNTER }
@@ -69,7 +69,7 @@ impl<J: Naming> Book<J> {
         Some(dot)
     }
 
-    /// The least dot of the context that is of no version of the key, where there is one: run by
+    /// The least dot of the context that no version of the key has, if there is one. It goes run by
     /// run, not dot by dot. Takes no memory.
     pub fn unknown(&self, key: &Key, context: &Context) -> Option<Dot>
         ensures { MatchOption result (IsKnown (world_of self.now) key.now context.now)
@@ -78,7 +78,7 @@ impl<J: Naming> Book<J> {
         self.unknown_in(self.part(key), key, context)
     }
 
-    // The same, where this is what is known of the key.
+    // The same, by the key's part.
     fn unknown_in(&self, part: Option<&KeyPart>, _key: &Key, context: &Context) -> Option<Dot>
         requires { IsPart (world_of self.now) _key.now (option_copied part) }
         ensures { MatchOption result (IsKnown (world_of self.now) _key.now context.now)
@@ -94,8 +94,8 @@ impl<J: Naming> Book<J> {
         None
     }
 
-    // Adds the history of the dot's version where the dot isn't there yet, and gives the first of
-    // the counters that lie without a gap below it.
+    // Adds the history of the dot's version to the past, if the dot isn't there yet. Gives the
+    // first of the counters that lie below it without a gap.
     fn add_history(
         &self,
         part: Option<&KeyPart>,
@@ -124,8 +124,9 @@ impl<J: Naming> Book<J> {
         Ok(dot.counter())
     }
 
-    // Adds the histories of the versions that the run names, from the last to the first, and skips
-    // what is there already: a version's history lies in that of each version that follows it.
+    // Adds the histories of the versions that the run names, from the last to the first. It skips
+    // dots that are there already: a version's history lies in that of each version that follows
+    // it.
     fn add_run(
         &self,
         part: Option<&KeyPart>,
@@ -153,7 +154,7 @@ impl<J: Naming> Book<J> {
         Ok(())
     }
 
-    // The histories, together, of the versions of the key that the context names.
+    // The union of the histories of the key's versions that the context names.
     fn past_named(
         &self,
         part: Option<&KeyPart>,
@@ -174,7 +175,7 @@ impl<J: Naming> Book<J> {
         Ok(past)
     }
 
-    // A copy of the key, which shares what the index has of it, where it does not lie in place.
+    // A copy of the key. A long one shares its bytes with the index.
     fn own_copy(&self, key: &Key) -> Result<Key, Fault>
         ensures value { IfOk result (λ copy. copy ≡ key.now) }
         ensures memory { IsOkUnless result Fault.OutOfMemory }
@@ -188,9 +189,9 @@ impl<J: Naming> Book<J> {
         }
     }
 
-    /// The version that an issue would add now for the share's node: the dot is the node's last
-    /// counter of the key plus one, and the past is the histories, together, of the versions that
-    /// the context names. It makes no step.
+    /// The version that an issue would add now for the share's node. Its dot has the node's last
+    /// counter of the key plus one. Its past is the union of the histories of the versions that the
+    /// context names. Makes no step.
     pub fn plan(
         &self,
         share: &NodeShare<J>,

@@ -12,7 +12,7 @@ use dy_shares::{Ledger, Naming, Receipt};
 use dy_siblings::{Key, Row};
 use std::alloc::Global;
 
-// A copy of the row's key for each of its versions but one, where a copy takes memory.
+// Copies of the row's key, for all of its versions but one, where a copy takes memory.
 pub(crate) fn more_keys(alloc: Global, row: &Row) -> Result<Vec<Key>, Fault>
     ensures count { IfOk result (λ keys. SHORT_KEY_BYTES < length row.now.key →
         length keys.items ≡ length row.now.versions - 1) }
@@ -30,7 +30,7 @@ pub(crate) fn more_keys(alloc: Global, row: &Row) -> Result<Vec<Key>, Fault>
     Ok(keys)
 }
 
-// A copy of the row's key: made in place, or taken off these.
+// A copy of the row's key: a short one is made in place, a long one is taken from these.
 fn next_key(row: &Row, keys: &mut Vec<Key>) -> Option<Key>
     requires same { All (λ key. key ≡ row.now.key) keys.old.items }
     ensures there { (SHORT_KEY_BYTES < length row.now.key → 0 < length keys.old.items) →

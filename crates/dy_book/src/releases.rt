@@ -71,8 +71,8 @@ fn give_up_all<J: Naming>(
 }
 
 impl<J: Naming> Book<J> {
-    /// Each receipt's dot leaves what the share's node holds for the receipt's home, one release
-    /// each, all or none. Without receipts it takes no memory.
+    /// Releases each receipt's dot from what the share's node holds for the receipt's home: all or
+    /// none. Without receipts it takes no memory.
     pub fn release(
         &mut self,
         share: &mut NodeShare<J>,
@@ -106,7 +106,7 @@ impl<J: Naming> Book<J> {
         }
     }
 
-    // The same where so many steps are left.
+    // The same, where as many steps are left.
     fn release_within(
         &mut self,
         share: &mut NodeShare<J>,

@@ -62,7 +62,7 @@ fn versions_of(alloc: Global, part: Option<&KeyPart>, dots: &Context) -> Result<
     Ok(versions)
 }
 
-// The row of the key that has these dots: of one key and one dot there is one version.
+// The row of the key that has these dots. A key has one version of a dot.
 fn row_of(
     alloc: Global,
     keys: &BTreeMap<Key, KeyPart>,
@@ -81,7 +81,7 @@ fn row_of(
     Ok(Row::from_versions(own, versions))
 }
 
-// The issue of the version, which names its whole past.
+// The issue of the version, with its whole past as context.
 fn issue_of(alloc: Global, version: &Version) -> Result<Step, Fault>
     ensures ok { IfOk result (λ step. step ≡
         Issue version.now.dot.node version.now.key version.now.past version.now.value) }
@@ -102,7 +102,7 @@ fn issue_of(alloc: Global, version: &Version) -> Result<Step, Fault>
     })
 }
 
-// The step of a log that is kept, where this is the log's index.
+// The step that is kept so, by the log's index.
 pub(crate) fn step_of(
     alloc: Global,
     keys: &BTreeMap<Key, KeyPart>,
