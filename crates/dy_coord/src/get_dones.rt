@@ -12,8 +12,9 @@ use dy_siblings::{Key, Row, Value};
 use dy_transport::AnswerVec;
 use std::alloc::Global;
 
-/// A get that was answered: the merged row and its context, how many steps its session knew of
-/// before it, where the rows come from, each row that was seen, and each answer that was read.
+/// A get that was answered. It has the merged row and its context, and how many steps its session
+/// knew of before it. `from` says where the used rows come from, `seen` has each row that came, and
+/// `answers` each answer that was read.
 #[derive(Drop)]
 pub struct GetDone<J: Naming> {
     pub row: Row,
@@ -25,7 +26,7 @@ pub struct GetDone<J: Naming> {
 }
 
 impl<J: Naming> GetDone<J> {
-    /// The values that are present, each with its dot, in the order of the dots.
+    /// The present values, each with its dot, in the order of the dots.
     pub fn values(&self, alloc: Global) -> Result<Vec<(Dot, &Value)>, Fault>
         ensures ok { IfOk result (λ values.
             map (λ p. (p.0, p.1.now)) values.items ≡ present_values self.now.row.versions) }
@@ -44,8 +45,8 @@ impl<J: Naming> GetDone<J> {
         are_of_homes(self.from.as_slice())
     }
 
-    /// Whether it is sure to have the version of the put, or one that causally follows it, in a
-    /// cluster of these options: where it is false the get may have it too. Takes no memory.
+    /// Whether it is sure to have the put's version, or one that causally follows it, in a cluster
+    /// of these options. If not, it may have it all the same. Takes no memory.
     pub fn sees(&self, put: &PutDone<J>, options: &Options) -> bool
         ensures { IsTrue result ↔ IsSureOf options.now.n self.now put.now }
     {

@@ -16,7 +16,7 @@ use dy_siblings::Row;
 use dy_transport::AnswerVec;
 use std::alloc::Global;
 
-// Merges the rows of these answers, and tells the session of them.
+// Merges the rows of these answers, and adds the get to the session's list.
 fn tell_of<J: Naming>(
     alloc: Global,
     used: Vec<Seen<J>>,
@@ -42,7 +42,8 @@ fn tell_of<J: Naming>(
     Ok((row, context))
 }
 
-// Merges the rows of the first answer of each home, and tells the session of copies of these.
+// Merges the rows of the first answer of each home, and adds the get, with copies of them, to the
+// session's list.
 fn tell<J: Naming>(
     alloc: Global,
     gathering: &Gathering<J>,

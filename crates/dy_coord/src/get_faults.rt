@@ -4,8 +4,8 @@ use dy_dots::Fault;
 use dy_transport::AnswerVec;
 use std::alloc::Global;
 
-/// A get that was refused, with every answer that was read where too few homes answered. Any other
-/// refusal lists none.
+/// A get that was refused. Where too few homes answered it lists every answer that was read; any
+/// other refusal lists none.
 #[derive(Drop)]
 pub struct GetFault {
     pub fault: Fault,

@@ -24,7 +24,7 @@ use dy_siblings::Key;
 use dy_transport::{AnswerKind, AnswerRead, AnswerVec, Transport};
 use std::sync::Wait;
 
-// The row in an answer, where it is one of rows.
+// The row of an answer, if it has one.
 fn seen_of<J: Naming>(answer: Answer<J>) -> Option<Seen<J>>
     ensures some { IfSome result (λ seen. seen_in answer ≡ seen ∷ []) }
     ensures none { IfNone result (seen_in answer ≡ []) }

@@ -42,9 +42,9 @@ fn prepare<J: Naming>(
     Ok((answers, gathering))
 }
 
-/// A get (Dynamo, section 4.5): looks at the first node of the list that is not down, asks each
-/// home, reads until r homes have answered with a row, by themselves or by a node that stands in,
-/// and tells the session. A refusal leaves the session as it was. May wait for locks and answers.
+/// A get (Dynamo, section 4.5). It looks at the first node of the list that is not down, and asks
+/// each home. It reads until r homes have answered with a row, by themselves or by a stand-in, and
+/// adds the get to the session's list. May wait for locks and answers.
 pub fn get<J: Naming, T: Transport<J>, R: Wait>(
     rt: &R,
     alloc: Global,

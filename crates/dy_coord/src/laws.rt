@@ -24,10 +24,10 @@ ghost use Rattle.dy_coord.specs.declared.put_results.PutFault.{PutFault};
 
 use dy_shares::Naming;
 
-/// A put that began is refused for want of homes exactly where nodes answered that they hold its
-/// row for fewer than w homes, the coordinator's own among them, and then it lists these answers;
-/// where they did for w homes, it is acknowledged, or memory is wanting, or the book's steps are
-/// full.
+/// Of a put that began. It is refused for want of homes exactly where, by the answers, nodes hold
+/// its row for fewer than w homes, the coordinator's own among them. It then lists these answers.
+/// Where they hold it for w homes, the put is acknowledged, or memory is wanting, or no step is
+/// left.
 pub fn puts_fail_only_for_want_of_homes<J: Naming>()
     ensures enough { (list : Preferred) (w : ℕ) (key : List ℕ) (context : DotSet)
         (value : Option (List ℕ)) (before after : SessionPart) (told : Told J)
@@ -50,8 +50,8 @@ pub fn puts_fail_only_for_want_of_homes<J: Naming>()
         e.answers.items ≡ put.answers }
 {}
 
-/// A put with the context of a get follows each version that the get gave, deletions too: the
-/// version that it makes has each history of theirs in its past.
+/// A put with the context of a get follows each version that the get gave, deletions too. The past
+/// of its version has each of their histories.
 pub fn writes_follow_reads<J: Naming>()
     ensures { (read : Preferred) (key : List ℕ) (r since : ℕ) (got : Told J) (done : GetDone J) →
         IsGot read key r since got done →
@@ -62,9 +62,9 @@ pub fn writes_follow_reads<J: Naming>()
         done.row.versions }
 {}
 
-/// A get gives what its session was told: its context has a dot exactly where the versions of the
-/// answers cover it, and all its places are of homes that hold for themselves exactly where the
-/// answers are of such.
+/// A get gives what its session's list has. Its context has a dot exactly where the versions of the
+/// listed answers cover it. All its places are homes that hold for themselves exactly where the
+/// listed answers are of such homes.
 pub fn gets_give_what_was_told<J: Naming>()
     ensures context { (list : Preferred) (key : List ℕ) (r since : ℕ) (told : Told J)
         (done : GetDone J) → IsGot list key r since told done → (d : Dot) →

@@ -1,4 +1,4 @@
-//! Puts and gets, over whatever carries messages.
+//! Puts and gets, over any transport.
 #![tactic(auto)]
 
 mod get_dones;

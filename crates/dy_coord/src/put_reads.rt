@@ -25,7 +25,7 @@ use dy_siblings::Row;
 use dy_transport::{AnswerVec, Transport};
 use std::sync::Wait;
 
-// How many answers a put, or a get, makes room for: it reads two of each node at most.
+// For how many answers a put or a get makes room: two of each node of the list.
 pub(crate) fn most_answers(list: &Preference) -> usize
     ensures value { result ≡ 2 * length list.now.nodes }
     ensures valid { IsPreferred list.now }
@@ -40,8 +40,8 @@ fn is_of<J: Naming>(receipt: &Receipt<J>, dot: Dot) -> bool
     receipt.dot() == dot
 }
 
-// The last of these receipts that is of the dot. Those of a new version are among the last: so few
-// are looked at, however many there are.
+// The last of these receipts that is of the dot. It looks from the end, where the receipt of a new
+// version lies, so it looks at few.
 fn receipt_of_dot<J: Naming>(mut receipts: Vec<Receipt<J>>, dot: Dot) -> Option<Receipt<J>>
     ensures { result ≡ last_of dot receipts.items }
 {
@@ -53,7 +53,7 @@ fn receipt_of_dot<J: Naming>(mut receipts: Vec<Receipt<J>>, dot: Dot) -> Option<
     None
 }
 
-// The receipt of the dot in an answer, where it holds the row.
+// The receipt of the dot in an answer, if its node holds the row.
 fn receipt_in<J: Naming>(answer: Answer<J>, dot: Dot) -> Option<Receipt<J>>
     ensures { result ≡ receipt_at dot answer }
 {
@@ -106,7 +106,8 @@ pub(crate) fn read_put<J: Naming, T: Transport<J>, R: Wait>(
         ≡ answers.old.items ++ map as_read (T.told transport.new).replies }
     ensures out { IsReadOut (T.told transport.new) }
 {
-    // Whose receipt the tally began with: they stand here for the contract alone.
+    // The coordinator and its home, of which the first receipt in the tally is. They are for the
+    // contract alone.
     let _ = (coordinator, held);
     let request = Request::Store(row);
     'reading: for _ in rt.forever() {

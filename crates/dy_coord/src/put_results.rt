@@ -6,8 +6,8 @@ use dy_shares::{Naming, Receipt};
 use dy_transport::AnswerVec;
 use std::alloc::Global;
 
-/// A put that was acknowledged: its dot, the number of the step of its ack, the receipts that were
-/// spent for it, and every answer that was read, the coordinator's own first.
+/// A put that was acknowledged: its dot, the number of the ack's step, and the receipts that were
+/// spent for it. It lists every answer that was read, the coordinator's own first.
 #[derive(Drop)]
 pub struct PutDone<J: Naming> {
     pub dot: Dot,
@@ -17,8 +17,8 @@ pub struct PutDone<J: Naming> {
 }
 
 impl<J: Naming> PutDone<J> {
-    /// How many of the homes that it was acknowledged for hold the version themselves, and not by a
-    /// stand-in alone. Takes no memory.
+    /// How many of the homes that it was acknowledged for hold the version themselves, not by a
+    /// stand-in. Takes no memory.
     pub fn homes_themselves(&self) -> usize
         ensures { result ≡ length (own_homes self.now.spent.items) }
     {
@@ -32,8 +32,8 @@ impl<J: Naming> PutDone<J> {
     }
 }
 
-/// A put that was refused: its dot where a version was made, and where too few homes have it every
-/// answer that was read, the coordinator's own first. Any other refusal lists none.
+/// A put that was refused, with its dot if a version was made. Where too few homes have the version
+/// it lists every answer that was read, the coordinator's own first; any other refusal lists none.
 #[derive(Debug, Drop)]
 pub struct PutFault {
     pub fault: Fault,

@@ -74,7 +74,7 @@ fn spread<J: Naming, T: Transport<J>, R: Wait>(
     ensures room { (T.told transport.new).room ≡ (T.told transport.old).room }
     ensures w { tally.new.w ≡ tally.old.w }
 {
-    // Each version of a row is of its key.
+    // Brings the clause that each version of a row is of its key.
     let _versions = row.versions();
     let held = list.home_for(coordinator);
     answers.push_reserved(AnswerRead {
@@ -123,7 +123,7 @@ fn conclude<J: Naming, T: Transport<J>, R: Wait>(
     ensures ends { EndsAfter {J = J} key.now dot w tally.added answers.items
         (T.told transport.old).tries (T.told transport.new).tries session.old session.new result }
 {
-    // The receipts were made with the key, so it stands here for the contract alone.
+    // The receipts have copies of the key. The key is here for the contract alone.
     let _ = key;
     if !tally.ready() {
         return Err(PutFault {
@@ -135,7 +135,7 @@ fn conclude<J: Naming, T: Transport<J>, R: Wait>(
     let receipts = tally.into_receipts();
     match transport.record(rt, session, w, &receipts) {
         Ok(()) => {
-            // The ack is the last step that the session was told.
+            // The ack is the last step in the session's list.
             let last = session.since().at();
             Ok(PutDone {
                 dot,
@@ -152,7 +152,7 @@ fn conclude<J: Naming, T: Transport<J>, R: Wait>(
     }
 }
 
-// A put that named a number of homes that there are.
+// A put whose w is from 1 to n.
 fn put_in_range<J: Naming, T: Transport<J>, R: Wait>(
     rt: &R,
     alloc: Global,
@@ -202,10 +202,10 @@ fn put_in_range<J: Naming, T: Transport<J>, R: Wait>(
     }
 }
 
-/// A put (Dynamo, sections 4.5 and 4.6): it begins at the first node that is not down, asks the
-/// homes, reads every answer with its stand-ins, and is acknowledged where as many homes as it
-/// named hold the version on as many nodes. May wait for answers, and for locks. Takes no memory
-/// after its first try, but for what the transport sends.
+/// A put (Dynamo, sections 4.5 and 4.6). It begins at the first node that is not down, asks the
+/// homes and then stand-ins, and reads every answer. It is acknowledged where w homes hold the
+/// version on w nodes. May wait for answers, and for locks. Takes no memory after its first try,
+/// but for what the transport sends.
 pub fn put<J: Naming, T: Transport<J>, R: Wait>(
     rt: &R,
     alloc: Global,

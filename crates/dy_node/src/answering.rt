@@ -26,7 +26,7 @@ fn run<J: Naming>(node: &mut Node<J>, book: &mut Book<J>, ask: &Ask<'_, J>) -> A
     }
 }
 
-// Keeps a row for later, and does nothing else.
+// Keeps a row for later. Of a fetch it does nothing.
 fn delay<J: Naming>(node: &mut Node<J>, ask: &Ask<'_, J>) -> Answer<J>
     requires { MayAsk J.ring J.n node.old.part.node ask.now }
     ensures { IsPutOff ask.now node.old node.new result }
@@ -50,7 +50,7 @@ fn repeat<J: Naming>(node: &mut Node<J>, book: &mut Book<J>, ask: &Ask<'_, J>) -
     run(node, book, ask)
 }
 
-/// A node's answer to an ask by its flag and mode, and a second one where it is up and late.
+/// A node's answer to an ask, by its flag and mode. A node that is up and late gives a second one.
 pub fn answer<J: Naming>(
     node: &mut Node<J>,
     book: &mut Book<J>,

@@ -25,7 +25,7 @@ use dy_shares::{Naming, NodeShare, Receipt};
 use dy_siblings::{Key, Row, Value, Version};
 use std::alloc::Global;
 
-// The version that the node would make now, with its counter; nothing is changed.
+// The version that the node would make now, and its counter. Changes nothing.
 fn plan_next<J: Naming>(
     stores: &Stores,
     share: &NodeShare<J>,
@@ -57,7 +57,7 @@ fn plan_next<J: Naming>(
     Ok((version, counter))
 }
 
-// A copy of what is kept for the home, and then the issue of the version in the book.
+// Copies what is kept for the home, and then issues the version in the book.
 fn copy_and_issue<J: Naming>(
     alloc: Global,
     stores: &Stores,
@@ -89,8 +89,8 @@ fn copy_and_issue<J: Naming>(
     Ok((whole, receipt))
 }
 
-// Makes the version that was planned and holds it for the home; what is refused changes nothing.
-// Gives a copy of what is kept there then.
+// Makes the planned version, and holds it for the home. A refusal changes nothing. Gives a copy of
+// what is kept there then.
 fn issue_row<J: Naming>(
     alloc: Global,
     stores: &mut Stores,
@@ -142,8 +142,8 @@ fn issue_row<J: Naming>(
 
 impl<J: Naming> Node<J> {
     /// Makes a version of the key, and holds it alone for the home: in the log, the share and the
-    /// store, or in none of them. Its dot is the node's next of the key, and its past the histories
-    /// of the versions that the context names.
+    /// store, or in none. Its dot is the node's next of the key. Its past is the union of the
+    /// histories of the versions that the context names.
     pub fn begin(
         &mut self,
         book: &mut Book<J>,

@@ -1,4 +1,4 @@
-// Rows that came, and are stored later.
+// Rows that wait to be stored later.
 ghost use Rattle.std.specs.Prelude.{◌≡◌, ◌≢◌, ◌↔◌, ℕ, ◌<◌, Some, true, false, length, slice_get};
 ghost use Rattle.std.specs.Prelude.{IsTrue};
 ghost use Rattle.std.specs.Prelude.{IfOk, IfErr, OnOk, OnErr, IsErrOf, IsOkUnless};
@@ -16,7 +16,7 @@ use dy_shares::Naming;
 use dy_siblings::Row;
 
 impl<J: Naming> Node<J> {
-    // Puts the row behind the messages that wait.
+    // Adds the row behind the messages that wait.
     fn push_message(&mut self, home: NodeId, row: Row) -> Result<(), Fault>
         requires may_hold { IsTrue
             (may_hold (homes_of J.ring J.n row.key) self.old.part.node home) }
@@ -29,8 +29,8 @@ impl<J: Naming> Node<J> {
         Ok(())
     }
 
-    /// Keeps a copy of the row, to be stored later for the home, behind those that wait. A node
-    /// that is down keeps it too.
+    /// Keeps a copy of the row behind those that wait, to store it later for the home. A node that
+    /// is down keeps it too.
     pub fn defer(&mut self, home: NodeId, row: &Row) -> Result<(), Fault>
         requires may_hold { IsTrue
             (may_hold (homes_of J.ring J.n row.now.key) self.old.part.node home) }
@@ -71,8 +71,8 @@ impl<J: Naming> Node<J> {
         }
     }
 
-    /// Stores the messages that wait, the oldest first, and tells how many. Where one is refused,
-    /// those before it are stored, and it and the rest wait on.
+    /// Stores the messages that wait, the oldest first, and gives how many. Where one is refused,
+    /// those before it are stored, and it waits on with the rest.
     pub fn deliver(&mut self, book: &mut Book<J>) -> Result<usize, Fault>
         ensures ok { IfOk result (λ n. (n ≡ length self.old.waiting)
             × IsDelivered book.old self.old n book.new self.new) }

@@ -1,4 +1,4 @@
-// What a node answers to a look.
+// What a node answers to a fetch.
 ghost use Rattle.std.specs.Prelude.{◌≡◌, ◌+◌, ◌<◌, ◌∷◌, [], length, IfOk, OnOk, OnErr};
 ghost use Rattle.std.specs.Result.{result_err};
 ghost use Rattle.dy_siblings.specs.Siblings.{IsSameRow};
@@ -15,8 +15,8 @@ use dy_shares::{Naming, Seen, Since};
 use dy_siblings::Key;
 
 impl<J: Naming> Node<J> {
-    /// The row that the node keeps of the key for the home, as a step of the log whose number is
-    /// greater than the since; where it keeps none, the row has no version.
+    /// Fetches the row that the node keeps of the key for the home. Where it keeps none, the row
+    /// has no version. The number of the step is greater than the since.
     pub fn fetch(
         &mut self,
         book: &mut Book<J>,

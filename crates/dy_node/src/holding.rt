@@ -16,7 +16,7 @@ use dy_dots::{Fault, NodeId};
 use dy_shares::{Naming, NodeShare, Receipt};
 use dy_siblings::Row;
 
-// Merges the row into what is kept, and holds it for the home; what is refused changes nothing.
+// Merges the row into what is kept, and holds it for the home. A refusal changes nothing.
 pub(crate) fn hold_row<J: Naming>(
     stores: &mut Stores,
     share: &mut NodeShare<J>,
@@ -59,9 +59,9 @@ pub(crate) fn hold_row<J: Naming>(
 }
 
 impl<J: Naming> Node<J> {
-    /// Holds the row for the home, merged into what is kept there, and gives a receipt for each of
-    /// its versions. The book is asked before any growth. A row that is kept as it is costs the
-    /// node no more than the comparison.
+    /// Merges the row into what is kept for the home, and gives a receipt for each of its versions.
+    /// The book is asked before any growth. A row that is kept already costs the node only the
+    /// comparison.
     pub fn store(
         &mut self,
         book: &mut Book<J>,

@@ -3,12 +3,12 @@
 pub enum Mode {
     /// It does them and answers.
     Plain,
-    /// It does them, and no answer comes.
+    /// It does them, and sends no answer.
     Mute,
-    /// It does them, and the answer comes after the news that none came.
+    /// It does them, and first says that no answer came; the answer comes later.
     Late,
     /// It does them three times, and gives the last answer.
     Repeat,
-    /// It keeps a row for later and does not look, and no answer comes.
+    /// It keeps a row for later, does no fetch, and sends no answer.
     Delay,
 }

@@ -19,8 +19,8 @@ use std::alloc::Global;
 use std::collections::VecDeque;
 use std::marker::Model;
 
-/// A node: the rows that it keeps, its share of the book, whether it is up, what it does with asks,
-/// and the messages that it stores later. It has a share, so it can't be dropped.
+/// A node: its rows, its share of the book, whether it is up, what it does with asks, and the
+/// messages that it stores later. It has a share, so it can't be dropped.
 pub struct Node<J: Naming> {
     pub(crate) alloc: Global,
     pub(crate) stores: Stores,
@@ -51,7 +51,7 @@ impl<J: Naming> Model for Node<J> {
 }
 
 impl<J: Naming> Node<J> {
-    /// A node that is up and keeps nothing, by a share without a step. Takes no memory.
+    /// A node that is up and keeps nothing. Its share has no step. Takes no memory.
     pub fn new(alloc: Global, share: NodeShare<J>) -> Node<J>
         requires { ShowsNothing share }
         ensures { result ≡ first_state share }
@@ -95,7 +95,7 @@ impl<J: Naming> Node<J> {
         self.is_up = is_up;
     }
 
-    /// What it does with asks from now on. Takes no memory.
+    /// Sets what it does with asks. Takes no memory.
     pub fn set_fault(&mut self, mode: Mode)
         ensures { self.new ≡ with_mode self.old mode }
     {
@@ -114,7 +114,7 @@ impl<J: Naming> Node<J> {
     }
 
     /// What the node keeps of the key: its own row, and then its hints in the order of their homes.
-    /// A node that is down tells it too.
+    /// A node that is down gives it too.
     pub fn rows(&self, key: &Key) -> Result<Vec<RowRefFor<'_>>, Fault>
         ensures value { IfOk result
             (λ rows. map shown rows.items ≡ kept_rows self.now.rooms key.now) }

@@ -31,7 +31,7 @@ fn copied(alloc: Global, hints: &[RowRefFor<'_>]) -> Result<Vec<RowFor>, Fault>
 }
 
 impl<J: Naming> Node<J> {
-    /// How many hints the node keeps, as far as a count reaches. A node that is down tells it too.
+    /// How many hints the node keeps, up to the greatest `usize`. A node that is down gives it too.
     /// Takes no memory.
     pub fn hint_count(&self) -> usize
         ensures { result ≡ min (length (maps.entries self.now.rooms.hints)) (2 ^ 64 - 1) }
@@ -39,8 +39,8 @@ impl<J: Naming> Node<J> {
         self.stores.hint_count()
     }
 
-    /// Copies of the rows that are kept for other homes, by home and then by key. It lends the book
-    /// since that tells who may hold.
+    /// Copies of the hints, by home and then by key. It borrows the book because the book's log
+    /// proves that each hint is for a home of its key.
     pub fn offer(&mut self, book: &mut Book<J>) -> Result<Vec<RowFor>, Fault>
         ensures hints { IfOk result (λ hints. hints.items ≡ hints_of self.old) }
         ensures kept { IfOk result (λ hints. All (IsHint self.old.rooms.hints) hints.items) }

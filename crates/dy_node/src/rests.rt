@@ -12,7 +12,7 @@ use std::alloc::Global;
 use std::collections::VecDeque;
 use std::marker::Model;
 
-/// What is left of a node whose share was taken out: it keeps what the node kept, and may be
+/// What is left of a node when its share is taken out. It keeps what the node kept, and may be
 /// dropped.
 #[derive(Drop)]
 pub struct Rest {
@@ -39,7 +39,7 @@ impl Model for Rest {
 }
 
 impl<J: Naming> Node<J> {
-    /// The node's share, which can be handed in, and the rest of the node. Takes no memory.
+    /// Takes the node apart: its share, which can be handed in, and its rest. Takes no memory.
     pub fn retire(self) -> (NodeShare<J>, Rest)
         ensures share { result.0 ≡ self.part }
         ensures rooms { result.1.stored.rooms ≡ self.rooms }
@@ -67,8 +67,8 @@ impl<J: Naming> Node<J> {
         (share, rest)
     }
 
-    /// The node of this share and this rest, which is the one that retired where the share is
-    /// unchanged. Takes no memory.
+    /// Puts a share and a rest together. If the share is unchanged, this is the node that retired.
+    /// Takes no memory.
     pub fn rejoin(share: NodeShare<J>, rest: Rest) -> Node<J>
         requires shown { Shows share rest.stored }
         requires deferred { AreDeferred J.ring J.n share.node rest.waiting }

@@ -14,21 +14,22 @@ use dy_dots::Fault;
 use dy_shares::{Naming, NodeShare, Receipt};
 use std::alloc::Global;
 
-// Whether the two have one home, key and dot.
+// Whether the two are of one home, key and dot.
 fn is_same<J: Naming>(a: &Receipt<J>, b: &Receipt<J>) -> bool
     ensures { result ≡ same_release a.now b.now }
 {
     a.home() == b.home() && (a.key() == b.key() && a.dot() == b.dot())
 }
 
-// Whether one of those chosen has its home, key and dot.
+// Whether one of those chosen is of its home, key and dot.
 fn is_chosen<J: Naming>(chosen: &[Receipt<J>], receipt: &Receipt<J>) -> bool
     ensures { result ≡ list_any (λ r. same_release r receipt.now) chosen.now }
 {
     chosen.iter().any(|other| is_same(other, receipt))
 }
 
-// Takes in a copy of the receipt, where its dot stands in the hint for its home and is not there.
+// Adds a copy of the receipt to those chosen, if its dot stands in the hint for its home and none
+// of them is of it.
 fn take_in<J: Naming>(
     alloc: Global,
     stores: &Stores,
@@ -114,8 +115,8 @@ fn settle_receipts<J: Naming>(
 
 impl<J: Naming> Node<J> {
     /// Releases each receipted dot that stands in the hint for the receipt's home, all or none, and
-    /// tells how many. A refusal for want of memory may come before that for want of steps. Where
-    /// nothing stands it takes no memory.
+    /// gives how many. Want of memory may be answered where steps are wanting too. Where nothing
+    /// stands it takes no memory.
     pub fn settle(&mut self, book: &mut Book<J>, receipts: &[Receipt<J>]) -> Result<usize, Fault>
         requires { All (λ r. r.holder ≡ r.home) receipts.now }
         ensures ok { IfOk result (λ count. IsSettlement book.old self.old.part self.old.rooms

@@ -80,7 +80,7 @@ impl Stores {
         self.own.next_counter(key, limit)
     }
 
-    /// Makes room for the key's counter, where the next one is the first.
+    /// Makes room for the key's counter, if the next one is the first.
     pub(crate) fn make_counter(&mut self, key: &Key, next: u32) -> Result<(), Fault>
         requires { next ≡ greatest_used self.old.counters key.now + 1 }
         ensures ok { OnOk result (self.new ≡
@@ -107,7 +107,7 @@ impl Stores {
         }
     }
 
-    // Puts the row in the place of its key's for the home, and gives that back.
+    // Replaces the key's row for the home, and gives the old one.
     fn replace(&mut self, home: NodeId, row: Row) -> Row
         requires present { IsSome (row_kept self.old.rooms home row.key) }
         requires filled { 0 < length row.versions }
@@ -145,8 +145,8 @@ impl Stores {
         }
     }
 
-    /// Merges the row into what is kept for the home, and tells how to take it back. Takes no
-    /// memory where the row is kept as it is.
+    /// Merges the row into what is kept for the home, and says how to undo that. Takes no memory
+    /// where this very row is kept already.
     pub(crate) fn add(&mut self, home: NodeId, row: &Row) -> Result<Placed, Fault>
         requires { AreOneByDot
             (versions_at self.old.rooms home row.now.key ++ row.now.versions) }
@@ -156,7 +156,7 @@ impl Stores {
         ensures spared { row_kept self.old.rooms home row.now.key ≡ Some row.now → IsOk result }
         ensures memory { IsOkUnless result Fault.OutOfMemory }
     {
-        // They are a row's: none of them is past.
+        // They are the versions of a row: none of them lies in another's past.
         let _versions = row.versions();
         if home == self.node {
             let placed = self.own.absorb(row)?;
@@ -167,7 +167,7 @@ impl Stores {
         }
     }
 
-    /// Takes back what was put. Takes no memory.
+    /// Undoes what was put. Takes no memory.
     pub(crate) fn take_back(&mut self, home: NodeId, key: &Key, placed: Placed)
         requires { FitsBack self.old.rooms home key.now placed }
         ensures { self.new ≡
@@ -231,7 +231,7 @@ impl Stores {
         Ok(rows)
     }
 
-    /// How many rows are kept for other homes, as far as a count reaches. Takes no memory.
+    /// How many rows are kept for other homes, up to the greatest `usize`. Takes no memory.
     pub(crate) fn hint_count(&self) -> usize
         ensures { result ≡ min (length (maps.entries self.now.rooms.hints)) (2 ^ 64 - 1) }
     {

@@ -8,16 +8,15 @@ use dy_shares::Naming;
 use dy_siblings::{Key, Row};
 use std::snapshot::Snapshot;
 
-/// What was asked: to hold a row, or what is kept of a key, later than a number of steps. Keys and
-/// rows stand here for contracts alone.
+/// What was asked: to hold a row, or to fetch what is kept of a key, later than a step. Keys and
+/// rows are for contracts alone.
 #[derive(Drop)]
 pub enum What {
     Store(Snapshot<Row>),
     Fetch(Snapshot<Key>, usize),
 }
 
-/// An ask that was made: the node asked, the home it was for, what was asked, and how many answers
-/// had been read before it.
+/// An ask: the node asked, the home, what was asked, and how many answers were read before it.
 #[derive(Drop)]
 pub struct Asked {
     pub to: NodeId,
@@ -27,7 +26,7 @@ pub struct Asked {
 }
 
 impl Asked {
-    // The ask as it is told.
+    // The ask as the trace has it.
     pub(crate) fn new<J: Naming>(to: NodeId, ask: &Ask<'_, J>, read: usize) -> Asked
         ensures { result ≡ asked to ask.now read }
     {

@@ -14,8 +14,8 @@ use std::alloc::Global;
 use std::marker::Model;
 use std::sync::{Mutex, Wait};
 
-/// A transport that works on the caller's own thread, at the moment of the ask, over nodes that lie
-/// in the order of their numbers. Each call locks the node, then the book, and never two nodes.
+/// A transport on the caller's own thread: an ask is answered at once. The nodes lie in the order
+/// of their numbers. Each call locks the node, then the book, and never two nodes.
 #[derive(Drop)]
 pub struct Direct<'a, J: Naming> {
     reach: Reach<'a, J>,
@@ -37,7 +37,7 @@ impl<'a, J: Naming> Model for Direct<'a, J> {
 }
 
 impl<'a, J: Naming> Direct<'a, J> {
-    /// A transport of these nodes and this book, with room for so many asks.
+    /// A transport of these nodes and this book, with room for this many asks.
     pub fn new(
         alloc: Global,
         nodes: &'a [Mutex<Node<J>>],

@@ -8,8 +8,8 @@ use dy_shares::Naming;
 use smallvec::SmallVec;
 use std::fmt;
 
-/// What kind of answer it was, without what came with it. It prints as `stored`, `rows`, `down`,
-/// `noanswer`, or the number of the refusal, as `E12`.
+/// The kind of an answer, without its content. It prints as `stored`, `rows`, `down` or `noanswer`,
+/// or as the number of the refusal, as `E12`.
 #[derive(Clone, Copy, Debug, Default, PartialEq, Eq)]
 pub enum AnswerKind {
     Stored,
@@ -76,13 +76,12 @@ fn number_of(fault: Fault) -> u8
     }
 }
 
-/// An answer as a call lists it: who answered for which home, and what kind of answer it was.
+/// An answer as a call lists it: its node, its home and its kind.
 #[derive(Clone, Copy, Debug, Default, PartialEq, Eq)]
 pub struct AnswerRead {
     pub place: Place,
     pub kind: AnswerKind,
 }
 
-/// The answers of a call, in the value itself where they are at most twelve: two of each of six
-/// nodes, where a call reads no more of one.
+/// The answers of a call. Up to twelve lie in the value itself: two of each of six nodes.
 pub type AnswerVec = SmallVec<AnswerRead, 12>;

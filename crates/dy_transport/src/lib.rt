@@ -1,4 +1,4 @@
-//! What carries the messages of one put, get, repair or pass, and tells what was done.
+//! What carries the messages of one put, get, repair or pass, and keeps a trace of the call.
 #![tactic(auto)]
 
 mod asked;

@@ -19,8 +19,8 @@ use std::alloc::Global;
 use std::collections::VecDeque;
 use std::marker::Model;
 
-/// An answer that nobody has read yet: the number of its ask, from 0, the node asked, the home, and
-/// what is answered.
+/// An answer that waits to be read: the number of its ask, from 0, the node asked, the home, and
+/// the answer.
 #[derive(Drop)]
 pub struct Waiting<J: Naming> {
     pub number: usize,
@@ -29,9 +29,8 @@ pub struct Waiting<J: Naming> {
     pub answer: Answer<J>,
 }
 
-/// Answers in line behind what is told: the first ones in the order of the asks, and the second
-/// ones after all first ones. It takes no lock and no thread, so a transport of any kind can stand
-/// on it.
+/// A trace, and the answers that wait to be read: first answers in the order of the asks, and after
+/// them second answers. It has no lock and no thread, so any transport can use it.
 #[derive(Drop)]
 pub struct Line<J: Naming> {
     trail: Trail<J>,
@@ -62,7 +61,7 @@ impl<J: Naming> Model for Line<J> {
 }
 
 impl<J: Naming> Line<J> {
-    /// A line of nothing, with room for so many asks, two answers to each, and the tries.
+    /// An empty line, with room for this many asks, two answers to each, and the tries.
     pub fn new(alloc: Global, room: usize) -> Result<Line<J>, Fault>
         requires { room < 2 ^ 32 }
         ensures ok { IfOk result (λ line. line ≡ nothing_in_line room) }
@@ -85,7 +84,7 @@ impl<J: Naming> Line<J> {
         self.trail.room()
     }
 
-    /// Tells of a try. Takes no memory.
+    /// Adds a try to the trace. Takes no memory.
     pub fn note_try(&mut self, tried: Try<J>)
         requires { length self.old.told.tries < self.old.told.room + SPARE_TRIES }
         ensures { self.new ≡ with_told self.old (with_try self.old.told tried) }
@@ -93,8 +92,8 @@ impl<J: Naming> Line<J> {
         self.trail.note_try(tried);
     }
 
-    /// Tells of an ask, and puts its answers in line: one, or a first that nothing came and a later
-    /// one. Takes no memory.
+    /// Adds an ask to the trace, and its answers to the line: one, or a `NoAnswer` and a later one.
+    /// Takes no memory.
     pub fn put(&mut self, to: NodeId, ask: &Ask<'_, J>, answer: Answer<J>, later: Option<Answer<J>>)
         requires room { length self.old.told.asks < self.old.told.room }
         requires first { IsAnswerTo to ask.now answer }
@@ -125,8 +124,8 @@ impl<J: Naming> Line<J> {
         }
     }
 
-    /// Reads the next answer: the place that was asked, and what it answered; none where none is
-    /// left. Takes no memory.
+    /// Reads the next answer, with the place that was asked. None where none is left. Takes no
+    /// memory.
     pub fn next(&mut self) -> Option<(Place, Answer<J>)>
         ensures next { IsReadNext self.old.told self.old.first self.old.second result self.new }
         ensures none { IfNone result (AllAnswered self.new.told) }
@@ -148,7 +147,8 @@ impl<J: Naming> Line<J> {
         None
     }
 
-    /// Tells nothing of the call before, and drops what nobody has read. Takes no memory.
+    /// Empties the trace for the next call, and drops answers that nobody has read. Takes no
+    /// memory.
     pub fn renew(&mut self)
         ensures { self.new ≡ nothing_in_line self.old.told.room }
     {
@@ -158,7 +158,7 @@ impl<J: Naming> Line<J> {
     }
 }
 
-// Tells of an answer, and hands it on.
+// Adds an answer to the trace, and gives it.
 fn read<J: Naming>(trail: &mut Trail<J>, waiting: Waiting<J>) -> (Place, Answer<J>)
     requires { length trail.old.replies < 2 * trail.old.room }
     ensures told { trail.new

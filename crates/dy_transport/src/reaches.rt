@@ -15,8 +15,8 @@ use dy_siblings::{Key, Value};
 use std::alloc::Global;
 use std::sync::{Mutex, Wait};
 
-/// What is reached on the caller's own thread: nodes that lie in the order of their numbers, and
-/// the book. Each call locks the node, then the book, and never two nodes.
+/// What a transport reaches on the caller's own thread: the nodes, in the order of their numbers,
+/// and the book. Each call locks the node, then the book, and never two nodes.
 #[derive(Drop)]
 pub struct Reach<'a, J: Naming> {
     pub(crate) alloc: Global,
@@ -24,11 +24,11 @@ pub struct Reach<'a, J: Naming> {
     pub(crate) book: &'a Mutex<Book<J>>,
 }
 
-// What a lock holds is known by its type alone, so each call below compares the number of the node
-// that it finds with that of the one asked. They are the same wherever the nodes lie in their
-// order; where they are not, a try finds the node down, and an ask brings no answer.
+// A clause knows only the type of a locked value. So each call below compares the number of the
+// node that it finds with the one asked. They are equal wherever the nodes lie in their order.
+// Where they are not, a try answers that the node is down, and an ask is not answered.
 
-// A copy of what a put stores.
+// A copy of the value of a put.
 fn copied(alloc: Global, value: &Option<Value>) -> Result<Option<Value>, Fault>
     ensures value { IfOk result (λ copy. copy ≡ value.now) }
     ensures memory { IsOkUnless result Fault.OutOfMemory }
@@ -72,7 +72,7 @@ fn offer_by<J: Naming>(
     held.offer(book)
 }
 
-// What this node, which has this number, answers at first and later.
+// The first and the later answer of this node, which has this number.
 fn answer_by<J: Naming>(
     held: &mut Node<J>,
     book: &mut Book<J>,
@@ -188,7 +188,7 @@ impl<'a, J: Naming> Reach<'a, J> {
         held.settle(&mut open, receipts)
     }
 
-    /// What the node answers, at first and later. May wait for locks.
+    /// The node's first and later answer. May wait for locks.
     pub fn answer_at<R: Wait>(
         &self,
         rt: &R,

@@ -3,8 +3,8 @@ use dy_node::Answer;
 use dy_shares::Naming;
 use std::snapshot::Snapshot;
 
-/// An answer that was read: the number of its ask, from 0, the node asked, the home, and what was
-/// answered, which stands here for contracts alone.
+/// An answer that was read: the number of its ask, from 0, the node asked, the home, and the
+/// answer, which is for contracts alone.
 #[derive(Drop)]
 pub struct Reply<J: Naming> {
     pub number: usize,

@@ -3,7 +3,7 @@ ghost use Rattle.dy_transport.specs.Snapshots.{snapshot_of};
 
 use std::snapshot::Snapshot;
 
-// What stands behind a reference, for contracts alone: it has no bytes.
+// A snapshot of what is borrowed, for contracts alone: it has no bytes.
 pub(crate) fn show<T>(x: &T) -> Snapshot<T>
     ensures { result ≡ snapshot_of x.now }
 {

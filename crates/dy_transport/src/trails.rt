@@ -13,7 +13,7 @@ use dy_shares::Naming;
 use std::alloc::Global;
 use std::marker::Model;
 
-/// What is told of one call, with room for all of it.
+/// The trace of one call, with room for all of it.
 #[derive(Drop)]
 pub struct Trail<J: Naming> {
     tries: Vec<Try<J>>,
@@ -51,7 +51,7 @@ impl<J: Naming> Model for Trail<J> {
 }
 
 impl<J: Naming> Trail<J> {
-    /// A trail of nothing, with room for so many asks, two answers to each, and the tries.
+    /// An empty trace, with room for this many asks, two answers to each, and the tries.
     pub fn new(alloc: Global, room: usize) -> Result<Trail<J>, Fault>
         requires { room < 2 ^ 32 }
         ensures ok { IfOk result (λ trail. trail ≡ nothing_told room) }
@@ -76,14 +76,14 @@ impl<J: Naming> Trail<J> {
         self.room
     }
 
-    /// How many asks are told. Takes no memory.
+    /// How many asks the trace has. Takes no memory.
     pub fn ask_count(&self) -> usize
         ensures { result ≡ length self.now.asks }
     {
         self.asks.len()
     }
 
-    /// Tells of a try. Takes no memory.
+    /// Adds a try. Takes no memory.
     pub fn note_try(&mut self, tried: Try<J>)
         requires { length self.old.tries < self.old.room + SPARE_TRIES }
         ensures { self.new ≡ with_try self.old tried }
@@ -91,7 +91,7 @@ impl<J: Naming> Trail<J> {
         self.tries.push_reserved(tried);
     }
 
-    /// Tells of an ask, after the answers that were read so far. Takes no memory.
+    /// Adds an ask, after the answers that were read so far. Takes no memory.
     pub fn note_ask(&mut self, to: NodeId, ask: &Ask<'_, J>)
         requires { length self.old.asks < self.old.room }
         ensures { self.new ≡ with_ask self.old to ask.now }
@@ -101,7 +101,7 @@ impl<J: Naming> Trail<J> {
         self.drained = false;
     }
 
-    /// Tells of an answer to the ask of this number. Takes no memory.
+    /// Adds an answer to the ask of this number. Takes no memory.
     pub fn note_reply(&mut self, number: usize, node: NodeId, home: NodeId, answer: &Answer<J>)
         requires { length self.old.replies < 2 * self.old.room }
         ensures { self.new ≡ with_reply self.old number node home answer.now }
@@ -115,14 +115,14 @@ impl<J: Naming> Trail<J> {
         self.replies.push_reserved(reply);
     }
 
-    /// Tells that no answer is left. Takes no memory.
+    /// Notes that no answer is left. Takes no memory.
     pub fn note_none(&mut self)
         ensures { self.new ≡ with_none self.old }
     {
         self.drained = true;
     }
 
-    /// Tells nothing of the call before, for the next one. Takes no memory.
+    /// Empties the trace for the next call. Takes no memory.
     pub fn renew(&mut self)
         ensures { self.new ≡ nothing_told self.old.room }
     {

@@ -30,20 +30,20 @@ use std::sync::Wait;
 /// For how many tries there is room beyond those for asks.
 pub const SPARE_TRIES: usize = 32;
 
-/// What carries the messages of one put, get, repair or pass (Dynamo, section 4.5): it reaches the
-/// nodes and the book, and tells what was tried, asked and answered. Tries and acks stand here
-/// once; a transport has what carries its asks and their answers.
+/// What carries the messages of one put, get, repair or pass (Dynamo, section 4.5). It reaches the
+/// nodes and the book, and keeps a trace of what was tried, asked and answered. The trait makes
+/// tries and acks. A transport carries asks and answers.
 pub trait Transport<J: Naming> {
     ghost told: { Self → Told J };
 
-    /// For how many asks, with two answers each, it was made. Takes no memory.
+    /// For how many asks, with two answers each, it has room. Takes no memory.
     fn room(&self) -> usize
         ensures { result ≡ (told self.now).room };
 
-    /// The nodes and the book at which its tries and acks are made. Takes no memory.
+    /// The nodes and the book at which tries and acks are made. Takes no memory.
     fn reach(&self) -> &Reach<'_, J>;
 
-    /// Takes out the try, and tells of it. Takes no memory.
+    /// Takes out the try, and adds it to the trace. Takes no memory.
     fn note_try(&mut self, tried: &mut Option<Try<J>>)
         requires { length (told self.old).tries < (told self.old).room + SPARE_TRIES }
         ensures { told self.new ≡ with_noted (told self.old) tried.old };
@@ -120,8 +120,8 @@ pub trait Transport<J: Naming> {
         gave
     }
 
-    /// Lets a node give up what these receipts of homes name, and tells how many dots it gave up.
-    /// May wait for locks.
+    /// Has a node release the dots that these receipts of homes name, and gives how many. May wait
+    /// for locks.
     fn settle<R: Wait>(
         &mut self,
         rt: &R,
@@ -143,14 +143,14 @@ pub trait Transport<J: Naming> {
         gave
     }
 
-    /// Asks a node. An ask that cannot be sent is answered all the same. May wait for locks.
+    /// Asks a node. An ask that cannot be sent is answered too. May wait for locks.
     fn ask<R: Wait>(&mut self, rt: &R, to: NodeId, ask: &Ask<'_, J>)
         requires room { length (told self.old).asks < (told self.old).room }
         requires may_ask { MayAsk J.ring J.n to ask.now }
         ensures { told self.new ≡ with_ask (told self.old) to ask.now };
 
-    /// The next answer: the place that was asked, and what it answered; none where none is
-    /// outstanding. May wait for an answer. Takes no memory.
+    /// The next answer, with the place that was asked. None where each ask is answered. May wait
+    /// for an answer. Takes no memory.
     fn next_reply<R: Wait>(&mut self, rt: &R) -> Option<(Place, Answer<J>)>
         ensures none { IfNone result
             ((told self.new ≡ with_none (told self.old)) × AllAnswered (told self.new)) }
@@ -161,8 +161,8 @@ pub trait Transport<J: Naming> {
         ensures within { IfSome result
             (λ _. length (told self.old).replies < 2 * length (told self.old).asks) };
 
-    /// Acknowledges the dot of these receipts, of as many homes as the put named, and tells the
-    /// session, by a step that is later than all that it was told before. May wait for a lock.
+    /// Acknowledges the dot of these receipts to the session, with the w that the put named. The
+    /// step is later than all that the session's list had before. May wait for a lock.
     fn record<R: Wait>(
         &mut self,
         rt: &R,
@@ -193,8 +193,8 @@ pub trait Transport<J: Naming> {
         gave
     }
 
-    /// Tells nothing of the call before, so that one transport serves many calls of a client, one
-    /// after another. What came of that call and nobody has read is read by no later one.
+    /// Empties the trace, so that one transport serves a client call after call. No later call
+    /// reads an unread answer of this one.
     fn renew<R: Wait>(&mut self, rt: &R) -> Result<(), Fault>
         ensures ok { OnOk result (told self.new ≡ nothing_told (told self.old).room) }
         ensures err { OnErr result (told self.new ≡ told self.old) }

@@ -4,8 +4,8 @@ use dy_shares::{Naming, Receipt, Seen};
 use dy_siblings::{Key, Value};
 use std::snapshot::Snapshot;
 
-/// What was tried on the caller's thread, at a node or at the book, with what was given and what
-/// came of it. All but nodes, homes and numbers stands here for contracts alone.
+/// A try on the caller's thread, at a node or at the book, with its arguments and its result. All
+/// but nodes, homes and numbers is for contracts alone.
 #[derive(Drop)]
 pub enum Try<J: Naming> {
     /// A put was begun for a home.
@@ -30,13 +30,13 @@ pub enum Try<J: Naming> {
         node: NodeId,
         gave: Snapshot<Result<Vec<RowFor>, Fault>>,
     },
-    /// The node let go what receipts of homes name.
+    /// The node released what receipts of homes name.
     Settle {
         node: NodeId,
         receipts: Snapshot<Vec<Receipt<J>>>,
         gave: Snapshot<Result<usize, Fault>>,
     },
-    /// An ack was recorded, of as many homes as the put named, for which these receipts are spent.
+    /// An ack was tried, with the w that the put named, and these receipts to be spent.
     Record {
         w: u8,
         receipts: Snapshot<Vec<Receipt<J>>>,
