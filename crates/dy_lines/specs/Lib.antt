@@ -1,7 +1,11 @@
 pub mod Audits
+pub mod Clusters
 pub mod Keeping
 pub mod Outcomes
 pub mod Places
 pub mod Refusals
+pub mod Sessions
+pub mod Steps
 pub mod Stops
 pub mod Texts
+pub mod inside

@@ -1,20 +1,27 @@
-//! The lines that a run, its audit and a ring print, each a type whose `Display` states its bytes.
+//! The lines that a run, its audit, its steps and a ring print, each a type whose `Display` states
+//! its bytes.
 #![tactic(auto)]
 
 mod audits;
+mod clusters;
 mod keeping;
 mod outcomes;
 mod places;
 mod printed;
 mod refusals;
 mod rings;
+mod session_indexes;
+mod steps;
 mod stops;
 
 pub use audits::{AckedLine, EndLine, HeldLine, SettledLine};
+pub use clusters::{ClusterLine, write_cluster};
 pub use keeping::Kept;
 pub use outcomes::{CommandLine, Outcome, Values, Word};
 pub use places::{Answers, At, Places};
 pub use printed::{Hex, Nodes, Position};
 pub use refusals::Refusal;
-pub use rings::{KeyLine, TokenLine};
+pub use rings::{KeyLine, TokenLine, write_tokens};
+pub use session_indexes::SessionIndex;
+pub use steps::{StepLine, ToldLine};
 pub use stops::Stopped;

@@ -1,7 +1,12 @@
+ghost use Rattle.std.specs.Prelude.{OnOk};
+ghost use Rattle.std.specs.Io.KnownBytes.{Appends};
+ghost use Rattle.dy_lines.specs.Clusters.{token_lines};
+
 use crate::printed::{Hex, Nodes, Position};
 use dy_dots::NodeId;
+use dy_ring::Token;
 use dy_siblings::Key;
-use std::fmt;
+use std::{fmt, io};
 
 /// The line of a token: its position, and its node.
 #[derive(Clone, Copy, Debug)]
@@ -20,6 +25,21 @@ impl fmt::Display for TokenLine {
         let position = Position(self.position);
         write!(f, "token {position} {}", self.node.number())
     }
+}
+
+/// Writes a line for each token.
+pub fn write_tokens<W: io::Write>(tokens: &[Token], out: &mut W) -> io::Result<()>
+    ensures written { OnOk result (Appends (W.contents out.old) (W.contents out.new)
+        (token_lines tokens.now)) }
+{
+    for (position, node) in tokens {
+        let line = TokenLine {
+            position: *position,
+            node: *node,
+        };
+        writeln!(out, "{line}")?;
+    }
+    Ok(())
 }
 
 /// The line of a key: its position, and all nodes in the order in which it prefers them.
