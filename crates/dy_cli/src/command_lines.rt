@@ -1,4 +1,4 @@
-ghost use Rattle.std.specs.Prelude.{◌≡◌, ◌≤◌, IfErr, IfOk, IfSome, map, string_bytes};
+ghost use Rattle.std.specs.Prelude.{◌≡◌, ◌≢◌, ◌≤◌, IfErr, IfOk, IfSome, map, string_bytes};
 ghost use Rattle.dy_cli.specs.Words.{IsStormOf};
 ghost use Rattle.dy_cli.specs.declared.jobs.Job.TheVariants as Job;
 ghost use Rattle.dy_storm.specs.declared.plans.Storm.{Storm as StormPlan};
@@ -20,6 +20,7 @@ Examples:
   dynamo ring examples/scripts/ring_wraps.json
   dynamo run - < script.json
   dynamo storm 1 8 100 --faults
+  dynamo run --steps examples/scripts/put_then_get.json | tools/replay
 
 Status:
   0  done; a command that was refused has \" E\" in its line
@@ -65,11 +66,23 @@ fn job_of(alloc: Global, words: &[String], matches: &ArgMatches) -> Result<Optio
         return Ok(None);
     };
     Ok(match name {
-        "run" => file_of(alloc, inner)?.map(|file| Job::Run(file)),
+        "run" => run_of(file_of(alloc, inner)?, inner.get_flag("steps")),
         "ring" => file_of(alloc, inner)?.map(|file| Job::Ring(file)),
-        "storm" => storm_of(words, inner.get_flag("faults")).map(|plan| Job::Storm(plan)),
+        "storm" => storm_of(words, inner.get_flag("faults"), inner.get_flag("steps")).map(
+            |plan| Job::Storm(plan),
+        ),
         _ => None,
     })
+}
+
+/// The run of this file, with the steps or without.
+fn run_of(file: Option<String>, with_steps: bool) -> Option<Job>
+    ensures { IfSome result (λ job. (storm : StormPlan) → job ≢ Job.Storm storm) }
+{
+    match file {
+        Some(file) => Some(Job::Run { file, with_steps }),
+        None => None,
+    }
 }
 
 /// The file that the matches name.
@@ -84,7 +97,8 @@ fn file_of(alloc: Global, matches: &ArgMatches) -> Result<Option<String>, AllocE
 fn matches_of<'a>(alloc: Global, words: &'a [String]) -> Result<ArgMatches<'a>, Error> {
     let run = Command::new(alloc, "run")
         .about("Runs a script, prints a line for each command, and then the audit")
-        .arg(file_arg(alloc))?;
+        .arg(file_arg(alloc))?
+        .arg(steps_arg(alloc))?;
     let ring = Command::new(alloc, "ring")
         .about("Prints the ring of a script, and the preference lists of its keys")
         .arg(file_arg(alloc))?;
@@ -108,6 +122,14 @@ fn file_arg<'a>(alloc: Global) -> Arg<'a> {
         .required(true)
         .value_name("FILE")
         .help("A script, as docs/FORMATS.md describes it; - is standard input")
+}
+
+/// The flag that has each step told.
+fn steps_arg<'a>(alloc: Global) -> Arg<'a> {
+    Arg::new(alloc, "steps")
+        .long("steps")
+        .help("Prints each step of the custody book, too, for tools/replay to check")
+        .action(ArgAction::SetTrue)
 }
 
 /// The command that plays a storm.
@@ -136,6 +158,7 @@ fn storm_command<'a>(alloc: Global) -> Result<Command<'a>, Error> {
         .arg(seed)?
         .arg(threads)?
         .arg(puts)?
-        .arg(faults)?;
+        .arg(faults)?
+        .arg(steps_arg(alloc))?;
     Ok(storm)
 }

@@ -6,7 +6,7 @@ ghost use Rattle.dy_cli.specs.Words.{IsNumberWord, IsStormOf, SaysAt};
 use dy_storm::Storm;
 
 /// The storm that the words behind the first say, beside their options.
-pub(crate) fn storm_of(words: &[String], faults: bool) -> Option<Storm>
+pub(crate) fn storm_of(words: &[String], faults: bool, steps: bool) -> Option<Storm>
     ensures { IfSome result (IsStormOf (map string_bytes words.now)) }
 {
     let seed = number_from(words, 1)?;
@@ -17,6 +17,7 @@ pub(crate) fn storm_of(words: &[String], faults: bool) -> Option<Storm>
         threads: u8::try_from(threads.number).ok()?,
         puts: u32::try_from(puts.number).ok()?,
         faults,
+        steps,
     })
 }
 

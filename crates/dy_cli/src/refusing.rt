@@ -1,4 +1,4 @@
-ghost use Rattle.std.specs.Prelude.{List, OnOk, Some, ◌≡◌, ◌≢◌, ◌++◌, ℕ, codes};
+ghost use Rattle.std.specs.Prelude.{List, OnOk, Some, ◌≡◌, ◌≢◌, ◌⊎◌, ◌++◌, ℕ, codes};
 ghost use Rattle.std.specs.Io.KnownBytes.{Appends};
 ghost use Rattle.std.specs.IoError.{error_kind};
 ghost use Rattle.dy_lines.specs.Refusals.{refusal_text};
@@ -66,6 +66,7 @@ pub fn refuse_words<E: Write>(err: &mut E, error: &io::Error) -> u8
 pub fn refuse_file<E: Write>(err: &mut E, file: &str, error: &io::Error) -> u8
     ensures memory { error_kind error.now ≡ ErrorKind.OutOfMemory → result ≡ 1 }
     ensures other { error_kind error.now ≢ ErrorKind.OutOfMemory → result ≡ 2 }
+    ensures some { (result ≡ 1) ⊎ (result ≡ 2) }
 {
     if error.kind() == ErrorKind::OutOfMemory {
         return refuse_for_memory(err);

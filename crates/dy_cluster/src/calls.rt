@@ -1,4 +1,4 @@
-// The calls of a cluster that go over a transport, each for its key's own list.
+// The calls of a cluster over a transport, each with its key's own list.
 ghost use Rattle.std.specs.Prelude.{◌≡◌, ◌≤◌, [], None, IfOk, IfErr, OnErr, IsOkUnless};
 ghost use Rattle.dy_dots.specs.declared.nodes.TheConstants.{MAX_NODES};
 ghost use Rattle.dy_shares.specs.Shares.{since_of, with_get};
@@ -51,8 +51,8 @@ impl<J: Naming> Cluster<J> {
         }
     }
 
-    /// A put of the key that names w homes, over a transport of this cluster. May wait for answers
-    /// and locks.
+    /// A put of the key at w homes, over a transport of this cluster. May wait for answers and
+    /// locks.
     pub fn put<T: Transport<J>, R: Wait>(
         &self,
         rt: &R,
@@ -85,7 +85,7 @@ impl<J: Naming> Cluster<J> {
         )
     }
 
-    /// A put that marks the key as deleted: one of an absent value. May wait for answers and locks.
+    /// A put that marks the key as deleted. May wait for answers and locks.
     pub fn delete<T: Transport<J>, R: Wait>(
         &self,
         rt: &R,
@@ -134,8 +134,8 @@ impl<J: Naming> Cluster<J> {
         dy_coord::get(rt, self.alloc, transport, &list, r, session, key)
     }
 
-    /// Asks each home that answered by itself with another row to store this one, over a transport
-    /// of this cluster. May wait for answers and locks.
+    /// Repairs: asks each home that gave a stale answer to store this row, over a transport of this
+    /// cluster. May wait for answers and locks.
     pub fn repair<T: Transport<J>, R: Wait>(
         &self,
         rt: &R,

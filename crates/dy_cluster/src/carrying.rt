@@ -1,4 +1,4 @@
-// What was present in a cluster that was closed, put into another.
+// Puts what was present in a closed cluster into another one.
 ghost use Rattle.std.specs.Prelude.{◌≡◌, map, IfOk, IfErr, OnOk};
 ghost use Rattle.std.specs.Prelude.{IsOkUnless, Err};
 ghost use Rattle.std.specs.FinSet as set;
@@ -18,8 +18,8 @@ use std::alloc::Global;
 use std::collections::VecDeque;
 use std::sync::Wait;
 
-/// Why not all values were carried over: as many of them were put as it counts, and the next was
-/// refused so.
+/// Why not all values were carried over: `count` of them were put, and the put of the next was
+/// refused.
 #[derive(Debug, Drop)]
 pub struct CarryFault {
     pub count: usize,
@@ -35,7 +35,7 @@ impl From<CarryFault> for Fault {
     }
 }
 
-// Copies of what the values store, which share their bytes.
+// Copies of the values, which share their bytes.
 fn copies_of(alloc: Global, values: &[PresentValue]) -> Result<VecDeque<Value>, Fault>
     ensures ok { IfOk result (λ copies. copies.items ≡ map (λ x. x.value) values.now) }
     ensures memory { IsOkUnless result Fault.OutOfMemory }
@@ -48,7 +48,7 @@ fn copies_of(alloc: Global, values: &[PresentValue]) -> Result<VecDeque<Value>, 
 }
 
 impl<'a, J: Naming, T: Transport<J>> Connection<'a, J, T> {
-    // Puts a value behind nothing.
+    // Puts a value with an empty context.
     fn put_present<R: Wait>(
         &mut self,
         rt: &R,
@@ -69,8 +69,8 @@ impl<'a, J: Naming, T: Transport<J>> Connection<'a, J, T> {
         self.put(rt, &present.key, none, value)
     }
 
-    /// Puts each of the values behind nothing, in their order, so that none of them follows
-    /// another; what a put is refused by ends it. May wait for answers and locks.
+    /// Puts each of the values with an empty context, in their order, so none of them follows
+    /// another. The first refused put ends it. May wait for answers and locks.
     pub fn put_each<R: Wait>(
         &mut self,
         rt: &R,
@@ -106,10 +106,10 @@ impl<'a, J: Naming, T: Transport<J>> Connection<'a, J, T> {
     }
 }
 
-/// Puts the values that were present in the closed cluster into that of the connection, each behind
-/// nothing, by key and then by dot, and gives how many. What it needs memory for is there before
-/// the first put. Where it is refused, go on with `put_each` and the rest of `Closed::values`. May
-/// wait for answers and locks.
+/// Puts the values that were present in the closed cluster through the connection, each with an
+/// empty context, by key and then by dot. Gives how many. All its own memory is taken before the
+/// first put. After a refusal go on with `put_each` and the rest of `Closed::values`. May wait for
+/// answers and locks.
 pub fn carry_over<J: Naming, T: Transport<J>, R: Wait>(
     rt: &R,
     alloc: Global,

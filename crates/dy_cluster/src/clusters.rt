@@ -27,7 +27,8 @@ pub struct Cluster<J: Naming> {
     pub(crate) options: Options,
     pub(crate) nodes: Vec<Mutex<Node<J>>>,
     pub(crate) book: Mutex<Book<J>>,
-    // In a lock, since shares are for one thread at a time. Nobody takes it before the end.
+    // In a lock, since only one thread at a time may have shares. Nobody takes this lock before the
+    // end.
     spare: Mutex<Spare<J>>,
     ghost ring_is: { ring ≡ J.ring },
     ghost n_is: { options.n ≡ J.n },
@@ -36,7 +37,7 @@ pub struct Cluster<J: Naming> {
     ghost count: { vec_len nodes ≡ J.ring.nodes },
 }
 
-// Room for each node's share and rest, so that no end of the cluster takes memory.
+// Room for each node's share and rest, so that `rest` takes no memory.
 struct Spare<J: Naming> {
     shares: Vec<NodeShare<J>>,
     rests: Vec<Rest>,
@@ -47,7 +48,7 @@ struct Spare<J: Naming> {
 }
 
 impl<J: Naming> Cluster<J> {
-    /// Opens a cluster whose book has the name of what was opened: every node is up and keeps
+    /// Opens a cluster whose book has the name of what was opened. Every node is up and keeps
     /// nothing, and the log is empty.
     pub fn open(alloc: Global, opened: Opened) -> Result<Cluster<J>, Fault>
         requires named { NamesBook J.book J.table J.ring J.n J.r opened }
@@ -80,7 +81,7 @@ impl<J: Naming> Cluster<J> {
         })
     }
 
-    /// A session that was told nothing. May wait for a lock.
+    /// Opens a session, whose list is empty. May wait for a lock.
     pub fn session(&self, rt: &impl Wait) -> Result<SessionShare<J>, Fault>
         ensures acks { IfOk result (λ session. session.acks ≡ []) }
         ensures gets { IfOk result (λ session. session.gets ≡ []) }
@@ -90,7 +91,12 @@ impl<J: Naming> Cluster<J> {
         self.book.lock(rt).session()
     }
 
-    /// Opens a session, and puts it behind those that are there. Gives its place. May wait for a
+    /// How many steps the book's log has. May wait for a lock.
+    pub fn steps(&self, rt: &impl Wait) -> usize {
+        self.book.lock(rt).steps()
+    }
+
+    /// Opens a session, adds it to the end of the list, and gives its index there. May wait for a
     /// lock.
     pub fn seat(&self, rt: &impl Wait, sessions: &mut Vec<SessionShare<J>>) -> Result<usize, Fault>
         ensures place { IfOk result (λ place. place ≡ length sessions.old.items) }
@@ -107,7 +113,7 @@ impl<J: Naming> Cluster<J> {
         Ok(sessions.len() - 1)
     }
 
-    /// A transport on the caller's own thread, for one call, or renewed before each further one.
+    /// A transport on the caller's own thread, for one call. Renew it before each further one.
     pub fn direct(&self) -> Result<Direct<'_, J>, Fault>
         ensures ok { IfOk result (λ direct. direct ≡ nothing_told MAX_NODES) }
         ensures memory { IsOkUnless result Fault.OutOfMemory }
@@ -120,7 +126,7 @@ impl<J: Naming> Cluster<J> {
         )
     }
 
-    /// Takes the locks apart. Waits for nobody, and takes no memory.
+    /// Takes the cluster out of its locks. Waits for nobody, and takes no memory.
     pub fn rest(self) -> Resting<J> {
         let Cluster {
             alloc,
@@ -146,7 +152,7 @@ impl<J: Naming> Cluster<J> {
         }
     }
 
-    /// Puts a cluster that rested into its locks again. Takes no memory.
+    /// Puts a cluster at rest into its locks again. Takes no memory.
     pub fn wake(resting: Resting<J>) -> Cluster<J> {
         let Resting {
             alloc,
@@ -168,8 +174,8 @@ impl<J: Naming> Cluster<J> {
         }
     }
 
-    /// Ends the cluster, where each of its sessions is handed in; otherwise all comes back. Whoever
-    /// may have kept a session back goes by `rest`.
+    /// Closes the cluster, if each of its sessions is handed in. Otherwise cluster and sessions
+    /// come back. A caller that may lack a session uses `rest` and `Resting::lacks`.
     pub fn close(self, sessions: Vec<SessionShare<J>>) -> Result<Closed, ClusterRefused<J>>
         ensures stores { IfOk result (TellsStores J.ring J.n) }
         ensures acks { IfOk result (TellsAcks sessions.items) }
@@ -187,7 +193,7 @@ impl<J: Naming> Cluster<J> {
         }
     }
 
-    /// Ends the cluster with whatever sessions are there, and tells nothing. Takes no memory.
+    /// Ends the cluster with the sessions that are there, and gives no audit. Takes no memory.
     pub fn abandon(self, sessions: Vec<SessionShare<J>>) {
         self.rest().abandon(sessions);
     }

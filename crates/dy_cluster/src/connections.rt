@@ -22,8 +22,8 @@ use dy_siblings::{Key, Value};
 use dy_transport::{Direct, Transport};
 use std::sync::Wait;
 
-/// What a client calls a cluster by: its session, what carries its messages from call to call, how
-/// many homes its puts name, and whether its last get mended all that it found stale. Its session
+/// What a client calls a cluster by: its session, its transport, and the number of homes that its
+/// puts name. `is_mended` says whether the last get repaired all that it found stale. The session
 /// must be handed in when the cluster closes.
 pub struct Connection<'a, J: Naming, T: Transport<J>> {
     pub session: SessionShare<J>,
@@ -65,8 +65,8 @@ impl<J: Naming> Cluster<J> {
 }
 
 impl<'a, J: Naming, T: Transport<J>> Connection<'a, J, T> {
-    /// A connection of this session over this transport of the cluster, whose puts name as many
-    /// homes as the cluster's options do. Takes no memory.
+    /// A connection of this session over this transport of the cluster. Its puts name as many homes
+    /// as the cluster's options. Takes no memory.
     pub fn new(
         cluster: &'a Cluster<J>,
         session: SessionShare<J>,
@@ -106,8 +106,8 @@ impl<'a, J: Naming, T: Transport<J>> Connection<'a, J, T> {
         (session, transport)
     }
 
-    /// Puts the value behind what the context names, at as many homes as the connection says. May
-    /// wait for answers and locks.
+    /// Puts the value with this context, at the connection's w homes. May wait for answers and
+    /// locks.
     pub fn put<R: Wait>(
         &mut self,
         rt: &R,
@@ -147,8 +147,8 @@ impl<'a, J: Naming, T: Transport<J>> Connection<'a, J, T> {
         self.write(rt, w, key, context, Some(value))
     }
 
-    /// Puts that the key is deleted behind what the context names, at as many homes as the
-    /// connection says. May wait for answers and locks.
+    /// Deletes the key with this context, at the connection's w homes. May wait for answers and
+    /// locks.
     pub fn delete<R: Wait>(
         &mut self,
         rt: &R,
@@ -198,8 +198,8 @@ impl<'a, J: Naming, T: Transport<J>> Connection<'a, J, T> {
         )
     }
 
-    /// Gets the key, and has each home that was found stale store what it gives. What can't be
-    /// mended for want of memory a later get mends. May wait for answers and locks.
+    /// Gets the key, and asks each home that gave a stale answer to store the merged row. Where
+    /// memory is wanting for that, a later get does it. May wait for answers and locks.
     pub fn get<R: Wait>(&mut self, rt: &R, key: &Key) -> Result<GetDone<J>, GetFault>
         ensures ok { IfOk result (λ done. (told : Told J)
             × IsGot (list_of J.ring J.n key.now) key.now J.r (since_of self.old.session) told done
@@ -221,7 +221,7 @@ impl<'a, J: Naming, T: Transport<J>> Connection<'a, J, T> {
         Ok(done)
     }
 
-    /// Gets the key, and mends nothing. May wait for answers and locks.
+    /// Gets the key, and repairs nothing. May wait for answers and locks.
     pub fn get_unrepaired<R: Wait>(&mut self, rt: &R, key: &Key) -> Result<GetDone<J>, GetFault>
         ensures ok { IfOk result (IsGot (list_of J.ring J.n key.now) key.now J.r
             (since_of self.old.session) (T.told self.new.transport)) }
@@ -241,8 +241,8 @@ impl<'a, J: Naming, T: Transport<J>> Connection<'a, J, T> {
             .get(rt, &mut self.transport, &mut self.session, key)
     }
 
-    /// Has each home that the get found stale store what it gave (Dynamo, section 5). Takes no
-    /// memory where none was. May wait for answers and locks.
+    /// Asks each home that gave the get a stale answer to store the merged row (Dynamo, section 5).
+    /// Takes no memory where none did. May wait for answers and locks.
     pub fn mend<R: Wait>(&mut self, rt: &R, done: &GetDone<J>) -> Result<(), Fault>
         ensures ok { IfOk result (λ _. IsMended
             (homes_in (list_of J.ring J.n done.now.row.key)) done.now.row done.now.seen.items

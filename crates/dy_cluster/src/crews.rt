@@ -1,4 +1,4 @@
-// The threads of clients, and of those who work beside them.
+// The threads of clients, workers and the operator.
 ghost use Rattle.std.specs.Prelude.{◌≡◌, ◌↔◌, ℕ, length, IsTrue, IfOk, IsOkUnless};
 ghost use Rattle.dy_shares.specs.Shares.{SessionPart};
 ghost use Rattle.dy_cluster.specs.Settings.{setting};
@@ -15,7 +15,7 @@ use std::sync::{Mutex, Wait};
 use std::thread;
 use std::thread::Threads;
 
-// The ends of the nodes' mailboxes: those that receive, a post for each client, and one more.
+// The ends of the nodes' mailboxes: the inboxes, a post for each client, and one more post.
 #[derive(Drop)]
 pub(crate) struct Mail<J: Naming> {
     pub inboxes: Vec<Inbox<J>>,
@@ -23,7 +23,7 @@ pub(crate) struct Mail<J: Naming> {
     pub post: Post<J>,
 }
 
-// Those of the cluster's nodes.
+// The mail of the cluster's nodes.
 pub(crate) fn mail_for<J: Naming>(
     alloc: Global,
     cluster: &Cluster<J>,
@@ -45,11 +45,10 @@ pub(crate) fn mail_for<J: Naming>(
     })
 }
 
-// Starts a worker for each node, then the operator, and then the clients: none behind one that
-// could not be started. Tells whether the workers and the operator were. A message that lies in a
-// mailbox lives as long as any post does, so a client that posts to a worker which never starts
-// would wait for ever: none runs before all are started. Whoever has a post lets it go as he ends,
-// and by that the workers end.
+// Starts a worker for each node, then the operator, and then the clients. If a worker or the
+// operator could not be started, no client runs. Gives whether all of them were. A message lies in
+// a mailbox as long as any post lives, so a client would wait for ever for a worker that never
+// starts. Each thread drops its post as it ends, and so the workers end.
 pub(crate) fn run_staffed<
     J: Naming + Send + Sync,
     S: Place<J> + Send,
@@ -106,7 +105,7 @@ pub(crate) fn run_staffed<
     )
 }
 
-// Whether so many threads are one for each node.
+// Whether as many threads were started as there are nodes.
 fn are_all(started: usize, nodes: u8) -> bool
     ensures { IsTrue result ↔ (started ≡ nodes) }
 {
@@ -124,8 +123,8 @@ fn operate<J: Naming, O: Operator, R: Wait>(
     operator.run(rt, alloc, cluster, &mut post);
 }
 
-// Runs the clients, each in a thread of its own, with a post where there is one for it. Where a
-// thread can't be made, its client and those behind it do not run. Ends once all that run are done.
+// Runs the clients, each in a thread of its own, with a post if there is one. If a thread can't be
+// made, its client and those after it do not run. Ends when all that run are done.
 pub(crate) fn run_beside<
     J: Naming + Send + Sync,
     S: Place<J> + Send,

@@ -27,13 +27,13 @@ use std::marker::Brand;
 use std::sync::Wait;
 use std::thread::Threads;
 
-/// What is done with a cluster while it is open, whatever the name of its book.
+/// What a program does with a cluster while it is open, whatever the name of its book.
 pub trait Work {
-    // What a work that is done on a cluster of this setting says of itself, as it was and as it is,
-    // and of what its sessions were told; nothing, where it is left out.
+    // What a work on a cluster of this setting says of itself before and after it, and of its
+    // sessions' lists. If it is left out, it says nothing.
     ghost told: { Setting → Self → Self → List SessionPart → Type 0 } = { λ _ _ _ _. Unit {0} };
 
-    /// The sessions that it leaves in the list are handed in when the cluster closes.
+    /// When the cluster closes, the sessions in the list are handed in.
     fn run<J: Naming, R: Wait>(
         &mut self,
         rt: &R,
@@ -46,14 +46,14 @@ pub trait Work {
             sessions.new.items) };
 }
 
-/// What each of many clients does, in a thread of its own, with a connection of its own, whatever
-/// carries its messages.
+/// What each of many clients does, in a thread of its own, with a connection of its own, over any
+/// transport.
 pub trait Client {
-    // What the session of the client of this number was told, once it ran on a cluster of this
-    // setting; nothing, where it is left out.
+    // What the client of this number says of its session's list, once it ran on a cluster of this
+    // setting. If it is left out, it says nothing.
     ghost told: { Setting → Self → ℕ → SessionPart → Type 0 } = { λ _ _ _ _. Unit {0} };
 
-    /// Clients are numbered from 0. The session was told nothing before.
+    /// Clients are numbered from 0. The session's list is empty before.
     fn run<J: Naming, T: Transport<J>, R: Wait>(
         &self,
         rt: &R,
@@ -66,8 +66,8 @@ pub trait Client {
         ensures told { told (setting J J.ring J.n J.r) self.now number connection.new.session };
 }
 
-/// Opens a cluster on the ring, lets the work be done, and closes it. A refusal of the work is
-/// given once the cluster is closed. May wait for locks, and for whatever the work waits for.
+/// Opens a cluster on the ring, runs the work, and closes the cluster. A refusal of the work is
+/// given after the close. May wait for locks, and for what the work waits for.
 pub fn with_cluster<W: Work, R: Wait>(
     rt: &R,
     alloc: Global,
@@ -90,7 +90,7 @@ pub fn with_cluster<W: Work, R: Wait>(
     run_named::<Brand, W, R>(rt, alloc, opened, work)
 }
 
-// The same under the name that was picked.
+// The same, under the name that was picked.
 fn run_named<J: Naming, W: Work, R: Wait>(
     rt: &R,
     alloc: Global,
@@ -120,10 +120,10 @@ fn run_named<J: Naming, W: Work, R: Wait>(
     }
 }
 
-/// Opens a cluster on the ring, runs so many clients beside each other, each in a thread of its own
-/// with a connection of its own, which asks the nodes in that thread, and closes it. A client for
-/// which no thread can be had, or no memory for what carries its messages, does not run, and that is
-/// told as want of memory once the others are done.
+/// Opens a cluster on the ring, runs this many clients beside each other, and closes it. Each
+/// client has a thread and a connection of its own, and asks the nodes in that thread. If a thread,
+/// or memory for a transport, is wanting, that client does not run. `OutOfMemory` is then answered
+/// once the others are done.
 pub fn with_clients<C: Client + Sync, R: Threads + Wait + Sync>(
     rt: &R,
     alloc: Global,

@@ -21,7 +21,7 @@ use std::sync::Wait;
 // The greatest room that a transport is made with.
 const MAX_ROOM: usize = 1_000_000;
 
-// How many hints the node keeps, where it is up.
+// How many hints the node keeps, if it is up.
 fn hints_at<J: Naming>(node: &Node<J>) -> Result<usize, Fault>
     ensures ok { IfOk result (λ count.
         count ≡ min (length (maps.entries node.now.rooms.hints)) (2 ^ 64 - 1)) }
@@ -36,7 +36,7 @@ fn hints_at<J: Naming>(node: &Node<J>) -> Result<usize, Fault>
 }
 
 impl<J: Naming> Cluster<J> {
-    // How many hints the node keeps, where it is up. May wait for a lock.
+    // How many hints the node keeps, if it is up. May wait for a lock.
     fn hint_count<R: Wait>(&self, rt: &R, node: NodeId) -> Result<usize, Fault>
         requires ring { IsNodeOf J.ring node }
         ensures only { IsOkUnless result Fault.Down }
@@ -45,22 +45,21 @@ impl<J: Naming> Cluster<J> {
         hints_at(&held)
     }
 
-    /// A pass over the hints that the node keeps now, on the caller's own thread: each home is
-    /// asked to hold its row, and what it holds then is settled. May wait for locks.
+    /// A pass over the node's hints, on the caller's own thread. It asks each home to hold its row,
+    /// and then releases what the home holds. May wait for locks.
     pub fn handoff<R: Wait>(&self, rt: &R, node: NodeId) -> Result<Pass, Fault>
         requires ring { IsNodeOf J.ring node }
         ensures ok { IfOk result (λ done. (told : Told J) × IsPass {J = J} node told done) }
         ensures fewer { IfOk result (λ done. done.stored ≤ done.offers) }
         ensures only { IfErr result (λ fault. (fault ≡ Fault.Down) ⊎ (fault ≡ Fault.OutOfMemory)) }
     {
-        // A node that is down is told before memory is taken.
+        // That a node is down is found before memory is taken.
         let room = self.hint_count(rt, node)?.min(MAX_ROOM);
         let mut direct = Direct::new(self.alloc, self.nodes.as_slice(), &self.book, room)?;
         pass(rt, &mut direct, node)
     }
 
-    /// The same pass, whose asks go over the post to the homes' workers. May wait for answers and
-    /// locks.
+    /// The same pass, with the homes asked through their workers. May wait for answers and locks.
     pub fn handoff_by_post<R: Wait>(
         &self,
         rt: &R,
@@ -80,7 +79,7 @@ impl<J: Naming> Cluster<J> {
         pass(rt, &mut mailboxes, node)
     }
 
-    /// Lets the node store the messages that it kept, the oldest first, and tells how many. May wait
+    /// Has the node store the messages that it kept, the oldest first, and gives how many. May wait
     /// for locks.
     pub fn deliver<R: Wait>(&self, rt: &R, node: NodeId) -> Result<usize, Fault>
         requires ring { IsNodeOf J.ring node }

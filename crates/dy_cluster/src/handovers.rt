@@ -9,8 +9,8 @@ use dy_shares::Naming;
 use std::marker::Model;
 use std::sync::Wait;
 
-/// Passes at one node of a cluster, for a worker: how many were made. Their asks go over its post,
-/// which is let go with it; without one they are answered on the caller's own thread.
+/// Passes at one node of a cluster, for a worker, and how many were made. With a post it asks the
+/// homes' workers, and drops the post at its end. Without one it asks on the caller's own thread.
 #[derive(Drop)]
 pub struct Handover<'a, J: Naming> {
     cluster: &'a Cluster<J>,
@@ -29,7 +29,7 @@ impl<'a, J: Naming> Model for Handover<'a, J> {
 }
 
 impl<J: Naming> Cluster<J> {
-    /// Passes over the hints of this node, of which none is made yet. Takes no memory.
+    /// A handover of this node's hints, which has made no pass. Takes no memory.
     pub fn handover(&self, post: Option<Post<J>>, node: NodeId) -> Handover<'_, J>
         requires ring { IsNodeOf J.ring node }
         ensures { result ≡ 0 }

@@ -29,9 +29,9 @@ ghost use Rattle.dy_cluster.specs.declared.restings.Closed.{Closed};
 
 use dy_shares::Naming;
 
-/// Where a cluster was closed, its audit lists exactly the versions in the nodes' stores, and each
-/// put that a session was told of has its w distinct homes covered by these stores, on as many
-/// distinct nodes, by its version or by one that causally follows it.
+/// Of a closed cluster. Its audit lists exactly the versions in the nodes' stores. For each put in
+/// a session's list the stores cover w distinct homes, on as many distinct nodes. They do so by its
+/// version, or by one that causally follows it.
 pub fn stores_cover_acks()
     ensures held { (ring : Tokens) (n r : ℕ) (tellings : List SessionPart) (closed : Closed) →
         IsClosed ring n r tellings closed →
@@ -43,8 +43,8 @@ pub fn stores_cover_acks()
         AreCovering ring n closed.rests.items x.key x.dot x.w }
 {}
 
-/// Where a cluster was closed, its audit lists as held exactly the versions that stand in the
-/// nodes' stores, as their own or as hints; and versions of a key with one dot are one version.
+/// Of a closed cluster. Its audit lists as held exactly the versions in the nodes' stores, as their
+/// own or as hints. Versions of a key with one dot are one version.
 pub fn what_is_held_is_kept()
     ensures kept { (ring : Tokens) (n r : ℕ) (tellings : List SessionPart) (closed : Closed) →
         IsClosed ring n r tellings closed → (key : List ℕ) (v : Version) →
@@ -55,10 +55,10 @@ pub fn what_is_held_is_kept()
         AreOneByDot (versions_held closed.audit.held.items key) }
 {}
 
-/// What the sessions of a closed cluster were sure to read (session guarantees, Terry et al.,
-/// 1994), where homes themselves answered: each its own writes, and those of others that were
-/// acknowledged before; what its earlier gets had, where the same homes answered again; and nothing
-/// that a deletion follows which the get has.
+/// What the sessions of a closed cluster were sure to read, where homes themselves answered
+/// (session guarantees, Terry et al., 1994). A session reads its own writes, and those of others
+/// that were acknowledged before its get. Its gets never go back, where the same homes answer
+/// again. A get that has a deletion gives nothing that the deletion follows.
 pub fn session_guarantees()
     ensures own_writes { (ring : Tokens) (n r : ℕ) (tellings : List SessionPart)
         (closed : Closed) → IsClosed ring n r tellings closed →
@@ -82,10 +82,10 @@ pub fn session_guarantees()
         All (GivesNothingDeleted other) tellings }
 {}
 
-/// What a get gave that a session of a closed cluster was told, by the log that the cluster ended
-/// with: where homes themselves answered, what enough homes had taken themselves by a step that the
-/// session knew of, and what was acknowledged where the key was settled by then; what a home
-/// answered for itself before; and nothing that precedes a version which the get has.
+/// What a get in a session's list gave, by the log that the closed cluster ended with. A get of
+/// homes themselves has what enough of them had taken themselves, by a step that the session knew
+/// of. It has what was acknowledged, where the key was settled by then. What a home answered for
+/// itself, its later answers have too. No get gives what precedes a version that it has.
 pub fn gets_give_what_homes_took()
     ensures taken { (ring : Tokens) (n r : ℕ) (c : AtRest) (tellings : List SessionPart)
         (closed : Closed) → IsEndOf ring n r c tellings closed →
@@ -115,9 +115,8 @@ pub fn gets_give_what_homes_took()
         All (λ u. precedes u v ≡ false) (newest (rows_of g.answers)) }
 {}
 
-/// Where a get says that it sees a put of its key (`GetDone::sees`), and both were told to sessions
-/// of one cluster, which was closed, the get has the version of the put, or one that causally
-/// follows it.
+/// Of a get and a put of one key in the lists of sessions of one closed cluster. If `GetDone::sees`
+/// is true of them, the get has the put's version, or one that causally follows it.
 pub fn what_is_seen_is_there<J: Naming>()
     ensures { (ring : Tokens) (n r : ℕ) (tellings : List SessionPart) (closed : Closed) →
         IsClosed ring n r tellings closed →

@@ -1,4 +1,4 @@
-//! The store as a user holds it: nodes and a book, each under a lock of its own.
+//! The store as a program uses it: nodes and a book, each under a lock of its own.
 #![tactic(auto)]
 
 mod calls;
@@ -36,7 +36,7 @@ pub use restings::{Closed, ClusterRefused, Resting};
 pub use staffing::with_workers;
 pub use values::PresentValue;
 
-// What a client writes besides, so that an embedding program needs no other library.
+// Types that a client needs besides, so that an embedding program names no other library for them.
 pub use dy_book::{AckedAt, Audit, Options};
 pub use dy_coord::{GetDone, GetFault, PutDone, PutFault};
 pub use dy_core::{Acked, Holding, Place};
@@ -49,6 +49,5 @@ use dy_shares::SessionShare;
 pub use dy_siblings::{Key, Row, Value, Version};
 pub use dy_transport::Transport;
 
-/// A client's session: it is told every acknowledgement and every get of its own, and must be
-/// handed in when the cluster closes.
+/// A client's session: the list of its acks and gets. It must be handed in when the cluster closes.
 pub type Session<J> = SessionShare<J>;

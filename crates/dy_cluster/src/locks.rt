@@ -1,4 +1,4 @@
-// The nodes into their locks, and out of them.
+// How nodes go into their locks, and out of them.
 ghost use Rattle.std.specs.Prelude.{◌≡◌, ◌≤◌, ◌<◌, ◌+◌, [], length, vec_len, vec_capacity};
 ghost use Rattle.dy_cluster.specs.Ends.{GoTogether};
 ghost use Rattle.dy_cluster.specs.Firsts.{AreFirstFrom};

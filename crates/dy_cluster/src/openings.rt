@@ -7,8 +7,8 @@ use dy_ring::Ring;
 use dy_shares::Blank;
 use std::alloc::Global;
 
-/// What a cluster is opened with: a ring, options that fit it, and an empty log. Whoever opens a
-/// cluster names its book after the log that lies here.
+/// What a cluster is opened with: a ring, options that fit it, and an empty log. The cluster's book
+/// is named after this log.
 #[derive(Drop)]
 pub struct Opened {
     pub blank: Blank,
@@ -19,7 +19,7 @@ pub struct Opened {
 }
 
 impl Opened {
-    /// Refused are limits out of their range, and then numbers of homes and answers that don't fit
+    /// Refuses limits that are out of range, and then numbers of homes and answers that don't fit
     /// the ring.
     pub fn new(alloc: Global, ring: Ring, options: Options) -> Result<Opened, Fault>
         ensures ring { IfOk result (λ opened. opened.ring ≡ ring) }

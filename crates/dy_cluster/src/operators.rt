@@ -23,10 +23,10 @@ use std::marker::Brand;
 use std::sync::Wait;
 use std::thread::Threads;
 
-/// What one more thread does beside the clients: it lets nodes fail and come back, and makes passes.
+/// What one more thread does beside the clients: it takes nodes down and up, and makes passes.
 pub trait Operator {
-    /// Is called once, in a thread of its own, before the first client begins; not where a thread
-    /// for a worker or for it can't be had. It may wait for what clients do until `end` is called.
+    /// Called once, in a thread of its own, before the first client begins. It is not called if a
+    /// thread for a worker, or for it, can't be had. It may wait for clients until `end` is called.
     fn run<J: Naming, R: Wait>(
         &self,
         rt: &R,
@@ -35,12 +35,12 @@ pub trait Operator {
         post: &mut Post<J>,
     );
 
-    /// Is called once, from another thread: every client has ended, or never begins. Behind it `run`
-    /// waits for none of them.
+    /// Called once, from another thread, when every client has ended or none will begin. After it
+    /// `run` must not wait for a client.
     fn end<R: Wait>(&self, rt: &R);
 }
 
-// In the place of an operator where there is none.
+// Stands in for an operator where there is none.
 pub(crate) struct Nobody;
 
 impl Operator for Nobody {
@@ -55,8 +55,8 @@ impl Operator for Nobody {
     fn end<R: Wait>(&self, _rt: &R) {}
 }
 
-/// The same as `with_workers` beside an operator, in one more thread. Where that can't be had, no
-/// client runs, and that is told as want of memory.
+/// The same as `with_workers`, beside an operator in one more thread. If that thread can't be had,
+/// no client runs, and the answer is `OutOfMemory`.
 pub fn with_operator<
     C: Client + Sync,
     G: Gate + Sync,

@@ -43,14 +43,14 @@ impl<J: Naming> Cluster<J> {
         self.lock_of(node).lock(rt).set_up(is_up);
     }
 
-    /// What the node does with asks from now on. May wait for a lock.
+    /// Sets what the node does with asks. May wait for a lock.
     pub fn fault(&self, rt: &impl Wait, node: NodeId, mode: Mode)
         requires ring { IsNodeOf J.ring node }
     {
         self.lock_of(node).lock(rt).set_fault(mode);
     }
 
-    /// Brings every node up, and each does what it is asked from now on. May wait for locks.
+    /// Brings every node up, and sets its mode to `Plain`. May wait for locks.
     pub fn restore(&self, rt: &impl Wait) {
         for lock in self.nodes.iter() {
             restore_one(&mut lock.lock(rt));
@@ -58,14 +58,14 @@ impl<J: Naming> Cluster<J> {
     }
 }
 
-// The place of the node in the ring's order.
+// The index of the node in the ring's order.
 fn place_of(node: NodeId) -> usize
     ensures { result ≡ node }
 {
     usize::from(node.number())
 }
 
-// Brings the node up, and it does what it is asked.
+// Brings the node up, and sets its mode to `Plain`.
 fn restore_one<J: Naming>(node: &mut Node<J>)
     ensures { node.new ≡ with_mode (with_up node.old true) Mode.Plain }
 {

@@ -1,4 +1,4 @@
-// What the versions of each key follow.
+// For each key, all that its versions follow.
 ghost use Rattle.std.specs.Prelude.{◌≡◌, OnOk, IfOk, IsOkUnless};
 ghost use Rattle.std.specs.FinMap as maps;
 ghost use Rattle.std.specs.FinSet as set;
@@ -82,7 +82,7 @@ impl Pasts {
     }
 }
 
-// What all versions that are held follow, key by key.
+// For each key, all that its held versions follow.
 pub(crate) fn pasts_of(alloc: Global, held: &[Holding]) -> Result<Pasts, Fault>
     ensures ok { IfOk result (λ pasts. pasts ≡ with_all_pasts maps.empty held.now) }
     ensures memory { IsOkUnless result Fault.OutOfMemory }

@@ -1,4 +1,4 @@
-// Mailboxes before the nodes, transports over them, and the workers behind.
+// The nodes' mailboxes, transports over them, and workers.
 ghost use Rattle.std.specs.Prelude.{◌≡◌, length, IfOk, IsOkUnless};
 ghost use Rattle.std.specs.List.{range_with_len};
 ghost use Rattle.dy_dots.specs.declared.nodes.TheConstants.{MAX_NODES};
@@ -12,9 +12,9 @@ use std::sync::Wait;
 
 impl<J: Naming> Cluster<J> {
     /// A mailbox for each node, and the ends that its workers receive from, in the order of the
-    /// nodes' numbers. The mailboxes close when every post is dropped. Whoever lets a post go
-    /// before each node's worker has started may wait for ever: a message that lies in a mailbox
-    /// lives as long as any post does.
+    /// nodes' numbers. The mailboxes close when every post is dropped. Start each node's worker
+    /// before a post is handed out. A message lies in its mailbox as long as any post lives, so
+    /// without a worker its sender may wait for ever.
     pub fn post(&self) -> Result<(Post<J>, Vec<Inbox<J>>), Fault>
         ensures post { IfOk result (λ p. p.0 ≡ J.ring.nodes) }
         ensures inboxes { IfOk result (λ p. length p.1.items ≡ J.ring.nodes) }
@@ -24,8 +24,7 @@ impl<J: Naming> Cluster<J> {
         Post::new(self.alloc, self.ring.nodes())
     }
 
-    /// A transport over the nodes' workers, with ends of its own, which send to the same mailboxes
-    /// as the post does.
+    /// A transport over the nodes' workers, with sending ends of its own to the post's mailboxes.
     pub fn mailboxes(&self, post: &mut Post<J>) -> Result<Mailboxes<'_, J>, Fault>
         ensures ok { IfOk result (λ mailboxes. mailboxes ≡ nothing_told MAX_NODES) }
         ensures post { post.new ≡ post.old }
@@ -41,8 +40,8 @@ impl<J: Naming> Cluster<J> {
         )
     }
 
-    /// A worker of the node whose inbox it is: answers what comes to its mailbox until every post is
-    /// dropped. May wait for asks and for locks.
+    /// The worker of the inbox's node. It answers what comes to the node's mailbox until every post
+    /// is dropped. May wait for asks and for locks.
     pub fn serve<G: Gate, R: Wait>(&self, rt: &R, inbox: Inbox<J>, gate: &G) {
         serve(rt, self.nodes.as_slice(), &self.book, inbox, gate);
     }

@@ -21,7 +21,7 @@ pub struct Resting<J: Naming> {
     pub(crate) book: Book<J>,
     pub(crate) shares: Vec<NodeShare<J>>,
     pub(crate) rests: Vec<Rest>,
-    // Where the nodes' locks go again: empty, with room for each.
+    // Where the nodes' locks go again: an empty list, with room for each.
     pub(crate) locks: Vec<Mutex<Node<J>>>,
     pub(crate) ghost ring_is: { ring ≡ J.ring },
     pub(crate) ghost n_is: { options.n ≡ J.n },
@@ -50,7 +50,7 @@ impl<J: Naming> Model for Resting<J> {
     ghost invariant = { λ c. GoTogether J.ring J.n c.shares.items c.rests.items };
 }
 
-/// What a cluster that has ended tells, and what its nodes kept.
+/// The audit of a cluster that was closed, and what its nodes kept.
 #[derive(Drop)]
 pub struct Closed {
     pub audit: Audit,
@@ -80,7 +80,8 @@ impl<J: Naming> ClusterRefused<J> {
 }
 
 impl<J: Naming> Resting<J> {
-    /// Ends the cluster, where each of its sessions is handed in; otherwise all comes back.
+    /// Closes the cluster, if each of its sessions is handed in. Otherwise cluster and sessions
+    /// come back.
     pub fn close(self, sessions: Vec<SessionShare<J>>) -> Result<Closed, ClusterRefused<J>>
         ensures exact { IfOk result
             (λ closed. IsEndOf J.ring J.n J.r self sessions.items closed) }
@@ -141,7 +142,7 @@ impl<J: Naming> Resting<J> {
         self.book.lacks(self.shares.as_slice(), sessions)
     }
 
-    /// Ends the cluster with whatever sessions are there, and tells nothing. Takes no memory.
+    /// Ends the cluster with the sessions that are there, and gives no audit. Takes no memory.
     pub fn abandon(self, sessions: Vec<SessionShare<J>>) {
         let Resting {
             alloc: _,

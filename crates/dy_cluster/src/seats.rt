@@ -1,4 +1,4 @@
-// The places of clients.
+// Seats: the clients' numbers and sessions.
 ghost use Rattle.std.specs.Prelude.{◌≡◌, ◌≤◌, ◌<◌, ℕ, [], length, vec_len, vec_capacity, IsTrue};
 ghost use Rattle.std.specs.Prelude.{true, false, IsSome};
 ghost use Rattle.std.specs.List.{All};
@@ -18,8 +18,8 @@ use std::alloc::Global;
 use std::marker::{Brand, PhantomData};
 use std::sync::{Mutex, Wait};
 
-// What the sessions of clients are told, by their numbers. Whoever runs the clients picks it, since
-// what threads leave behind is known by its type alone.
+// What holds of the lists of clients' sessions, by their numbers. The function that runs the
+// clients picks it, since of what threads leave behind only the type is known.
 pub(crate) trait Telling {
     ghost told: { ℕ → SessionPart → Type 0 };
 }
@@ -31,7 +31,7 @@ impl Telling for Brand {
 // A client's number and session, and whether the client has run.
 pub(crate) struct Seat<J: Naming, T: Telling> {
     number: usize,
-    // It is always there, but while its client runs.
+    // Always there, except while the client runs.
     session: Option<SessionShare<J>>,
     has_run: bool,
     telling: PhantomData<T>,
@@ -41,13 +41,13 @@ pub(crate) struct Seat<J: Naming, T: Telling> {
     ghost told: { has_run ≡ true → ForSome session (as_fact T.told number) },
 }
 
-// What a client's thread needs to know of its place, which may go there.
+// What a client's thread needs of its seat. It can be sent to that thread.
 pub(crate) trait Place<J: Naming> {
     ghost told: { ℕ → SessionPart → Type 0 };
 
-    // Lets the client do what it does, once: over the post, which is let go then, or where there is
-    // none on its own thread. Where there is no memory for what carries its messages it does not
-    // run. May wait for whatever it waits for.
+    // Runs the client once, over the post, which is dropped then; without a post on its own thread.
+    // If memory for its transport is wanting, it does not run. May wait for whatever the client
+    // waits for.
     fn run<C: Client, R: Wait>(
         &mut self,
         rt: &R,
@@ -90,7 +90,7 @@ impl<J: Naming, T: Telling> Place<J> for Seat<J, T> {
 }
 
 impl<J: Naming, T: Telling> Seat<J, T> {
-    // Lets the client do what it does over this transport.
+    // Runs the client over this transport.
     fn run_over<C: Client, M: Transport<J> + Drop, R: Wait>(
         &mut self,
         rt: &R,
@@ -143,8 +143,8 @@ pub(crate) fn seat_all<J: Naming, T: Telling>(
     }
 }
 
-// Each session leaves its seat, that of number 0 first. Tells whether each client has run, and has
-// the number of its place.
+// Each session leaves its seat, number 0 first. Gives whether each client has run, and had the
+// number of its seat.
 pub(crate) fn rise_all<J: Naming, T: Telling>(
     seats: &mut Vec<Mutex<Seat<J, T>>>,
     sessions: &mut Vec<SessionShare<J>>,

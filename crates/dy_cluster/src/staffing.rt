@@ -29,11 +29,11 @@ use std::marker::Brand;
 use std::sync::{Mutex, Wait};
 use std::thread::Threads;
 
-/// Opens a cluster on the ring, starts a worker for each node, runs so many clients beside each
-/// other, each in a thread of its own with a connection of its own over the workers, and closes it.
-/// Where no thread can be had for a worker, no client runs, and that is told as want of memory. A
-/// client for which none can be had, or no memory for what carries its messages, does not run, and
-/// that is told so too, once the others are done.
+/// Opens a cluster on the ring, starts a worker for each node, runs this many clients beside each
+/// other, and closes it. Each client has a thread of its own, and a connection of its own over the
+/// workers. If a thread for a worker is wanting, no client runs. If a thread or memory for a
+/// client's transport is wanting, that client does not run, and the others do. The answer is then
+/// `OutOfMemory`.
 pub fn with_workers<C: Client + Sync, G: Gate + Sync, R: Threads + Wait + Sync>(
     rt: &R,
     alloc: Global,
@@ -62,8 +62,8 @@ pub fn with_workers<C: Client + Sync, G: Gate + Sync, R: Threads + Wait + Sync>(
     run_clients::<Brand, C, G, Nobody, R>(rt, alloc, opened, Some(gate), operator, clients, client)
 }
 
-// Opens a cluster of the name that was picked, runs the clients, and closes it: beside workers
-// where there is a gate, and beside the operator where there is one.
+// Opens a cluster of the picked name, runs the clients, and closes it. With a gate workers run
+// beside them, and with an operator that one too.
 pub(crate) fn run_clients<
     J: Naming + Send + Sync,
     C: Client + Sync,
@@ -113,7 +113,7 @@ pub(crate) fn run_clients<
     }
 }
 
-// Opens a session for each client, and runs them. The sessions are in the list again.
+// Opens a session for each client, and runs them. Afterwards the sessions are in the list again.
 fn run_seated<
     J: Naming + Send + Sync,
     T: Telling + Send + Sync,
@@ -160,7 +160,7 @@ fn run_seated<
     end_of(is_staffed, have_run)
 }
 
-// A session for each client.
+// Opens a session for each client.
 fn seat_clients<J: Naming, R: Wait>(
     rt: &R,
     cluster: &Cluster<J>,
@@ -178,7 +178,7 @@ fn seat_clients<J: Naming, R: Wait>(
     Ok(())
 }
 
-// What becomes of a run: a thread that can't be made is memory that is wanting.
+// How a run ends: a thread that can't be made counts as want of memory.
 fn end_of(is_staffed: bool, have_run: bool) -> Result<(), Fault>
     ensures ok { IsOk result ↔ (IsTrue is_staffed × IsTrue have_run) }
     ensures memory { IsOkUnless result Fault.OutOfMemory }

@@ -1,4 +1,4 @@
-// The values that are present of what is held.
+// The present values of what is held.
 ghost use Rattle.std.specs.Prelude.{◌≡◌, ◌++◌, OnOk, IfOk, IsOkUnless, flat_map};
 ghost use Rattle.dy_cluster.specs.PresentValues.{ArePresent, present_cmp};
 ghost use Rattle.dy_cluster.specs.inside.Pasts.{values_in};
@@ -33,7 +33,7 @@ impl Ranked for PresentValue {
     }
 }
 
-// Adds the row's values that are present, and that lie in the past of no version of its key.
+// Adds the row's present values whose dot lies in the past of no version of its key.
 fn add_values(
     alloc: Global,
     found: &mut Vec<PresentValue>,
@@ -59,7 +59,7 @@ fn add_values(
     Ok(())
 }
 
-// Those of all that is held, row by row.
+// The same of all that is held, row by row.
 fn found_of(alloc: Global, held: &[Holding], pasts: &Pasts) -> Result<Vec<PresentValue>, Fault>
     ensures ok { IfOk result (λ found. found.items ≡
         flat_map (λ h. values_in pasts.now h.row.key h.row.versions) held.now) }
@@ -72,7 +72,7 @@ fn found_of(alloc: Global, held: &[Holding], pasts: &Pasts) -> Result<Vec<Presen
     Ok(found)
 }
 
-// The same in order, each once.
+// The values in order, each once.
 fn ordered(mut found: Vec<PresentValue>) -> Result<Vec<PresentValue>, Fault>
     ensures ok { IfOk result (λ list. IsInOrder present_cmp found.items list.items) }
     ensures memory { IsOkUnless result Fault.OutOfMemory }
@@ -82,7 +82,7 @@ fn ordered(mut found: Vec<PresentValue>) -> Result<Vec<PresentValue>, Fault>
     Ok(found)
 }
 
-// The values that are present of what is held, whoever holds it.
+// The present values of what is held, whoever holds it.
 fn values_of(alloc: Global, held: &[Holding]) -> Result<Vec<PresentValue>, Fault>
     ensures ok { IfOk result (λ values. ArePresent held.now values.items) }
     ensures memory { IsOkUnless result Fault.OutOfMemory }
@@ -93,8 +93,8 @@ fn values_of(alloc: Global, held: &[Holding]) -> Result<Vec<PresentValue>, Fault
 }
 
 impl Closed {
-    /// The values that were present when the cluster closed, by key and then by dot: those of the
-    /// merge of all rows of a key, whoever held them, homes and stand-ins.
+    /// The values that were present when the cluster closed, by key and then by dot. They are those
+    /// of the merge of all rows of a key, held by homes and by stand-ins.
     pub fn values(&self, alloc: Global) -> Result<Vec<PresentValue>, Fault>
         ensures ok { IfOk result (λ values.
             ArePresent self.now.audit.held.items values.items) }

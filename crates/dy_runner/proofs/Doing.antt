@@ -9,7 +9,8 @@ use Rattle.dy_cluster.specs.Settings.{Setting}
 use Rattle.dy_lines.specs.Outcomes.{command_text}
 use Rattle.dy_lines.specs.Texts.{line}
 use Rattle.dy_lines.specs.declared.outcomes.Outcome.{Outcome}
-use Rattle.dy_runner.specs.Runs.{DoAll, Does, Seated, lines_from}
+use Rattle.dy_runner.specs.Runs.{DoAll, Does, Seated, lines_from, outcomes_in}
+use Rattle.dy_runner.specs.declared.recordings.Played.{Played}
 use Rattle.dy_script.specs.Orders.{CommandParts, command_parts}
 use Rattle.dy_script.specs.declared.commands.Command.{Command}
 
@@ -79,3 +80,10 @@ lines_next first before after i os o count so_far one =
     let text = lines_behind 1 os o
     ∙ ap (λ (n : ℕ). lines_from 1 os ++ line (command_text n o)) (omega (arith, count)) in
     subst (Appends first after) (sym text) (Appends-trans first before after _ _ so_far one)
+
+-- what came of it is recorded behind theirs
+pub outcomes_next : (plays room more : List Played) (play : Played) → room ≡ plays →
+    more ≡ room ++ play ∷ [] → outcomes_in more ≡ outcomes_in plays ++ play.outcome ∷ []
+outcomes_next plays room more play same pushed =
+    ap outcomes_in (pushed ∙ ap (λ ps. ps ++ play ∷ []) same)
+    ∙ map-append (λ p. p.outcome) plays (play ∷ [])

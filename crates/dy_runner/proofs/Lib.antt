@@ -1,4 +1,6 @@
 pub mod AuditLines
 pub mod Doing
+pub mod Fetches
 pub mod RingLines
 pub mod Seating
+pub mod Tracing

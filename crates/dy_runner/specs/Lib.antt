@@ -6,4 +6,6 @@ pub mod RingLines
 pub mod Runs
 pub mod Seats
 pub mod Texts
+pub mod Traces
 pub mod Writes
+pub mod inside

@@ -4,18 +4,14 @@ use Rattle.dy_ring.specs.Rings.{Tokens, position_of}
 use Rattle.dy_ring.specs.Lists.{IsRingOf, derived_lists}
 use Rattle.dy_preference.specs.Preferences.{preference_of}
 use Rattle.dy_lines.specs.Texts.{line}
-use Rattle.dy_lines.specs.Audits.{token_text, key_text}
+use Rattle.dy_lines.specs.Audits.{key_text}
+use Rattle.dy_lines.specs.Clusters.{token_lines}
 use Rattle.dy_script.specs.Reading.{LayoutParts, given, derived}
 
 -- the ring has exactly the tokens of the layout
 abbrev pub IsLaidOut : LayoutParts → Tokens → Type 0
 IsLaidOut (given lists) ring = IsRingOf lists ring
 IsLaidOut (derived nodes per_node) ring = IsRingOf (derived_lists nodes per_node) ring
-
--- a line for each token
-abbrev pub token_lines : List (ℕ × ℕ) → List ℕ
-token_lines [] = []
-token_lines (t ∷ ts) = line (token_text t.0 t.1) ++ token_lines ts
 
 -- a line for each key, with all nodes in the order in which it prefers them
 abbrev pub key_lines : Tokens → List (List ℕ) → List ℕ

@@ -1,9 +1,11 @@
 -- What a script does, from its commands to what is printed of them.
-use Rattle.std.specs.Prelude.{◌≡◌, ◌⊎◌, ◌<◌, ℕ, ◌+◌, Bool, false, List, [], ◌∷◌, ◌++◌, Option, Result}
+use Rattle.std.specs.Prelude.{◌≡◌, ◌⊎◌, ◌<◌, ℕ, ◌+◌, Bool, false, true, List, [], ◌∷◌, ◌++◌}
+use Rattle.std.specs.Prelude.{Option, Result, map}
 use Rattle.std.specs.Io.KnownBytes.{Appends}
 use Rattle.std.specs.declared.marker.Brand.{Brand}
 use Rattle.dy_dots.specs.declared.faults.Fault.{Fault}
 use Rattle.dy_ring.specs.Rings.{Tokens}
+use Rattle.dy_book.specs.declared.audits.Audit.{Audit}
 use Rattle.dy_script.specs.Orders.{CommandParts, WriteParts, written, puts, deletes, gets}
 use Rattle.dy_script.specs.Orders.{downs, ups, sets_mode, delivers, hands_off, shows}
 use Rattle.dy_script.specs.Reading.{ScriptParts}
@@ -12,6 +14,7 @@ use Rattle.dy_cluster.specs.Ends.{IsClosed}
 use Rattle.dy_cluster.specs.Named.{IsNodeOf}
 use Rattle.dy_cluster.specs.Settings.{Setting, setting}
 use Rattle.dy_cluster.specs.declared.restings.Closed.{Closed}
+use Rattle.dy_lines.specs.Clusters.{cluster_lines}
 use Rattle.dy_lines.specs.Outcomes.{command_text}
 use Rattle.dy_lines.specs.Texts.{line}
 use Rattle.dy_lines.specs.declared.outcomes.Outcome.{Outcome}
@@ -24,8 +27,11 @@ use Rattle.dy_runner.specs.Openings.{given_or}
 use Rattle.dy_runner.specs.RingLines.{IsLaidOut}
 use Rattle.dy_runner.specs.Seats.{IsOpenUnless, IsOpened, seat_of}
 use Rattle.dy_runner.specs.Texts.{IsDeleteJudged, IsKeyJudged, IsPutJudged}
+use Rattle.dy_runner.specs.Traces.{AreTraced}
 use Rattle.dy_runner.specs.Writes.{ReadsJudged, RunsJudged}
 use Rattle.dy_runner.specs.declared.givens.Given.{Given}
+use Rattle.dy_runner.specs.declared.recordings.Played.{Played}
+use Rattle.dy_runner.specs.declared.recordings.Recorded.{Recorded}
 use Rattle.dy_runner.specs.declared.seats.Seats.{Seats}
 
 -- the sessions of a script, in the order of their opening: their numbers, and what each was told;
@@ -125,10 +131,44 @@ pub record HasRun (s : Setting) (script : ScriptParts) (tellings : List SessionP
       (record { numbers = numbers; tellings = tellings; refused = refused })
   pub wrote : Appends before after (lines_from 1 outcomes)
 
--- what was written is a line for what came of each command of the script, in their order, on a
+-- what came of each command that was played
+abbrev pub outcomes_in : List Played → List Outcome
+outcomes_in plays = map (λ p. p.outcome) plays
+
+-- the commands of the script were done one after another in sessions that were told so, and what
+-- came of each is recorded
+abbrev pub HasPlayed : Setting → ScriptParts → List SessionPart → Recorded → Type 0
+HasPlayed s script tellings recorded =
+    DoAll s script.w script.run (outcomes_in recorded.plays.items) none_seated
+    (seated recorded.seats tellings)
+
+-- what is printed without the steps: a line for what came of each command, in their order, and the
+-- audit
+abbrev pub plain_lines : ScriptParts → List Outcome → Audit → List ℕ
+plain_lines s outcomes audit = lines_from 1 outcomes ++ audit_lines s.w s.settled audit
+
+-- what is printed with them: the cluster, a line for each command with those of its steps below it,
+-- and the audit
+abbrev pub IsTraced :
+    ScriptParts → Tokens → List Outcome → List ℕ → Audit → List ℕ → Type 0
+IsTraced s ring outcomes numbers audit wrote =
+    (lines : List ℕ)
+    × AreTraced (record { numbers = numbers; told = audit.told.items }) outcomes
+    audit.history.trail.items lines
+    × (wrote ≡ cluster_lines s.n s.r s.w ring.tokens ++ lines
+    ++ audit_lines s.w s.settled audit)
+
+-- what is printed, with the steps or without
+abbrev pub IsPrinted :
+    Bool → ScriptParts → Tokens → List Outcome → List ℕ → Audit → List ℕ → Type 0
+IsPrinted false s ring outcomes numbers audit wrote = wrote ≡ plain_lines s outcomes audit
+IsPrinted true s ring outcomes numbers audit wrote =
+    IsTraced s ring outcomes numbers audit wrote
+
+-- what was written is what is printed of the commands of the script, done in their order on a
 -- cluster that the script asks for, and behind them the audit of this cluster as it was closed;
 -- its book has the name that is picked where a cluster is opened for some work
-pub record IsRun (s : ScriptParts) (wrote : List ℕ) : Type 0 where
+pub record IsRun (s : ScriptParts) (with_steps : Bool) (wrote : List ℕ) : Type 0 where
   pub ring : Tokens
   pub laid_out : IsLaidOut s.layout ring
   pub outcomes : List Outcome
@@ -136,4 +176,4 @@ pub record IsRun (s : ScriptParts) (wrote : List ℕ) : Type 0 where
   pub done : DoAll (setting Brand ring s.n s.r) s.w s.run outcomes none_seated sessions
   pub closed : Closed
   pub ended : IsClosed ring s.n s.r sessions.tellings closed
-  pub wrote_is : wrote ≡ lines_from 1 outcomes ++ audit_lines s.w s.settled closed.audit
+  pub wrote_is : IsPrinted with_steps s ring outcomes sessions.numbers closed.audit wrote

@@ -5,10 +5,14 @@ mod gets;
 mod givens;
 mod options;
 mod outages;
+mod recordings;
 mod renewals;
 mod running;
 mod seats;
+mod telling;
+mod traces;
 mod writes;
 mod writing;
 
-pub use writing::{write_ring, write_run};
+pub use options::{options_of, ring_of};
+pub use writing::{run_script, write_ring, write_run};

@@ -10,8 +10,8 @@ use dy_ring::Ring;
 use dy_script::{Layout, Script};
 use std::alloc::Global;
 
-/// The ring that the layout says.
-pub(crate) fn ring_of(alloc: Global, layout: &Layout) -> Result<Ring, Fault>
+/// The ring that the layout says, or why there is none.
+pub fn ring_of(alloc: Global, layout: &Layout) -> Result<Ring, Fault>
     ensures { IfOk result (λ ring. IsLaidOut (layout_parts layout.now) ring) }
 {
     match layout {
@@ -21,7 +21,7 @@ pub(crate) fn ring_of(alloc: Global, layout: &Layout) -> Result<Ring, Fault>
 }
 
 /// The options of the cluster that the script asks for, where its limits are in their ranges.
-pub(crate) fn options_of(script: &Script) -> Result<Options, Fault>
+pub fn options_of(script: &Script) -> Result<Options, Fault>
     ensures ok { IfOk result (λ options. options ≡ options_for (script_parts script.now)) }
     ensures limits { IsOk result ↔ AreLimits (options_for (script_parts script.now)) }
     ensures only { IfErr result (λ fault. fault ≡ Fault.TooMany) }

@@ -92,8 +92,8 @@ fn run_all<J: Naming, O: Write, R: Wait>(
     Ok(())
 }
 
-// What comes of the command.
-fn run_command<J: Naming, R: Wait>(
+/// What comes of the command. May wait for locks.
+pub(crate) fn run_command<J: Naming, R: Wait>(
     rt: &R,
     alloc: Global,
     cluster: &Cluster<J>,

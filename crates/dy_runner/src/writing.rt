@@ -1,4 +1,4 @@
-ghost use Rattle.std.specs.Prelude.{List, ℕ, IfOk, OnOk};
+ghost use Rattle.std.specs.Prelude.{◌≡◌, List, ℕ, IfOk, OnOk, true};
 ghost use Rattle.std.specs.Io.KnownBytes.{Appends};
 ghost use Rattle.std.specs.List.{flat_map};
 ghost use Rattle.std.specs.declared.marker.Brand.{Brand};
@@ -11,43 +11,90 @@ ghost use Rattle.dy_cluster.specs.Settings.{setting};
 ghost use Rattle.dy_runner.specs.AuditLines.{acked_line, audit_lines, end_line, held_line};
 ghost use Rattle.dy_runner.specs.AuditLines.{settled_line, settled_lines};
 ghost use Rattle.dy_runner.specs.Openings.{options_for};
-ghost use Rattle.dy_runner.specs.RingLines.{IsLaidOut, key_lines, ring_lines, token_lines};
+ghost use Rattle.dy_runner.specs.RingLines.{IsLaidOut, key_lines, ring_lines};
 ghost use Rattle.dy_runner.specs.Runs.{HasRun, IsRun};
 
 use crate::options::{options_of, ring_of};
+use crate::recordings::{Recorded, Recording};
 use crate::running::Run;
+use crate::telling::write_plays;
+use crate::traces::Trace;
 use dy_book::{AckedAt, Audit, Options};
 use dy_cluster::{Closed, with_cluster};
 use dy_core::Holding;
-use dy_lines::{AckedLine, EndLine, HeldLine, KeyLine, SettledLine, Stopped, TokenLine};
+use dy_lines::{
+    AckedLine, ClusterLine, EndLine, HeldLine, KeyLine, SettledLine, Stopped, write_cluster,
+    write_tokens,
+};
 use dy_preference::preference;
-use dy_ring::{Ring, Token};
+use dy_ring::Ring;
 use dy_script::Script;
 use dy_siblings::Key;
 use std::alloc::Global;
 use std::io::Write;
 use std::sync::Wait;
 
-/// Runs the script: writes a line for each command, and then the audit. May wait for locks.
+/// Runs the script: writes a line for each command, and then the audit. With the steps it keeps
+/// what came of the commands, and writes all once the cluster is closed. May wait for locks.
 pub fn write_run<O: Write, R: Wait>(
     rt: &R,
     alloc: Global,
     script: &Script,
+    with_steps: bool,
     out: &mut O,
 ) -> Result<(), Stopped>
     ensures limits { OnOk result (AreLimits (options_for (script_parts script.now))) }
-    ensures run { OnOk result ((wrote : List ℕ) × IsRun (script_parts script.now) wrote
+    ensures run { OnOk result ((wrote : List ℕ) × IsRun (script_parts script.now) with_steps wrote
         × Appends (O.contents out.old) (O.contents out.new) wrote) }
 {
     let ring = ring_of(alloc, &script.layout)?;
     let options = options_of(script)?;
+    if with_steps {
+        return write_with_steps(rt, alloc, ring, options, script, out);
+    }
     let closed = run_script(rt, alloc, ring, options, script, out)?;
     write_audit(alloc, script.w, script.settled, &closed.audit, out)?;
     Ok(())
 }
 
-// Runs the script on a cluster of this ring, which it closes, and writes a line for each command.
-fn run_script<O: Write, R: Wait>(
+// Runs the script on a cluster of this ring, which it closes, and then writes the cluster, each
+// command with the steps that the book made, and the audit.
+fn write_with_steps<O: Write, R: Wait>(
+    rt: &R,
+    alloc: Global,
+    ring: Ring,
+    options: Options,
+    script: &Script,
+    out: &mut O,
+) -> Result<(), Stopped>
+    requires laid_out { IsLaidOut (script_parts script.now).layout ring }
+    requires asked { options ≡ options_for (script_parts script.now) }
+    ensures { OnOk result ((wrote : List ℕ) × IsRun (script_parts script.now) true wrote
+        × Appends (O.contents out.old) (O.contents out.new) wrote) }
+{
+    let again = ring.try_clone(alloc)?;
+    let mut recording = Recording {
+        script,
+        recorded: Recorded::new(alloc),
+    };
+    let closed = with_cluster(rt, alloc, ring, options, &mut recording)?;
+    let recorded = &recording.recorded;
+    let audit = &closed.audit;
+    let trace = Trace::new(alloc, recorded.seats.numbers.as_slice(), audit)?;
+    let line = ClusterLine {
+        n: script.n,
+        r: script.r,
+        w: script.w,
+    };
+    write_cluster(line, again.tokens(), out)?;
+    write_plays(alloc, &trace, recorded.plays.as_slice(), out)?;
+    write_audit(alloc, script.w, script.settled, audit, out)?;
+    Ok(())
+}
+
+/// Runs the script on a cluster of this ring, which it closes, and writes a line for each command.
+/// The audit is left to the caller. May wait for locks.
+pub fn run_script<O: Write, R: Wait>(
     rt: &R,
     alloc: Global,
     ring: Ring,
@@ -154,20 +201,6 @@ pub fn write_ring<W: Write>(alloc: Global, script: &Script, out: &mut W) -> Resu
     let ring = ring_of(alloc, &script.layout)?;
     write_tokens(ring.tokens(), out)?;
     write_keys(&ring, script.keys.as_slice(), out)?;
-    Ok(())
-}
-
-fn write_tokens<W: Write>(tokens: &[Token], out: &mut W) -> Result<(), Stopped>
-    ensures { OnOk result (Appends (W.contents out.old) (W.contents out.new)
-        (token_lines tokens.now)) }
-{
-    for (position, node) in tokens {
-        let line = TokenLine {
-            position: *position,
-            node: *node,
-        };
-        writeln!(out, "{line}")?;
-    }
     Ok(())
 }
 

@@ -1,3 +1,5 @@
 pub mod Counting
 pub mod FiveTokens
 pub mod Growing
+pub mod Pairing
+pub mod Tracing

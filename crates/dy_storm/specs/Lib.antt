@@ -3,5 +3,7 @@ pub mod Ends
 pub mod Lines
 pub mod Outages
 pub mod Seeds
+pub mod Traces
 pub mod Turns
 pub mod Words
+pub mod inside

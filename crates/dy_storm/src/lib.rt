@@ -9,6 +9,7 @@ mod plans;
 mod rings;
 mod rounds;
 mod storms;
+mod traces;
 mod turns;
 mod words;
 mod writing;

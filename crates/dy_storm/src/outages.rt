@@ -48,8 +48,8 @@ impl Outages {
 }
 
 impl Operator for Outages {
-    /// Once a round is over, one thing fails or comes back; the last of them do so at once where the
-    /// clients have ended. Then every node is up, and does what it is asked.
+    /// Once a round is over, one thing fails or comes back; the last of them do so at once where
+    /// the clients have ended. Then every node is up, and does what it is asked.
     fn run<J: Naming, R: Wait>(
         &self,
         rt: &R,

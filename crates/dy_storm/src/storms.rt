@@ -44,6 +44,20 @@ pub fn storm<R: Threads + Wait + Sync>(
     ensures only { IfErr result IsRunRefusal }
 {
     let ring = five_nodes(alloc)?;
+    storm_on(rt, alloc, ring, plan)
+}
+
+/// The same on this ring.
+pub(crate) fn storm_on<R: Threads + Wait + Sync>(
+    rt: &R,
+    alloc: Global,
+    ring: Ring,
+    plan: Storm,
+) -> Result<StormDone, Fault>
+    requires nodes { IsRingOf five_tokens ring }
+    ensures stormed { IfOk result (IsStormed BrandParts ring 3 2 plan) }
+    ensures only { IfErr result IsRunRefusal }
+{
     let clients = Clients::new(plan);
     let closed = run(rt, alloc, ring, &clients)?;
     let counts = Counts::of(plan, &closed.audit);

@@ -1,13 +1,14 @@
--- The lines of the commands, and the audit's behind them; the options are the script's.
-use Rattle.std.proofs.Common.{◌++◌, refl, subst}
+-- The lines of the commands, and the audit's behind them, where no steps are wanted; the options
+-- are the script's.
+use Rattle.std.proofs.Common.{Bool, List, ℕ, OnOk, refl, subst, sym}
 use Rattle.std.proofs.KnownBytes.{Appends-trans}
+use Rattle.std.specs.Io.KnownBytes.{Appends}
 use Rattle.std.specs.declared.marker.Brand.{Brand}
 use Rattle.dy_script.specs.Reading.{script_parts}
 use Rattle.dy_book.specs.declared.options.Options.{Options}
 use Rattle.dy_cluster.specs.Ends.{IsClosed}
 use Rattle.dy_cluster.specs.Settings.{setting}
-use Rattle.dy_runner.specs.AuditLines.{audit_lines}
-use Rattle.dy_runner.specs.Runs.{DoAll, Seated, lines_from, none_seated}
+use Rattle.dy_runner.specs.Runs.{DoAll, IsPrinted, IsRun, Seated, none_seated, plain_lines}
 use Rattle.dy_runner.proofs.writing.write_run.Goals as goal
 
 pub returns-clause-run : goal.returns-clause-run
@@ -23,7 +24,7 @@ returns-clause-run g c =
       refused = run.refused;
     } in
     let asked = c.in_ok-options.ensures.ok in (
-      lines_from 1 run.outcomes ++ audit_lines script.w script.settled closed.audit,
+      plain_lines script run.outcomes closed.audit,
       record {
         ring = ring;
         laid_out = c.in_ok-ring.ensures;
@@ -33,7 +34,18 @@ returns-clause-run g c =
             run.outcomes none_seated sessions) asked run.done;
         closed = closed;
         ended = subst (λ (o : Options). IsClosed ring o.n o.r told.0 closed) asked told.1;
-        wrote_is = refl;
+        wrote_is = subst (λ (b : Bool). IsPrinted b script ring run.outcomes run.numbers
+            closed.audit (plain_lines script run.outcomes closed.audit))
+            (sym c.if-with_steps.false) refl;
       },
       Appends-trans _ _ _ _ _ run.wrote c.in_ok-write_audit.ensures,
     )
+
+-- what is written with the steps, where they are wanted
+pub returns-then-with_steps-clause-run : goal.returns-then-with_steps-clause-run
+returns-then-with_steps-clause-run g c =
+    let contents = g.O.Write.contents in
+    subst (λ (b : Bool). OnOk c.write_with_steps.result ((wrote : List ℕ)
+    × IsRun (script_parts c.args.script.now) b wrote
+    × Appends (contents c.args.out.now) (contents c.write_with_steps.new.out) wrote))
+    (sym c.if-with_steps.true) c.write_with_steps.ensures

@@ -3,7 +3,7 @@ use Rattle.dy_book.specs.Audits.{count_acks, count_gets}
 use Rattle.dy_storm.specs.Seeds.{generator_of}
 use Rattle.dy_storm.specs.declared.plans.Storm.{Storm}
 use Rattle.dy_storm.proofs.Counting.{turns_most}
-use Rattle.dy_storm.proofs.storms.storm.Goals as goal
+use Rattle.dy_storm.proofs.storms.storm_on.Goals as goal
 
 -- the sessions were told no more than two for each turn
 pub of-counts-requires : goal.of-counts-requires

@@ -1,0 +1,66 @@
+-- What a job writes, and the status that it ends with.
+use Rattle.std.specs.Prelude.{◌≡◌, ◌⊎◌, ℕ, Bool, true, false, IsTrue, List, Option, Ok, IfSome}
+use Rattle.std.specs.declared.marker.Brand.{Brand}
+use Rattle.dy_dots.specs.declared.faults.Fault.{Fault}
+use Rattle.dy_dots.specs.declared.faults.Fault.TheVariants.{OutOfMemory, SharesMissing}
+use Rattle.dy_ring.specs.Rings.{Tokens}
+use Rattle.dy_ring.specs.Lists.{IsRingOf}
+use Rattle.dy_script.specs.Reading.{ScriptParts, script_of_text}
+use Rattle.dy_lines.specs.declared.stops.Stopped.{Stopped}
+use Rattle.dy_lines.specs.declared.stops.Stopped.TheVariants.{Refused, Output}
+use Rattle.dy_runner.specs.RingLines.{IsLaidOut, ring_lines}
+use Rattle.dy_runner.specs.Runs.{IsRun}
+use Rattle.dy_storm.specs.Clusters.{five_tokens}
+use Rattle.dy_storm.specs.Ends.{IsStormed}
+use Rattle.dy_storm.specs.Lines.{storm_lines}
+use Rattle.dy_storm.specs.declared.plans.Storm.{Storm}
+use Rattle.dy_storm.specs.declared.storms.StormDone.{StormDone}
+use Rattle.dy_cli.specs.declared.jobs.Job.{Job}
+use Rattle.dy_cli.specs.declared.jobs.Job.TheVariants as Job
+
+-- the script that these bytes spell
+abbrev pub IsSpelt : List ℕ → ScriptParts → Type 0
+IsSpelt bytes s = script_of_text bytes ≡ Ok s
+
+-- memory ran out, or a share of the cluster was missing, which never is
+abbrev pub HasFailed : Fault → Type 0
+HasFailed f = (f ≡ OutOfMemory) ⊎ (f ≡ SharesMissing)
+
+-- the lines of a run of the script that these bytes spell
+abbrev pub IsRunOf : List ℕ → Bool → List ℕ → Type 0
+IsRunOf bytes with_steps wrote = (s : ScriptParts) × IsSpelt bytes s × IsRun s with_steps wrote
+
+-- the lines of the ring of the script that these bytes spell
+abbrev pub IsRingOfText : List ℕ → List ℕ → Type 0
+IsRingOfText bytes wrote =
+    (s : ScriptParts) × IsSpelt bytes s
+    × ((ring : Tokens) × IsLaidOut s.layout ring × (wrote ≡ ring_lines ring s.keys))
+
+-- the lines of a storm
+abbrev pub IsStormLines : Storm → List ℕ → Type 0
+IsStormLines plan wrote =
+    (ring : Tokens) × IsRingOf five_tokens ring
+    × ((done : StormDone) × ((stormed : IsStormed Brand ring 3 2 plan done)
+    × (wrote ≡ storm_lines plan.steps ring.tokens stormed.tellings done)))
+
+-- what the job writes, of a script that these bytes spell, where it has one
+abbrev pub IsWritten : Job → List ℕ → List ℕ → Type 0
+IsWritten (Job.Run file with_steps) bytes wrote = IsRunOf bytes with_steps wrote
+IsWritten (Job.Ring file) bytes wrote = IsRingOfText bytes wrote
+IsWritten (Job.Storm plan) bytes wrote = IsStormLines plan wrote
+
+-- whether the job reads a script
+abbrev pub has_script : Job → Bool
+has_script (Job.Run file with_steps) = true
+has_script (Job.Ring file) = true
+has_script (Job.Storm plan) = false
+
+-- of a job that reads a script the bytes are all that the input gives, where that is known
+abbrev pub AreRead : Job → Option (List ℕ) → List ℕ → Type 0
+AreRead job given bytes = IsTrue (has_script job) → IfSome given (λ all. bytes ≡ all)
+
+-- a job that stopped ends with 1 where memory or the output failed, and with 2 for any other cause
+abbrev pub IsStatusOf : Stopped → ℕ → Type 0
+IsStatusOf (Refused f) status =
+    (HasFailed f × (status ≡ 1)) ⊎ (¬ (HasFailed f) × (status ≡ 2))
+IsStatusOf (Output e) status = status ≡ 1

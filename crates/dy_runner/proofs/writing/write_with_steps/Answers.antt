@@ -1,0 +1,55 @@
+-- The cluster, the commands with their steps, and the audit's lines behind them.
+use Rattle.std.proofs.Common.{◌++◌, ◌∙◌, ap, refl, subst}
+use Rattle.std.proofs.KnownBytes.{Appends-trans}
+use Rattle.std.specs.Io.KnownBytes.{Appends}
+use Rattle.std.specs.declared.marker.Brand.{Brand}
+use Rattle.dy_script.specs.Reading.{script_parts}
+use Rattle.dy_book.specs.declared.options.Options.{Options}
+use Rattle.dy_cluster.specs.Ends.{IsClosed}
+use Rattle.dy_cluster.specs.Settings.{setting}
+use Rattle.dy_lines.specs.Clusters.{cluster_lines}
+use Rattle.dy_runner.specs.AuditLines.{audit_lines}
+use Rattle.dy_runner.specs.Runs.{DoAll, none_seated, outcomes_in, seated}
+use Rattle.dy_runner.proofs.Tracing.{traced_as}
+use Rattle.dy_runner.proofs.writing.write_with_steps.Goals as goal
+
+pub returns : goal.returns
+returns g c =
+    let contents = g.O.Write.contents in
+    let script = script_parts c.args.script.now in
+    let ring = c.args.ring in
+    let closed = c.in_ok-closed.closed in
+    let told = c.in_ok-closed.ensures.closed in
+    let recorded = c.with_cluster.new.work.recorded in
+    let outcomes = outcomes_in recorded.plays.items in
+    let trace = c.in_ok-trace.ensures in
+    let lines = c.in_ok-write_plays.ensures in
+    let first = cluster_lines script.n script.r script.w ring.tokens in
+    let last = audit_lines script.w script.settled closed.audit in
+    let cluster = subst (λ ts. Appends (contents c.args.out.now) (contents c.write_cluster.new.out)
+    (cluster_lines script.n script.r script.w ts))
+    (c.tokens.ensures.value ∙ ap (λ r. r.tokens) c.in_ok-again.ensures.ok)
+    c.in_ok-write_cluster.ensures.written in (
+      first ++ lines.0 ++ last,
+      record {
+        ring = ring;
+        laid_out = c.requires.laid_out;
+        outcomes = outcomes;
+        sessions = seated recorded.seats told.0;
+        done = subst (λ (o : Options). DoAll (setting Brand ring o.n o.r) script.w script.run
+            outcomes none_seated (seated recorded.seats told.0)) c.requires.asked told.2;
+        closed = closed;
+        ended = subst (λ (o : Options). IsClosed ring o.n o.r told.0 closed) c.requires.asked
+            told.1;
+        wrote_is = (
+          lines.0,
+          traced_as _ recorded.seats.numbers.items _ closed.audit.told.items _ outcomes _
+              closed.audit.history.trail.items lines.0
+              (trace.numbers ∙ c.as_slice.ensures.value) trace.told
+              (ap outcomes_in c.as_slice-2.ensures.value) trace.steps lines.1,
+          refl,
+        );
+      },
+      Appends-trans _ _ _ _ _ (Appends-trans _ _ _ _ _ cluster lines.2)
+          c.in_ok-write_audit.ensures,
+    )

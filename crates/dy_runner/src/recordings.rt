@@ -1,0 +1,106 @@
+// A run whose outcomes are kept until its cluster is closed.
+ghost use Rattle.std.specs.Prelude.{◌≡◌, [], length, IfOk};
+ghost use Rattle.dy_dots.specs.declared.nodes.TheConstants.{MAX_NODES};
+ghost use Rattle.dy_script.specs.Reading.{script_parts};
+ghost use Rattle.dy_cluster.specs.Settings.{setting};
+ghost use Rattle.dy_runner.specs.Runs.{HasPlayed};
+
+use crate::running::run_command;
+use crate::seats::Seats;
+use dy_cluster::{Cluster, Session, Work};
+use dy_dots::Fault;
+use dy_lines::Outcome;
+use dy_script::Script;
+use dy_shares::Naming;
+use dy_transport::Direct;
+use std::alloc::Global;
+use std::sync::Wait;
+
+/// A command that was done: what came of it, and how many steps the book had made behind it.
+#[derive(Drop)]
+pub(crate) struct Played {
+    pub outcome: Outcome,
+    pub steps: usize,
+}
+
+/// What a script did: its commands, in their order, and its sessions.
+#[derive(Drop)]
+pub(crate) struct Recorded {
+    pub plays: Vec<Played>,
+    pub seats: Seats,
+}
+
+impl Recorded {
+    /// Nothing is done yet. Takes no memory.
+    pub(crate) fn new(alloc: Global) -> Recorded
+        ensures plays { result.plays.items ≡ [] }
+        ensures seats { result.seats.numbers.items ≡ [] }
+    {
+        Recorded {
+            plays: Vec::new(alloc),
+            seats: Seats::new(alloc),
+        }
+    }
+}
+
+/// A script that is run on a cluster, and what it did.
+#[derive(Drop)]
+pub(crate) struct Recording<'a> {
+    pub script: &'a Script,
+    pub recorded: Recorded,
+}
+
+impl Work for Recording<'_> {
+    ghost use Rattle.dy_script.specs.Reading.{script_parts as parts};
+    ghost use Rattle.dy_runner.specs.Runs.{HasPlayed as IsRecorded};
+
+    // The commands are done, and recorded.
+    ghost told = { λ setting before after tellings.
+        IsRecorded setting (parts before.script.now) tellings after.recorded };
+
+    fn run<J: Naming, R: Wait>(
+        &mut self,
+        rt: &R,
+        alloc: Global,
+        cluster: &Cluster<J>,
+        sessions: &mut Vec<Session<J>>,
+    ) -> Result<(), Fault> {
+        let direct = cluster.direct()?;
+        self.recorded = record_all(rt, alloc, cluster, direct, sessions, self.script)?;
+        Ok(())
+    }
+}
+
+// Runs each command over this transport. Room for what came of it is had before.
+fn record_all<J: Naming, R: Wait>(
+    rt: &R,
+    alloc: Global,
+    cluster: &Cluster<J>,
+    mut direct: Direct<'_, J>,
+    sessions: &mut Vec<Session<J>>,
+    script: &Script,
+) -> Result<Recorded, Fault>
+    requires room { direct.room ≡ MAX_NODES }
+    requires none { sessions.old.items ≡ [] }
+    ensures { IfOk result (HasPlayed (setting J J.ring J.n J.r) (script_parts script.now)
+        sessions.new.items) }
+{
+    let mut seats = Seats::new(alloc);
+    let mut plays = Vec::new(alloc);
+    for command in script.run.as_slice() {
+        plays.reserve(1)?;
+        let outcome = run_command(
+            rt,
+            alloc,
+            cluster,
+            &mut direct,
+            &mut seats,
+            sessions,
+            script.w,
+            command,
+        );
+        let steps = cluster.steps(rt);
+        plays.push_reserved(Played { outcome, steps });
+    }
+    Ok(Recorded { plays, seats })
+}

@@ -1,0 +1,66 @@
+// The steps of a run, and who was told of them.
+ghost use Rattle.std.specs.Prelude.{length};
+ghost use Rattle.dy_lines.specs.Sessions.{HasSessions};
+
+use dy_book::Audit;
+use dy_dots::Fault;
+use dy_lines::SessionIndex;
+use dy_shares::{KeptStep, StepNumbers};
+use std::alloc::Global;
+
+/// The steps of a run, and its sessions in the order of their opening.
+#[derive(Drop)]
+pub(crate) struct Trace<'a> {
+    pub steps: &'a [KeptStep],
+    // The script's numbers of the sessions.
+    pub numbers: &'a [u8],
+    // What each was told.
+    pub told: &'a [StepNumbers],
+    index: SessionIndex,
+    ghost indexed: { HasSessions (length steps.now) told.now index },
+}
+
+impl<'a> Trace<'a> {
+    ghost use Rattle.std.specs.Prelude.{◌≡◌, ◌≤◌, IfOk, IsOkUnless};
+    ghost use Rattle.dy_dots.specs.declared.faults.Fault.TheVariants as Fault;
+    ghost use Rattle.dy_runner.specs.Traces.{is_told, session_of, sessions_of};
+
+    /// The steps that the audit has, and its sessions, which have these numbers.
+    pub(crate) fn new(
+        alloc: Global,
+        numbers: &'a [u8],
+        audit: &'a Audit,
+    ) -> Result<Trace<'a>, Fault>
+        ensures steps { IfOk result (λ trace. trace.steps.now ≡ audit.now.history.trail.items) }
+        ensures numbers { IfOk result (λ trace. trace.numbers.now ≡ numbers.now) }
+        ensures told { IfOk result (λ trace. trace.told.now ≡ audit.now.told.items) }
+        ensures memory { IsOkUnless result Fault.OutOfMemory }
+    {
+        let steps = audit.history.kept();
+        let told = audit.told.as_slice();
+        let index = SessionIndex::new(alloc, steps.len(), told)?;
+        Ok(Trace {
+            steps,
+            numbers,
+            told,
+            index,
+        })
+    }
+
+    /// Whether a session was told the step of this number. Takes no memory.
+    pub(crate) fn is_told(&self, number: usize) -> bool
+        requires within { number ≤ length self.now.steps.now }
+        ensures { result ≡ is_told (sessions_of self.now) number }
+    {
+        self.index.session_at(number) < self.told.len()
+    }
+
+    /// The script's number of the session that was told it, or 0 where none was. Takes no memory.
+    pub(crate) fn session_of(&self, number: usize) -> usize
+        requires within { number ≤ length self.now.steps.now }
+        ensures { result ≡ session_of (sessions_of self.now) number }
+    {
+        let place = self.index.session_at(number);
+        usize::from(self.numbers.get(place).copied().unwrap_or(0))
+    }
+}

@@ -1,0 +1,2 @@
+-- What contracts of private functions alone speak of.
+pub mod Pairs
