@@ -8,12 +8,15 @@ _dynamo() {
     fi
     case ${COMP_WORDS[1]} in
     run | ring)
-        [ "$COMP_CWORD" = 2 ] || return
+        local flags=
+        [ "${COMP_WORDS[1]}" = ring ] || flags=--steps
         compopt -o filenames 2>/dev/null
-        mapfile -t COMPREPLY < <(compgen -f -X '!*.json' -- "$word"; compgen -d -- "$word")
+        mapfile -t COMPREPLY < <(compgen -W "$flags" -- "$word")
+        mapfile -t -O ${#COMPREPLY[@]} COMPREPLY < <(
+            compgen -f -X '!*.json' -- "$word"; compgen -d -- "$word")
         ;;
     storm)
-        [ "$COMP_CWORD" -lt 5 ] || mapfile -t COMPREPLY < <(compgen -W '--faults' -- "$word")
+        [ "$COMP_CWORD" -lt 5 ] || mapfile -t COMPREPLY < <(compgen -W '--faults --steps' -- "$word")
         ;;
     help) mapfile -t COMPREPLY < <(compgen -W 'run ring storm' -- "$word") ;;
     esac

@@ -1,11 +1,16 @@
 """Scripts with what tools/lint says of them, by hand: line, column, path and text."""
+import json
+from pathlib import Path
 from typing import List, Tuple, Union
+
+from reading.rules import MAX_VALUE_BYTES
 
 # A script up to its commands, which then have a line each, from the third on.
 HEAD = '{"n":3,"r":2,"w":2,"tokens":[["20"],["60"],["a0"]],\n"run":[\n'
 # A script up to a further member, which begins on the second line.
 ONE = '{"n":1,"r":1,"w":1,"derived":{"nodes":1,"per_node":1},\n'
-WORDS = "put, delete, get, down, up, fault, deliver, handoff, show"
+SCHEMA = json.loads((Path(__file__).resolve().parents[1] / "docs/script.schema.json").read_text())
+WORDS = ", ".join(SCHEMA["definitions"]["command"]["properties"]["do"]["enum"])
 TOP = "n, r, w, tokens, derived, limits, keys, settled, run"
 TEXT, SMALL = "a text in double quotes", "a whole number from 0 to 255"
 CONTEXT = "write what a get printed, as n0:1-3,5 n3:2 (E1 ContextSyntax)"
@@ -220,10 +225,10 @@ WARNINGS: List[Case] = [
         ["3:19: warning: run/0/key: this text has 0 bytes; write 1 to 64 (E2 KeySize)"],
     ),
     (
-        '{"do":"put","key":"a","valuehex":"' + "00" * 4097 + '"}',
+        '{"do":"put","key":"a","valuehex":"' + "00" * (MAX_VALUE_BYTES + 1) + '"}',
         [
-            "3:34: warning: run/0/valuehex: these are 4097 bytes; "
-            "write 4096 at most (E3 ValueSize)"
+            f"3:34: warning: run/0/valuehex: these are {MAX_VALUE_BYTES + 1} bytes; "
+            f"write {MAX_VALUE_BYTES} at most (E3 ValueSize)"
         ],
     ),
     (

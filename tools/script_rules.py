@@ -6,13 +6,10 @@ import re
 from typing import Dict, Iterator, List, Optional, Tuple
 
 from json_places import Lines, Number, Value, shown
+from reading.rules import AT_NODE, LIMITS, MAX_KEY_BYTES, MAX_NODE_TOKENS, MAX_NODES
 from script_schema import DIGITS, Finding, below, number_of
 
-MAX_NODES, MAX_NODE_TOKENS = 32, 64
-MAX_KEY_BYTES = 64
-LIMITS = {"counter": 1_000_000, "versions": 100_000, "steps": 1_000_000}
 TOKEN = re.compile(r"([0-9a-fA-F]{2}){1,16}")
-AT_NODE = ("down", "up", "fault", "deliver", "handoff", "show")
 
 
 def member(value: Optional[Value], name: str) -> Optional[Value]:

@@ -8,10 +8,12 @@ import re
 from typing import Dict, Iterator, Optional, Set
 
 from json_places import Value, shown
-from script_rules import MAX_KEY_BYTES, items, member, size_slip, small, text, whole
+from reading.rules import (
+    MAX_CONTEXT_DOTS, MAX_COUNTER, MAX_KEY_BYTES, MAX_VALUE_BYTES, OF_SESSION, WRITES,
+)
+from script_rules import items, member, size_slip, small, text, whole
 from script_schema import Finding
 
-MAX_VALUE_BYTES, MAX_CONTEXT_DOTS, MAX_COUNTER = 4096, 100_000, 1_000_000
 OF_NODE = re.compile(r"n(0|[1-9]|[12][0-9]|3[01]):([-,0-9]+)")
 RUN = re.compile(r"([1-9][0-9]{0,6})(?:-([1-9][0-9]{0,6}))?")
 
@@ -65,7 +67,7 @@ class Run:
             found = list(self.look_at(command, word, f"run/{number}"))
             yield from found
             key = text(member(command, "key"))
-            if word in ("put", "delete") and not found:
+            if word in WRITES and not found:
                 self.writes[key] = self.writes.get(key, 0) + 1
 
     def look_at(self, command: Value, word: str, path: str) -> Iterator[Finding]:
@@ -81,7 +83,7 @@ class Run:
         elif word in ("deliver", "handoff") and node in self.down:
             said = f"node {node} is down here; write an up before"
             yield warning(at, f"{path}/do", said, "E13 Down")
-        elif word in ("put", "delete", "get") and len(self.down) == self.nodes:
+        elif word in OF_SESSION and len(self.down) == self.nodes:
             said = "every node is down here; write an up before"
             yield warning(at, f"{path}/do", said, "E14 NoNode")
         yield from self.of_context(command, path)

@@ -1,23 +1,23 @@
 """Whether the lines of an output belong to a script, and follow one another."""
 from typing import Dict, Iterable, Optional, Tuple
 
-from .forms import (
-    COMMAND_FORMS, Acked, CommandForm, End, Form, Got, Held, Listed, Refused, Said, Settled, Shown,
-    Token, Written,
+from reading.lines import (
+    COMMAND_FORMS, STEP_FORMS, Acked, Cluster, CommandForm, End, Form, Got, Held, Issue, Listed,
+    Refused, Said, Settled, Shown, Token, Told, Written, places_in,
 )
-from .scripts import Command, Script
-from .texts import count_of, counted, shown
+from reading.rules import WRITES
+from reading.scripts import Command, Script
+from reading.texts import count_of, counted, named_to, shown
+
+from .steps import OfStep, Steps
 
 
 def nodes_in(form: Form) -> Iterable[int]:
     """Returns the nodes that the line names as holders and homes, or on the ring."""
-    places = [answer.place for answer in getattr(form, "answers", ())]
-    places += list(getattr(form, "places", ()))
-    places += [form.place] if isinstance(form, Held) else []
-    yield from (node for place in places for node in (place.holder, place.home))
+    yield from (node for place in places_in(form) for node in place)
     if isinstance(form, Listed):
         yield from form.nodes
-    if isinstance(form, Token):
+    if isinstance(form, (Token, Issue)):
         yield form.node
 
 
@@ -26,12 +26,13 @@ class Belonging:
 
     def __init__(self, script: Script) -> None:
         self.script = script
+        self.steps = Steps(script)
         self.last = 0
         self.is_whole = True
-        self.is_audit = self.is_over = False
+        self.is_begun = self.is_audit = self.is_over = False
         self.held = self.acked = self.gets = 0
         self.makers: Dict[Tuple[bytes, str], int] = {}
-        writes = (it for it in script.commands if it and it.word in ("put", "delete"))
+        writes = (it for it in script.commands if it and it.word in WRITES)
         self.keys = {it.key for it in writes}
 
     def fault(self, form: Form) -> Optional[str]:
@@ -45,6 +46,11 @@ class Belonging:
             fault = None if form.key in self.script.keys else "the script lists no such key"
         elif self.is_over:
             fault = "it comes behind the end"
+        elif isinstance(form, (*STEP_FORMS, Told)):
+            fault = self.fault_of_step(form)
+        elif isinstance(form, Cluster):
+            fault = self.steps.fault_of_cluster(form)
+            fault = "it is not the first line" if self.is_begun else fault
         else:
             fault = self.fault_of_audit(form)
         node = max(nodes_in(form), default=0)
@@ -56,6 +62,8 @@ class Belonging:
         """Returns what is missing before the line, or None where nothing is."""
         if isinstance(form, COMMAND_FORMS):
             return self.missing(form.number - 1)
+        if isinstance(form, STEP_FORMS):
+            return self.steps.gap(form)
         if isinstance(form, (Held, Acked, Settled, End)) and not self.is_audit:
             missing = self.missing(len(self.script.commands))
             if missing:
@@ -66,11 +74,13 @@ class Belonging:
             ("held", self.held, form.held),
             ("acked", self.acked, form.acked),
             ("gets", self.gets, form.gets),
+            ("steps", self.steps.last or form.steps, form.steps),
         ) if told != count]
         return f"the lines before it have {', '.join(wrong)}" if wrong else None
 
     def note(self, form: Form) -> None:
         """Notes a line that belongs to the script."""
+        self.is_begun = True
         self.is_whole = self.is_whole and self.gap(form) is None
         if isinstance(form, COMMAND_FORMS):
             self.last = form.number
@@ -79,13 +89,15 @@ class Belonging:
             self.makers[self.script.command(form.number).key, form.dot] = form.number
         if isinstance(form, Held):
             self.held += count_of(form.dots)
+        if isinstance(form, (*STEP_FORMS, Told)):
+            self.steps.note(form, self.last)
         self.acked += isinstance(form, Acked)
         self.is_audit = self.is_audit or isinstance(form, (Held, Acked, Settled, End))
         self.is_over = self.is_over or isinstance(form, End)
 
     def skip(self, form: Optional[Form]) -> None:
         """Passes over a line that does not belong; the commands behind its own are awaited next."""
-        self.is_whole = False
+        self.is_begun, self.is_whole = True, False
         if isinstance(form, COMMAND_FORMS):
             command = self.script.command(form.number)
             is_its_own = command is not None and command.word == form.word
@@ -95,7 +107,7 @@ class Belonging:
         """Returns which commands up to this one no line told."""
         if before <= self.last:
             return None
-        return f"no line before it tells {commands_named(self.last + 1, before)}"
+        return f"no line before it tells {named_to('command', self.last + 1, before)}"
 
     def fault_of_number(self, form: CommandForm, command: Optional[Command]) -> Optional[str]:
         count = counted(len(self.script.commands), "command")
@@ -116,6 +128,12 @@ class Belonging:
                 return f"the value of {dot} is not that of its put"
         return None
 
+    def fault_of_step(self, form: OfStep) -> Optional[str]:
+        if self.is_audit:
+            return "a step comes behind the audit"
+        made = self.makers.get((getattr(form, "key", b""), getattr(form, "dot", "")))
+        return self.steps.fault(form, self.last, made)
+
     def fault_of_said(self, form: Said) -> Optional[str]:
         if form.refusal is None or form.refusal.number not in (17, 18):
             return None
@@ -130,8 +148,3 @@ class Belonging:
             return None
         is_made = (form.key, form.dot) in self.makers
         return None if is_made else f"no line before it made {form.dot} of {shown(form.key)}"
-
-
-def commands_named(first: int, last: int) -> str:
-    """Returns the commands from the first to the last, in words."""
-    return f"command {first}" if first == last else f"commands {first} to {last}"

@@ -1,14 +1,16 @@
 """Each line as a JSON object, by docs/FORMATS.md."""
 from typing import Any, Dict, Iterable, List, Optional, Sequence
 
-from .forms import (
-    COMMAND_FORMS, Acked, Answer, Delivered, End, Got, Held, Passed, Place, Refusal,
-    Refused, Said, Settled, Shown, Token, Written,
+from reading.lines import (
+    COMMAND_FORMS, STEP_FORMS, Ack, Acked, Answer, Cluster, Delivered, End, Form, Got, Held, Issue,
+    Passed, Place, Refusal, Refused, Said, Settled, Shown, StepForm, Token, Told, Written,
 )
+from reading.rules import AT_NODE, OF_KEY, OF_SESSION, WRITES
+from reading.scripts import Command
+from reading.texts import count_of, text_of
+
 from .refusals import meaning_of
 from .runs import Line, Run
-from .scripts import Command
-from .texts import count_of, text_of
 from .turnouts import turnout_of
 from .words import say, wanted_by
 
@@ -55,13 +57,13 @@ def refusal_in(refusal: Optional[Refusal], run: Run) -> Object:
 def command_in(command: Command) -> Object:
     """Returns what the script has of the command."""
     found: Object = {"do": command.word}
-    if command.word in ("put", "delete", "get", "show"):
+    if command.word in OF_KEY:
         found.update(bytes_in("key", command.key))
-    if command.word in ("put", "delete", "get"):
+    if command.word in OF_SESSION:
         found["session"] = command.session
-    else:
+    if command.word in AT_NODE:
         found["node"] = command.node
-    if command.word in ("put", "delete"):
+    if command.word in WRITES:
         found.update({**bytes_in("value", command.value), "follows": command.context})
     if command.word == "fault":
         found["mode"] = command.mode
@@ -125,6 +127,33 @@ def audit_in(line: Line, run: Run) -> Object:
     return {"kind": "key", **bytes_in("key", form.key), "position": form.position, **nodes}
 
 
+def step_in(form: StepForm, number: int) -> Object:
+    """Returns a step, of the command of this number."""
+    word = type(form).__name__.lower()
+    told = {"kind": "step", "number": form.number, "command": number, "step": word}
+    if isinstance(form, Issue):
+        made = {"dot": form.dot, "follows": form.past, **bytes_in("value", form.value)}
+        return {**told, "node": form.node, **bytes_in("key", form.key), **made}
+    if isinstance(form, Ack):
+        acked = {"dot": form.dot, "wanted": form.w, "session": form.session}
+        return {**told, **bytes_in("key", form.key), **acked}
+    place = {"holder": form.place.holder, "home": form.place.home}
+    dots = {name: getattr(form, name) for name in ("dots", "dot") if hasattr(form, name)}
+    return {**told, **place, **bytes_in("key", form.key), **dots}
+
+
+def below_in(form: Form, number: int) -> Optional[Object]:
+    """Returns a line that only an output with steps has, or None where it is another."""
+    if isinstance(form, STEP_FORMS):
+        return step_in(form, number)
+    if isinstance(form, Told):
+        numbers = {"numbers": form.numbers, "session": form.session}
+        return {"kind": "told", "command": number, **numbers}
+    if isinstance(form, Cluster):
+        return {"kind": "cluster", "n": form.n, "r": form.r, "w": form.w}
+    return None
+
+
 def object_of(line: Line, run: Run) -> Object:
     """Returns a line as a JSON object."""
     if line.form is None:
@@ -134,7 +163,7 @@ def object_of(line: Line, run: Run) -> Object:
         is_ok = not isinstance(line.form, Refused)
         told = {**numbered, "ok": is_ok, **outcome_in(line, run)}
     else:
-        told = audit_in(line, run)
+        told = below_in(line.form, line.number) or audit_in(line, run)
     return {"line": line.at, **told, "words": " ".join(say(line, run))}
 
 

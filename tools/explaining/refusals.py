@@ -3,7 +3,7 @@ from dataclasses import dataclass
 from pathlib import Path
 from typing import Dict, List, Optional
 
-from .forms import Refusal
+from reading.lines import Refusal
 
 PAGE = Path(__file__).resolve().parent.parent.parent / "docs/REFUSALS.md"
 COLUMNS = ["Refusal", "Cause", "What stands after", "What to do", "Text"]

@@ -2,11 +2,16 @@
 from dataclasses import dataclass
 from typing import Dict, List, Optional, Type, TypeVar
 
-from .belonging import Belonging, commands_named
-from .forms import COMMAND_FORMS, End, Form, Held, Listed, Refused, Said, Token, read_line
+from reading.lines import (
+    COMMAND_FORMS, STEP_FORMS, Cluster, End, Form, Held, Listed, Refused, Said, Token, Told,
+    read_line,
+)
+from reading.scripts import Command, Script
+from reading.texts import named_to
+
+from .belonging import Belonging
 from .holdings import Holdings
 from .refusals import Meaning, meaning_of, name_of
-from .scripts import Command, Script
 
 AnyForm = TypeVar("AnyForm")
 NOTHING = "Where the script was refused, 2>&1 brings what standard error says of it."
@@ -14,12 +19,16 @@ NOTHING = "Where the script was refused, 2>&1 brings what standard error says of
 
 @dataclass
 class Line:
-    """A line of the output: its form, its command, and the homes that a get mended, where known."""
+    """A line of the output: its form, its command, and the homes that a get mended, where known.
+
+    A line of a step has the command that it stands below.
+    """
 
     at: int
     text: str
     form: Optional[Form] = None
     command: Optional[Command] = None
+    number: int = 0
     mended: Optional[List[int]] = None
     complaint: Optional[str] = None
 
@@ -54,8 +63,10 @@ class Run:
             return Line(at, text, complaint=fault)
         line = Line(at, text, form, complaint=self.belonging.gap(form))
         self.belonging.note(form)
+        if isinstance(form, (*COMMAND_FORMS, *STEP_FORMS, Told)):
+            line.number = self.belonging.last
+            line.command = self.script.command(line.number)
         if isinstance(form, COMMAND_FORMS):
-            line.command = self.script.command(form.number)
             self.holdings.is_sure = self.holdings.is_sure and self.belonging.is_whole
             line.mended = self.holdings.follow(form, line.command)
         return line
@@ -70,10 +81,11 @@ class Run:
 
     def rest(self) -> Optional[str]:
         """Returns what the output does not tell, where it ends before the audit does."""
-        if self.forms(End) or self.forms(Said) or self.forms(Token) or self.forms(Listed):
+        is_ring = self.forms(Listed) or (self.forms(Token) and not self.forms(Cluster))
+        if self.forms(End) or self.forms(Said) or is_ring:
             return None
         last, count = self.belonging.last, len(self.script.commands)
-        untold = [commands_named(last + 1, count)] if last < count else []
+        untold = [named_to("command", last + 1, count)] if last < count else []
         end = "the end of the audit" if self.belonging.is_audit else "the audit"
         said = f"The output ends here, before {' and '.join([*untold, end])}."
         return said if self.lines else f"{said} {NOTHING}"

@@ -2,9 +2,10 @@
 from collections import defaultdict
 from typing import Dict, List, Sequence, Tuple
 
-from .forms import Acked, End, Held, Settled
+from reading.lines import Acked, End, Held, Settled
+from reading.texts import listed, shown
+
 from .runs import Run
-from .texts import listed, shown
 from .words import covered_homes
 
 

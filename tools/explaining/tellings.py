@@ -3,11 +3,12 @@ import json
 from dataclasses import dataclass
 from typing import Dict, List
 
-from .forms import COMMAND_FORMS, Acked, Held, Settled
+from reading.lines import COMMAND_FORMS, STEP_FORMS, Acked, Cluster, Held, Settled, Token, Told
+from reading.scripts import read_script
+
 from .objects import objects_of
 from .refusals import Meaning
 from .runs import Run
-from .scripts import read_script
 from .tables import audit_of
 from .words import say
 
@@ -26,10 +27,15 @@ class Telling:
 def text_of(run: Run) -> List[str]:
     """Returns the lines of the text that tells the run."""
     said, after = [], []
+    has_steps = bool(run.forms(Cluster))
     for line in run.lines:
         if isinstance(line.form, COMMAND_FORMS):
             said.append(f"{line.form.number}  {line.command}")
             said += [f"   {sentence}" for sentence in say(line, run)]
+        elif isinstance(line.form, (*STEP_FORMS, Told)):
+            said += [f"   {sentence}" for sentence in say(line, run)]
+        elif isinstance(line.form, Cluster) or (has_steps and isinstance(line.form, Token)):
+            said += say(line, run)
         elif line.form is not None and not isinstance(line.form, IN_TABLES):
             after += say(line, run)
     rest = run.rest()

@@ -5,6 +5,8 @@ All of it is by hand, from docs/FORMATS.md. What a refusal means is read from do
 import pathlib
 from typing import Any, Dict, List, Tuple
 
+from reading.rules import MAX_VALUE_BYTES
+
 PAGE = pathlib.Path(__file__).resolve().parent.parent.parent / "docs/REFUSALS.md"
 TOKENS = [["20"], ["60"], ["a0"], ["d0"], ["f0"]]
 HEAD = {"n": 3, "r": 2, "w": 2, "tokens": TOKENS}
@@ -207,7 +209,8 @@ PLAYED: List[Row] = [
         ["1 put E2 KeySize", "2 get E2 KeySize", "3 show E2 KeySize", NOTHING],
         [meant("E2 KeySize")] * 3,
     ),
-    ("E3", {}, [put("x" * 4097)], ["1 put E3 ValueSize", NOTHING], [meant("E3 ValueSize")]),
+    ("E3", {}, [put("x" * (MAX_VALUE_BYTES + 1))], ["1 put E3 ValueSize", NOTHING],
+     [meant("E3 ValueSize")]),
     (
         "E7", {"limits": {"counter": 1}}, [put("x"), put("y")],
         [PUT, "2 put E7 CounterFull", *held(*HOMES), ACKED, "end held 3 acked 1 gets 0 steps 5"],

@@ -2,8 +2,8 @@
 from dataclasses import dataclass, field
 from typing import List, Sequence
 
-from .forms import Answer, Place
-from .texts import named
+from reading.lines import Answer, Place
+from reading.texts import named
 
 
 @dataclass

@@ -1,22 +1,18 @@
 """What each line says, in sentences."""
 from typing import Callable, Dict, List, Optional, Sequence, Type
 
-from .forms import (
-    Acked, Answer, Delivered, Done, End, Got, Held, Listed, Passed, Refusal, Refused, Said,
-    Settled, Shown, Token, Written,
+from reading.lines import (
+    STEP_FORMS, Acked, Answer, Cluster, Delivered, Done, End, Got, Held, Listed, Passed, Refusal,
+    Refused, Said, Settled, Shown, Token, Told, Written,
 )
+from reading.rules import MODES
+from reading.texts import counted, listed, named, shown
+
 from .refusals import meaning_of, name_of
 from .runs import Line, Run
-from .texts import counted, listed, named, shown
+from .steps import say_cluster, say_step, say_told
 from .turnouts import is_own, say_turnout, turnout_at, turnout_of
 
-MODES = {
-    "none": "does what it is asked, and answers",
-    "mute": "does what it is asked, and no answer comes",
-    "late": "does what it is asked, and its answer follows behind all others",
-    "repeat": "does three times what it is asked, and its last answer counts",
-    "delay": "keeps what it is asked to store for a later deliver, and no answer comes",
-}
 MAY_HAVE = ", and may have it all the same"
 
 
@@ -94,7 +90,9 @@ def say_done(form: Done, line: Line, run: Run) -> List[str]:
         return [f"Node {node} is down: whoever asks it is told so."]
     if form.word == "up":
         return [f"Node {node} is up, with what it held before."]
-    return [f"From now on node {node} {MODES.get(line.command.mode, line.command.mode)}."]
+    mode = line.command.mode
+    does = MODES[mode].does if mode in MODES else mode
+    return [f"From now on node {node} {does}."]
 
 
 def say_delivered(form: Delivered, line: Line, run: Run) -> List[str]:
@@ -223,6 +221,9 @@ TELLERS: Dict[Type, Callable[..., List[str]]] = {
     Said: say_said,
     Token: say_token,
     Listed: say_listed,
+    Cluster: lambda form, line, run: [say_cluster(form)],
+    **dict.fromkeys(STEP_FORMS, lambda form, line, run: [say_step(form, line.command.word)]),
+    Told: lambda form, line, run: [say_told(form)],
 }
 
 

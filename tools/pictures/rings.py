@@ -4,10 +4,10 @@ import re
 from dataclasses import dataclass
 from typing import Any, Dict, List, Tuple
 
-from .scripts import BadInput, listed, member, text_bytes, whole
+from reading.rules import MAX_KEY_BYTES, MAX_NODE_TOKENS, MAX_NODES
+from reading.scripts import BadInput, listed, member, text, whole
 
 SPAN = 1 << 128
-MAX_NODES, MAX_TOKENS = 32, 64
 TOKEN = re.compile(r"(?:[0-9a-fA-F]{2}){1,16}")
 
 
@@ -58,11 +58,11 @@ def _given(script: Dict[str, Any]) -> List[List[int]]:
     lists = []
     for node, texts in enumerate(listed(script["tokens"], "`tokens`")):
         lists.append([])
-        for text in listed(texts, f"the list of tokens of node {node}"):
-            if not isinstance(text, str) or not TOKEN.fullmatch(text):
+        for token in listed(texts, f"the list of tokens of node {node}"):
+            if not isinstance(token, str) or not TOKEN.fullmatch(token):
                 raise BadInput(f"E17 ScriptSyntax: a token of node {node} is not 2 to 32"
                                " hexadecimal digits, even in number")
-            lists[-1].append(int(text.ljust(32, "0"), 16))
+            lists[-1].append(int(token.ljust(32, "0"), 16))
     return lists
 
 
@@ -77,8 +77,9 @@ def ring_of(script: Dict[str, Any]) -> Ring:
     if ("tokens" in script) == ("derived" in script):
         raise BadInput("E17 ScriptSyntax: exactly one of `tokens` and `derived` must be there")
     lists = _given(script) if "tokens" in script else _derived(script)
-    if len(lists) > MAX_NODES or any(len(tokens) > MAX_TOKENS for tokens in lists):
-        raise BadInput("E6 TooMany: a ring has at most 32 nodes, and 64 tokens of a node")
+    if len(lists) > MAX_NODES or any(len(tokens) > MAX_NODE_TOKENS for tokens in lists):
+        raise BadInput(f"E6 TooMany: a ring has at most {MAX_NODES} nodes, and {MAX_NODE_TOKENS}"
+                       " tokens of a node")
     for node, tokens in enumerate(lists or [[]]):
         if not tokens:
             raise BadInput(f"E5 NodeWithoutToken {node}")
@@ -92,10 +93,13 @@ def ring_of(script: Dict[str, Any]) -> Ring:
 def keys_of(script: Dict[str, Any], ring: Ring) -> List[Key]:
     """The keys that the script lists, each with its first n distinct nodes clockwise."""
     keys = []
-    for text in listed(script.get("keys", []), "`keys`"):
-        name = text_bytes(text, "a text of `keys`")
-        if not 1 <= len(name) <= 64:
-            raise BadInput("E17 ScriptSyntax: a key has 1 to 64 bytes")
+    for key in listed(script.get("keys", []), "`keys`"):
+        try:
+            name = text(key, "a text of `keys`").encode("utf-8")
+        except UnicodeEncodeError:
+            raise BadInput("E17 ScriptSyntax: a text of `keys` has half a surrogate pair") from None
+        if not 1 <= len(name) <= MAX_KEY_BYTES:
+            raise BadInput(f"E17 ScriptSyntax: a key has 1 to {MAX_KEY_BYTES} bytes")
         position = md5(name)
         keys.append(Key(name, position, tuple(ring.preference(position)[:script["n"]])))
     return keys

@@ -59,15 +59,15 @@ def row_of(event: Event) -> Row:
     row = Row(str(event.number), asked, came, bool(event.refusal))
     if event.answers:
         row.lines.append(Line(marks_of(event)))
-    for home, count, is_out in event.handed:
-        leaves = Mark(event.node, "handed" if count and is_out else "kept", home)
+    for home, count, is_out in event.followed.handed:
+        leaves = Mark(event.command.node, "handed" if count and is_out else "kept", home)
         takes = Mark(home, "stored" if count else "down", home)
-        row.lines.append(Line([leaves, takes], (event.node, home), bool(count)))
-    for holder, home in event.stored:
+        row.lines.append(Line([leaves, takes], (event.command.node, home), bool(count)))
+    for holder, home in event.followed.stored:
         kind = "stored" if holder == home else "stood in"
         row.lines.append(Line([Mark(holder, kind, home)]))
-    if event.do == "show":
-        row.lines.append(Line([Mark(event.node, "shown", event.node)]))
+    if event.command.word == "show":
+        row.lines.append(Line([Mark(event.command.node, "shown", event.command.node)]))
     return row
 
 
@@ -135,13 +135,15 @@ class Drawing:
         top, bottom = self.tops[0], self.tops[-1]
         for lane in range(self.run.nodes):
             changes = [(event, y) for event, y in zip(self.run.events, middles)
-                       if event.node == lane and not event.refusal]
-            downs = [(y, event.do == "down") for event, y in changes if event.do in ("down", "up")]
+                       if event.command.node == lane and not event.refusal]
+            downs = [(y, event.command.word == "down") for event, y in changes
+                     if event.command.word in ("down", "up")]
             for begin, end in spans(downs, bottom):
                 width = self.pitch * 0.8
                 self.picture.add("rect", x=self.x(lane) - width / 2, y=begin, width=width,
                                  height=end - begin, rx=3, fill=OUTAGE)
-            faults = [(y, event.mode != "none") for event, y in changes if event.do == "fault"]
+            faults = [(y, event.command.mode != "none") for event, y in changes
+                      if event.command.word == "fault"]
             solid = top
             for begin, end in spans(faults, bottom):
                 self.lane(lane, solid, begin)
@@ -214,7 +216,7 @@ class Drawing:
         entries += [("first", "black ring: the coordinator")] if firsts else []
         is_bowed = self.pitch >= BOWED and used & {"stood in", "answered for"}
         entries += [("bow", "from a home to its stand-in")] if is_bowed else []
-        dos = {event.do for event in self.run.events}
+        dos = {event.command.word for event in self.run.events}
         entries += [("outage", "grey: the node is down")] if "down" in dos else []
         entries += [("mode", "dashed: the node is in a mode")] if "fault" in dos else []
         if entries:

@@ -1,11 +1,8 @@
-"""Scripts as the pictures need them, read from a file or the standard input."""
-import json
+"""What the pictures are drawn of, read from a file or the standard input."""
 import sys
-from typing import Any, Dict, List
+from typing import Any, Dict
 
-
-class BadInput(Exception):
-    """What was given is nothing to draw a picture of; the text says why."""
+from reading.scripts import BadInput, read_object, whole
 
 
 def bytes_of(path: str) -> bytes:
@@ -19,63 +16,21 @@ def bytes_of(path: str) -> bytes:
         raise BadInput(f"{path}: {getattr(error, 'strerror', None) or error}") from None
 
 
-def text_of(data: bytes, name: str) -> str:
-    """The bytes as a text of UTF-8."""
+def read_output(path: str) -> str:
+    """The text of an output."""
     try:
-        return data.decode("utf-8")
+        return bytes_of(path).decode("utf-8")
     except UnicodeDecodeError:
-        raise BadInput(f"{name}: it is no UTF-8") from None
-
-
-def _whole(digits: str) -> Any:
-    # The reader takes no sign: what has one is no whole number here either.
-    return float(digits) if digits.startswith("-") else int(digits)
-
-
-def _no_constant(name: str) -> Any:
-    raise ValueError(name)
+        raise BadInput(f"{path}: it is no UTF-8") from None
 
 
 def read_script(path: str) -> Dict[str, Any]:
     """The script of a file, with `n`, `r` and `w` judged, and the rest when it is asked for."""
+    data = bytes_of(path)
     try:
-        text = text_of(bytes_of(path), path)
-        script = json.loads(text, parse_int=_whole, parse_constant=_no_constant)
-    except (ValueError, RecursionError):
-        raise BadInput(f"{path}: E17 ScriptSyntax 0: it is no JSON") from None
-    if not isinstance(script, dict):
-        raise BadInput(f"{path}: E17 ScriptSyntax 0: it is no object")
+        script = read_object(data)
+    except BadInput as error:
+        raise BadInput(f"{path}: {error}") from None
     for name in ("n", "r", "w"):
         whole(script.get(name), f"`{name}`")
     return script
-
-
-def whole(value: Any, name: str, most: int = 255) -> int:
-    """A whole number from 0 to the most, or a refusal that has its name."""
-    if not isinstance(value, int) or isinstance(value, bool) or value > most:
-        raise BadInput(f"E17 ScriptSyntax: {name} is no whole number from 0 to {most}")
-    return value
-
-
-def text_bytes(value: Any, name: str) -> bytes:
-    """The bytes of a text, or a refusal that has its name."""
-    if not isinstance(value, str):
-        raise BadInput(f"E17 ScriptSyntax: {name} is no text")
-    try:
-        return value.encode("utf-8")
-    except UnicodeEncodeError:
-        raise BadInput(f"E17 ScriptSyntax: {name} has half a surrogate pair") from None
-
-
-def listed(value: Any, name: str) -> List[Any]:
-    """A list, or a refusal that has its name."""
-    if not isinstance(value, list):
-        raise BadInput(f"E17 ScriptSyntax: {name} is no list")
-    return value
-
-
-def member(value: Any, name: str, of: str) -> Any:
-    """The member of an object, or a refusal that has its name."""
-    if not isinstance(value, dict) or name not in value:
-        raise BadInput(f"E17 ScriptSyntax: {of} has no `{name}`")
-    return value[name]

@@ -1,7 +1,8 @@
 """The forms of the lines that `dynamo run` and `dynamo ring` print, by docs/FORMATS.md."""
 import re
-from dataclasses import dataclass
-from typing import Callable, List, Match, Optional, Tuple, Union
+from typing import Callable, Iterator, List, Match, NamedTuple, Optional, Tuple, Union
+
+from .rules import COMMANDS, WRITES
 
 COUNT = r"(?:0|[1-9][0-9]{0,38})"
 NODE = r"(?:[12]?[0-9]|3[01])"
@@ -15,26 +16,24 @@ ANSWER = f"{PLACE}=(?:stored|rows|down|noanswer|E{COUNT})"
 KEY = "(?:[0-9a-f]{2})+"
 VALUE = f"{DOT}=(?:[0-9a-f]{{2}})*"
 REFUSAL = rf"(E({COUNT}) ([A-Za-z]+)(?: (?!after |answers )([^ ]+))?)"
+WROTE, OTHERS = "|".join(WRITES), "|".join(word for word in COMMANDS if word not in WRITES)
 
 
-@dataclass(frozen=True)
-class Place:
+class Place(NamedTuple):
     """A holder, and the home that it holds for."""
 
     holder: int
     home: int
 
 
-@dataclass(frozen=True)
-class Answer:
+class Answer(NamedTuple):
     """An answer that was read: of whom, for which home, and its word."""
 
     place: Place
     word: str
 
 
-@dataclass(frozen=True)
-class Refusal:
+class Refusal(NamedTuple):
     """A refusal: its number, its name, and what its text has behind them."""
 
     number: int
@@ -43,8 +42,7 @@ class Refusal:
     text: str
 
 
-@dataclass(frozen=True)
-class Written:
+class Written(NamedTuple):
     """A put or a delete was acknowledged."""
 
     number: int
@@ -53,8 +51,7 @@ class Written:
     answers: Tuple[Answer, ...]
 
 
-@dataclass(frozen=True)
-class Got:
+class Got(NamedTuple):
     """A get was answered."""
 
     number: int
@@ -64,16 +61,14 @@ class Got:
     values: Tuple[Tuple[str, bytes], ...]
 
 
-@dataclass(frozen=True)
-class Done:
+class Done(NamedTuple):
     """A node went down or up, or got a mode."""
 
     number: int
     word: str
 
 
-@dataclass(frozen=True)
-class Delivered:
+class Delivered(NamedTuple):
     """So many kept messages were stored."""
 
     number: int
@@ -81,8 +76,7 @@ class Delivered:
     stored: int
 
 
-@dataclass(frozen=True)
-class Passed:
+class Passed(NamedTuple):
     """A pass over the hints of a node."""
 
     number: int
@@ -92,8 +86,7 @@ class Passed:
     released: int
 
 
-@dataclass(frozen=True)
-class Shown:
+class Shown(NamedTuple):
     """What a node holds of a key, for itself and for other homes."""
 
     number: int
@@ -103,8 +96,7 @@ class Shown:
     hints: Tuple[Tuple[int, str], ...]
 
 
-@dataclass(frozen=True)
-class Refused:
+class Refused(NamedTuple):
     """A command was refused; a put may have made its version, and may tell its answers."""
 
     number: int
@@ -114,8 +106,7 @@ class Refused:
     answers: Tuple[Answer, ...]
 
 
-@dataclass(frozen=True)
-class Held:
+class Held(NamedTuple):
     """What a place holds of a key."""
 
     place: Place
@@ -123,8 +114,7 @@ class Held:
     dots: str
 
 
-@dataclass(frozen=True)
-class Acked:
+class Acked(NamedTuple):
     """An acknowledged put, and the places that cover it."""
 
     key: bytes
@@ -133,15 +123,13 @@ class Acked:
     places: Tuple[Place, ...]
 
 
-@dataclass(frozen=True)
-class Settled:
+class Settled(NamedTuple):
     """A settled key."""
 
     key: bytes
 
 
-@dataclass(frozen=True)
-class End:
+class End(NamedTuple):
     """The sums of a run."""
 
     held: int
@@ -150,24 +138,21 @@ class End:
     steps: int
 
 
-@dataclass(frozen=True)
-class Said:
+class Said(NamedTuple):
     """A line of standard error, and the refusal that it tells."""
 
     text: str
     refusal: Optional[Refusal]
 
 
-@dataclass(frozen=True)
-class Token:
+class Token(NamedTuple):
     """A token of the ring."""
 
     position: str
     node: int
 
 
-@dataclass(frozen=True)
-class Listed:
+class Listed(NamedTuple):
     """The preference list of a key."""
 
     key: bytes
@@ -175,9 +160,82 @@ class Listed:
     nodes: Tuple[int, ...]
 
 
+class Cluster(NamedTuple):
+    """The first line of an output with steps: the script's numbers."""
+
+    n: int
+    r: int
+    w: int
+
+
+class Issue(NamedTuple):
+    """A node made a version; its past is a context text, and a deletion has no value."""
+
+    number: int
+    node: int
+    key: bytes
+    dot: str
+    past: str
+    value: Optional[bytes]
+
+
+class Hold(NamedTuple):
+    """Versions came to a place, and were merged with its row."""
+
+    number: int
+    place: Place
+    key: bytes
+    dots: str
+
+
+class Release(NamedTuple):
+    """A dot left a hint."""
+
+    number: int
+    place: Place
+    key: bytes
+    dot: str
+
+
+class Fetch(NamedTuple):
+    """The row at a place was read."""
+
+    number: int
+    place: Place
+    key: bytes
+
+
+class Ack(NamedTuple):
+    """A session was told that a put has its homes."""
+
+    number: int
+    key: bytes
+    dot: str
+    w: int
+    session: int
+
+
+class Told(NamedTuple):
+    """These fetches, by their numbers, are those that an answered get used."""
+
+    numbers: Tuple[int, ...]
+    session: int
+
+
+StepForm = Union[Issue, Hold, Release, Fetch, Ack]
 CommandForm = Union[Written, Got, Done, Delivered, Passed, Shown, Refused]
-Form = Union[CommandForm, Held, Acked, Settled, End, Said, Token, Listed]
+Form = Union[
+    CommandForm, StepForm, Cluster, Told, Held, Acked, Settled, End, Said, Token, Listed,
+]
 COMMAND_FORMS = (Written, Got, Done, Delivered, Passed, Shown, Refused)
+STEP_FORMS = (Issue, Hold, Release, Fetch, Ack)
+
+
+def places_in(form: Form) -> Iterator[Place]:
+    """Returns the places that the line names."""
+    yield from (answer.place for answer in getattr(form, "answers", ()))
+    yield from getattr(form, "places", ())
+    yield from [form.place] if isinstance(form, (Held, Hold, Release, Fetch)) else []
 
 
 def place_of(text: str) -> Place:
@@ -235,9 +293,20 @@ def said(match: Match[str]) -> Said:
     return Said(match[1], refusal_of(told, 1) if told else None)
 
 
+def issue(match: Match[str]) -> Issue:
+    value = None if match[6] is None else bytes.fromhex(match[6])
+    return Issue(int(match[1]), int(match[2]), bytes.fromhex(match[3]), match[4], match[5], value)
+
+
+def at_of(match: Match[str]) -> Tuple[int, Place, bytes]:
+    """Returns a step's number, its place and its key."""
+    return int(match[1]), place_of(match[2]), bytes.fromhex(match[3])
+
+
+STEP, AT = f"step ({COUNT})", f"({PLACE}) ({KEY})"
 FORMS: List[Tuple[str, Callable[[Match[str]], Form]]] = [
     (
-        f"({COUNT}) (put|delete) ok ({DOT}) answers((?: {ANSWER})+)",
+        f"({COUNT}) ({WROTE}) ok ({DOT}) answers((?: {ANSWER})+)",
         lambda m: Written(int(m[1]), m[2], m[3], answers_of(m[4])),
     ),
     (
@@ -255,7 +324,7 @@ FORMS: List[Tuple[str, Callable[[Match[str]], Form]]] = [
         lambda m: Shown(int(m[1]), "show", int(m[2]), m[3], hints_of(m[4])),
     ),
     (
-        f"({COUNT}) (put|delete) E15 NotEnough ({DOT}) answers((?: {ANSWER})+)",
+        f"({COUNT}) ({WROTE}) E15 NotEnough ({DOT}) answers((?: {ANSWER})+)",
         lambda m: lacking(m[1], m[2], m[3], m[4]),
     ),
     (
@@ -263,11 +332,11 @@ FORMS: List[Tuple[str, Callable[[Match[str]], Form]]] = [
         lambda m: lacking(m[1], "get", None, m[2]),
     ),
     (
-        f"({COUNT}) (put|delete) (?!E15 ){REFUSAL}(?: after ({DOT}))?",
+        f"({COUNT}) ({WROTE}) (?!E15 ){REFUSAL}(?: after ({DOT}))?",
         lambda m: Refused(int(m[1]), m[2], refusal_of(m, 3), m[7], ()),
     ),
     (
-        f"({COUNT}) (get|down|up|fault|deliver|handoff|show) (?!E15 ){REFUSAL}",
+        f"({COUNT}) ({OTHERS}) (?!E15 ){REFUSAL}",
         lambda m: Refused(int(m[1]), m[2], refusal_of(m, 3), None, ()),
     ),
     (f"held ({PLACE}) ({KEY}) ({RUNS}(?: {RUNS})*)", held),
@@ -279,6 +348,23 @@ FORMS: List[Tuple[str, Callable[[Match[str]], Form]]] = [
     ),
     ("dynamo: (.+)", said),
     (f"token ([0-9a-f]{{32}}) ({NODE})", lambda m: Token(m[1], int(m[2]))),
+    (f"cluster n ({COUNT}) r ({COUNT}) w ({COUNT})", lambda m: Cluster(*map(int, m.groups()))),
+    (
+        f"{STEP} issue ({NODE}) ({KEY}) ({DOT}) behind ({CONTEXT}) "
+        "(?:deleted|value((?: (?:[0-9a-f]{2})+)?))",
+        issue,
+    ),
+    (f"{STEP} hold {AT} ({CONTEXT})", lambda m: Hold(*at_of(m), m[4])),
+    (f"{STEP} release {AT} ({DOT})", lambda m: Release(*at_of(m), m[4])),
+    (f"{STEP} fetch {AT}", lambda m: Fetch(*at_of(m))),
+    (
+        f"{STEP} ack ({KEY}) ({DOT}) w ({COUNT}) session ({NODE})",
+        lambda m: Ack(int(m[1]), bytes.fromhex(m[2]), m[3], int(m[4]), int(m[5])),
+    ),
+    (
+        f"told ({COUNT}(?: {COUNT})*) session ({NODE})",
+        lambda m: Told(tuple(int(number) for number in m[1].split()), int(m[2])),
+    ),
     (f"key ({KEY}) position ([0-9a-f]{{32}}) nodes((?: {NODE})+)", listed),
 ]
 COMPILED = [(re.compile(pattern), make) for pattern, make in FORMS]

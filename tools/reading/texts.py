@@ -42,6 +42,11 @@ def named(noun: str, numbers: Sequence[int]) -> str:
     return f"{noun}{'' if len(numbers) == 1 else 's'} {listed(numbers)}"
 
 
+def named_to(noun: str, first: int, last: int) -> str:
+    """Returns the noun with the numbers from the first to the last: command 2, steps 3 to 5."""
+    return f"{noun} {first}" if first == last else f"{noun}s {first} to {last}"
+
+
 def runs_of(context: str) -> List[Run]:
     """Returns the runs of a context text: each a node, its first counter and its last."""
     found = []

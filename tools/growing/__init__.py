@@ -1,0 +1,1 @@
+"""The parts of tools/growths: it runs a program with a growth refused, and says what must come."""
