@@ -1,8 +1,9 @@
 //! The custody book: the log of all steps, and what it says of each key, kept as indexes.
 use crate::contexts::{Context, Dot, MAX_COUNTER};
 use crate::faults::Fault;
-use crate::log::{Log, Step};
+use crate::log::Log;
 use crate::rows::{Key, Parts, Row, Value, Version};
+use std::borrow::Cow;
 use std::collections::HashMap;
 
 pub const MAX_VERSIONS: usize = 100_000;
@@ -44,6 +45,8 @@ impl Options {
 /// What is known of a key.
 #[derive(Default)]
 struct Part {
+    /// The key's number in the log.
+    number: u32,
     /// The versions of each node, in the order of their counters, of which none is left out.
     made: Vec<Vec<Version>>,
     held: Vec<(Place, Row)>,
@@ -98,7 +101,7 @@ impl Book {
     pub fn new(options: Options) -> Book {
         Book {
             options,
-            log: Log::new(),
+            log: Log::default(),
             versions: 0,
             keys: HashMap::new(),
         }
@@ -179,9 +182,23 @@ impl Book {
     fn part(&mut self, key: &Key) -> &mut Part {
         // Two look-ups where the key is new, so that it is copied only then.
         if !self.keys.contains_key(key) {
-            self.keys.insert(key.clone(), Part::default());
+            let number = self.log.number_of(key);
+            let part = Part {
+                number,
+                ..Part::default()
+            };
+            self.keys.insert(key.clone(), part);
         }
         self.keys.get_mut(key).expect("it was made")
+    }
+
+    /// The number of the key in the log; the plain form has none.
+    fn number(&mut self, key: &Key) -> u32 {
+        if cfg!(shared) {
+            self.part(key).number
+        } else {
+            0
+        }
     }
 
     /// The issue of a planned version, and the hold of it alone.
@@ -192,17 +209,9 @@ impl Book {
         let part = self.part(key);
         part.add(version.clone());
         part.hold(place, &row);
-        self.log.add(|| Step::Issue {
-            node,
-            key: key.clone(),
-            context: version.past.clone(),
-            value: version.value.clone(),
-        });
-        self.log.add(|| Step::Hold {
-            place,
-            key: key.clone(),
-            row,
-        });
+        let number = part.number;
+        self.log.issue(number, key, version);
+        self.log.hold(number, place, key, Cow::Owned(row));
         self.versions += 1;
     }
 
@@ -217,27 +226,23 @@ impl Book {
             return Err(Fault::NotIssued(version.dot));
         }
         self.need(1)?;
-        self.part(key).hold(place, row);
-        self.log.add(|| Step::Hold {
-            place,
-            key: key.clone(),
-            row: row.clone(),
-        });
+        let part = self.part(key);
+        part.hold(place, row);
+        let number = part.number;
+        self.log.hold(number, place, key, Cow::Borrowed(row));
         Ok(())
     }
 
     /// The dots are no longer held at the place, all or none.
     pub fn release(&mut self, place: Place, key: &Key, dots: &[Dot]) -> Result<(), Fault> {
         self.need(dots.len())?;
-        for dot in dots {
-            self.log.add(|| Step::Release {
-                place,
-                key: key.clone(),
-                dot: *dot,
-            });
-        }
-        if let Some((_, row)) = self.part(key).held.iter_mut().find(|it| it.0 == place) {
+        let part = self.part(key);
+        if let Some((_, row)) = part.held.iter_mut().find(|it| it.0 == place) {
             dots.iter().for_each(|dot| row.remove(*dot));
+        }
+        let number = part.number;
+        for dot in dots {
+            self.log.release(number, place, key, *dot);
         }
         Ok(())
     }
@@ -245,17 +250,16 @@ impl Book {
     /// The number of the step at which the place was looked at.
     pub fn fetch(&mut self, place: Place, key: &Key) -> Result<usize, Fault> {
         self.need(1)?;
-        self.log.add(|| Step::Fetch {
-            place,
-            key: key.clone(),
-        });
+        let number = self.number(key);
+        self.log.fetch(number, place, key);
         Ok(self.log.len())
     }
 
     /// The number of the step at which the put was acknowledged.
     pub fn ack(&mut self, key: &Key, dot: Dot, w: u8) -> Result<usize, Fault> {
         self.need(1)?;
-        self.log.add_ack(key.clone(), dot, w);
+        let number = self.number(key);
+        self.log.ack(number, key, dot, w);
         Ok(self.log.len())
     }
 
