@@ -1,5 +1,5 @@
 ghost use Rattle.std.specs.Prelude.{◌≡◌, ◌<◌, ◌≤◌, ◌==◌, true, false, ◌⊎◌, ◌↔◌, ℕ, List};
-ghost use Rattle.std.specs.Prelude.{length, get_or, IfOk, IfErr, IfSome, IsErrOf, IsOkUnless};
+ghost use Rattle.std.specs.Prelude.{length, get_or, IfOk, IfErr, IfSome, IsErrOf, IsOk, IsOkUnless};
 ghost use Rattle.std.specs.Prelude.{◌/◌, ◌^◌, IsSome};
 ghost use Rattle.std.specs.Cmp.{partial_order_from_own_ties};
 ghost use Rattle.std.specs.Cmp.Lexicographic.{pointwise, slice_cmp};
@@ -77,13 +77,15 @@ impl Model for Key {
 }
 
 impl Key {
-    /// A key of these bytes; KeySize where they are none or more than 64.
+    /// A key of these bytes; KeySize where they are none or more than 64. Up to fifteen take no
+    /// memory.
     pub fn new(alloc: Global, bytes: &[u8]) -> Result<Key, Fault>
         ensures size { IsErrOf result Fault.KeySize ↔
             ((length bytes.now ≡ 0) ⊎ (MAX_KEY_BYTES < length bytes.now)) }
         ensures value { IfOk result (λ key. key ≡ bytes.now) }
         ensures errors { IfErr result (λ fault.
             (fault ≡ Fault.KeySize) ⊎ (fault ≡ Fault.OutOfMemory)) }
+        ensures spared { 0 < length bytes.now → length bytes.now ≤ SHORT_KEY_BYTES → IsOk result }
     {
         if bytes.is_empty() || bytes.len() > MAX_KEY_BYTES {
             return Err(Fault::KeySize);
@@ -176,6 +178,7 @@ impl Key {
     /// A copy. Where the bytes lie in place it takes no memory, and else it shares them.
     pub fn try_clone(&self, _alloc: Global) -> Result<Key, Fault>
         ensures value { IfOk result (λ key. key ≡ self.now) }
+        ensures spared { length self.now ≤ SHORT_KEY_BYTES → IsOk result }
         ensures memory { IsOkUnless result Fault.OutOfMemory }
     {
         let whole = match &self.whole {
