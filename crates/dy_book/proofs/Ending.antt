@@ -10,9 +10,9 @@ use Rattle.dy_core.specs.Worlds.{World, empty_world, row_at}
 use Rattle.dy_core.specs.Covers.{covers_at}
 use Rattle.dy_core.specs.Steps.{world_after_step}
 use Rattle.dy_core.specs.Logs.{world_from, world_after}
-use Rattle.dy_core.specs.Listings.{ListsAcks, ListsCovers}
-use Rattle.dy_core.specs.inside.Meanings.{gathered, is_covering, place_of, row_in}
-use Rattle.dy_core.specs.Orders.{ack_cmp, place_cmp}
+use Rattle.dy_core.specs.Listings.{ListsAcks, ListsCovers, is_covering, place_of}
+use Rattle.dy_core.specs.inside.Meanings.{row_in}
+use Rattle.dy_core.specs.Orders.{ack_cmp, place_cmp, gathered}
 use Rattle.dy_dots.specs.declared.dots.Dot.{Dot}
 use Rattle.dy_core.specs.declared.acks.Acked.{Acked}
 use Rattle.dy_core.specs.declared.places.Place.{Place}

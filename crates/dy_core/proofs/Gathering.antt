@@ -6,8 +6,7 @@ use Rattle.std.specs.FinMap.{IsAntisymmetric}
 use Rattle.std.specs.List.{Contains}
 use Rattle.std.specs.List.Sorted.{IsStrictlySortedBy}
 use Rattle.std.proofs.lemmas.Bool.{cond_both, cond-true}
-use Rattle.dy_core.specs.inside.Meanings.{gathered}
-use Rattle.dy_core.specs.Orders.{put}
+use Rattle.dy_core.specs.Orders.{put, gathered}
 use Rattle.dy_siblings.proofs.Members.{not_in_nil, in_head, in_tail, in_cases}
 use Rattle.dy_core.proofs.Putting.{put_cases, put_has, put_keeps, put_sorted}
 

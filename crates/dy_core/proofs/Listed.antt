@@ -12,9 +12,9 @@ use Rattle.dy_preference.specs.Preferences.{is_home}
 use Rattle.dy_core.specs.Worlds.{Layout, World, AreMadeOf, IsSettled, is_issued, row_at}
 use Rattle.dy_core.specs.Covers.{covers_at}
 use Rattle.dy_core.specs.Logs.{world_after}
-use Rattle.dy_core.specs.inside.Meanings.{Meets, IsAfter, last_in, row_in, gathered, is_covering, is_hint, place_of, settled_in}
-use Rattle.dy_core.specs.Listings.{ListsHoldings, ListsAcks, ListsCovers, ListsSettled}
-use Rattle.dy_core.specs.Orders.{place_cmp, key_cmp}
+use Rattle.dy_core.specs.inside.Meanings.{Meets, IsAfter, last_in, row_in, is_hint, settled_in}
+use Rattle.dy_core.specs.Listings.{ListsHoldings, ListsAcks, ListsCovers, ListsSettled, is_covering, place_of}
+use Rattle.dy_core.specs.Orders.{place_cmp, key_cmp, gathered}
 use Rattle.dy_dots.specs.declared.dots.Dot.{Dot}
 use Rattle.dy_siblings.specs.declared.versions.Version.{Version}
 use Rattle.dy_core.specs.declared.acks.Acked.{Acked}

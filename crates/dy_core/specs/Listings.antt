@@ -1,10 +1,10 @@
 -- What a world's readers list.
-use Rattle.std.specs.Prelude.{◌≡◌, ℕ, ◌<◌, ◌↔◌, length, IsTrue, false, List}
+use Rattle.std.specs.Prelude.{◌≡◌, ℕ, ◌<◌, ◌↔◌, Bool, ◌&&◌, length, IsTrue, false, List}
 use Rattle.std.specs.List.{All, Contains}
 use Rattle.std.specs.FinSet as set
 use Rattle.dy_dots.specs.Dots.{DotSet, IsDotBefore}
 use Rattle.std.specs.List.Sorted.{IsStrictlySortedBy}
-use Rattle.dy_siblings.specs.Siblings.{IsSameRow}
+use Rattle.dy_siblings.specs.Siblings.{IsSameRow, same_key, covers}
 use Rattle.dy_core.specs.Worlds.{World, IsSettled, is_issued, row_at}
 use Rattle.dy_core.specs.Covers.{CoversAt}
 use Rattle.dy_core.specs.Orders.{holding_cmp, ack_cmp, place_cmp, key_cmp}
@@ -27,6 +27,14 @@ pub record ListsHoldings (w : World) (hs : List Holding) : Type 0 where
 pub record ListsAcks (w : World) (acks : List Acked) : Type 0 where
   pub same : (a : Acked) → Contains acks a ↔ Contains w.acks a
   pub in_order : IsStrictlySortedBy ack_cmp acks
+
+-- whether the holding is of the key and covers the dot
+abbrev pub is_covering : List ℕ → Dot → Holding → Bool
+is_covering key d h = same_key h.row.key key && covers h.row.versions d
+
+-- the place of a holding
+abbrev pub place_of : Holding → Place
+place_of h = record { home = h.home; holder = h.holder }
 
 -- the places are all that cover the dot, each once, by home and holder
 pub record ListsCovers (w : World) (key : List ℕ) (d : Dot) (places : List Place) : Type 0 where

@@ -1,5 +1,5 @@
 -- The orders in which a world lists what it has, and how an item goes into a list that is in order.
-use Rattle.std.specs.Prelude.{ℕ, List, [], ◌∷◌}
+use Rattle.std.specs.Prelude.{ℕ, Bool, if◌then◌else◌, fold, List, [], ◌∷◌}
 use Rattle.std.specs.declared.cmp.Ordering.{Ordering}
 use Rattle.std.specs.Ordering.{nat_cmp, ordering_then, match_ordering}
 use Rattle.std.specs.Cmp.Lexicographic.{slice_cmp}
@@ -32,3 +32,7 @@ place_cmp a b = ordering_then (nat_cmp a.home b.home) (nat_cmp a.holder b.holder
 abbrev pub put : {X : Type 0} → (X → X → Ordering) → List X → X → List X
 put cmp [] x = x ∷ []
 put cmp (y ∷ ys) x = match_ordering (cmp x y) (x ∷ y ∷ ys) (x ∷ ys) (y ∷ put cmp ys x)
+
+-- what those that pass a test give, each put into its place
+abbrev pub gathered : {X Y : Type 0} → (Y → Y → Ordering) → (X → Bool) → (X → Y) → List X → List Y
+gathered cmp test of xs = fold (λ ys x. if test x then put cmp ys (of x) else ys) [] xs

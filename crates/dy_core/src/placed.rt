@@ -1,6 +1,6 @@
 ghost use Rattle.std.specs.Prelude.{◌≡◌, IfOk, IsOkUnless};
-ghost use Rattle.dy_core.specs.Orders.{place_cmp};
-ghost use Rattle.dy_core.specs.inside.Meanings.{gathered, is_covering, place_of};
+ghost use Rattle.dy_core.specs.Orders.{place_cmp, gathered};
+ghost use Rattle.dy_core.specs.Listings.{is_covering, place_of};
 ghost use Rattle.dy_core.specs.declared.holdings.Holding.{Holding as HoldingParts};
 
 use crate::lists;

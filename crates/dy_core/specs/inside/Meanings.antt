@@ -6,8 +6,7 @@ use Rattle.std.specs.List.Sorted.{IsStrictlySortedBy}
 use Rattle.std.specs.FinSet as set
 use Rattle.dy_dots.specs.Dots.{DotSet}
 use Rattle.dy_siblings.specs.Versions.{in_history}
-use Rattle.dy_siblings.specs.Siblings.{IsSameRow, same_key, covers}
-use Rattle.std.specs.declared.cmp.Ordering.{Ordering}
+use Rattle.dy_siblings.specs.Siblings.{IsSameRow, same_key}
 use Rattle.dy_ring.specs.Rings.{Tokens}
 use Rattle.dy_core.specs.Worlds.{Layout, layout_of, World, is_issued, row_at}
 use Rattle.dy_core.specs.Steps.{same_place}
@@ -96,18 +95,6 @@ is_hint key h = not (h.holder == h.home) && same_key h.row.key key
 -- whether what is held of the key is held by its homes alone
 abbrev pub settled_in : List Holding → List ℕ → Bool
 settled_in held key = not (list_any (is_hint key) held)
-
--- what those that pass a test give, each put into its place
-abbrev pub gathered : {X Y : Type 0} → (Y → Y → Ordering) → (X → Bool) → (X → Y) → List X → List Y
-gathered cmp test of xs = fold (λ ys x. if test x then put cmp ys (of x) else ys) [] xs
-
--- whether the holding is of the key and covers the dot
-abbrev pub is_covering : List ℕ → Dot → Holding → Bool
-is_covering key d h = same_key h.row.key key && covers h.row.versions d
-
--- the place of a holding
-abbrev pub place_of : Holding → Place
-place_of h = record { home = h.home; holder = h.holder }
 
 -- each counter of the run below this one is of a version of the key
 abbrev pub AreIssuedBelow : List Version → List ℕ → Run → ℕ → Type 0

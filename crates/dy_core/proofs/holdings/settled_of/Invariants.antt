@@ -1,6 +1,6 @@
 use Rattle.std.proofs.Common.{◌≡◌, take}
-use Rattle.dy_core.specs.inside.Meanings.{gathered, settled_in}
-use Rattle.dy_core.specs.Orders.{key_cmp}
+use Rattle.dy_core.specs.inside.Meanings.{settled_in}
+use Rattle.dy_core.specs.Orders.{key_cmp, gathered}
 use Rattle.dy_core.proofs.holdings.settled_of.Given as goal
 
 abbrev pub invariant-loop-version : goal.invariant-loop-version

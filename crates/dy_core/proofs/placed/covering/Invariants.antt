@@ -1,6 +1,6 @@
 use Rattle.std.proofs.Common.{◌≡◌, take}
-use Rattle.dy_core.specs.inside.Meanings.{gathered, is_covering, place_of}
-use Rattle.dy_core.specs.Orders.{place_cmp}
+use Rattle.dy_core.specs.Listings.{is_covering, place_of}
+use Rattle.dy_core.specs.Orders.{place_cmp, gathered}
 use Rattle.dy_core.proofs.placed.covering.Given as goal
 
 abbrev pub invariant-loop-item : goal.invariant-loop-item

@@ -1,7 +1,6 @@
 use Rattle.std.proofs.Common.{Some, None, sym, ap, ◌∙◌, subst}
-use Rattle.dy_core.specs.inside.Meanings.{gathered, is_covering, place_of}
-use Rattle.dy_core.specs.Listings.{ListsCovers}
-use Rattle.dy_core.specs.Orders.{place_cmp}
+use Rattle.dy_core.specs.Listings.{ListsCovers, is_covering, place_of}
+use Rattle.dy_core.specs.Orders.{place_cmp, gathered}
 use Rattle.dy_book.specs.Books.{world_of}
 use Rattle.dy_book.proofs.Ending.{covers_listed}
 use Rattle.dy_book.proofs.books.Book.covers.Goals as goal

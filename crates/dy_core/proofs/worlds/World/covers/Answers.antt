@@ -2,9 +2,8 @@ use Rattle.std.proofs.Common.{◌≡◌, true, sym, ap, ◌∙◌, subst}
 use Rattle.std.specs.List.{All}
 use Rattle.dy_preference.specs.Preferences.{homes_of, is_home}
 use Rattle.dy_core.specs.Logs.{world_after}
-use Rattle.dy_core.specs.inside.Meanings.{gathered, is_covering, place_of}
-use Rattle.dy_core.specs.Listings.{ListsCovers}
-use Rattle.dy_core.specs.Orders.{place_cmp}
+use Rattle.dy_core.specs.Listings.{ListsCovers, is_covering, place_of}
+use Rattle.dy_core.specs.Orders.{place_cmp, gathered}
 use Rattle.dy_core.proofs.Listed.{covers_homes, covers_listed}
 use Rattle.dy_core.proofs.worlds.World.covers.Goals as goal
 

@@ -1,8 +1,8 @@
 use Rattle.std.proofs.Common.{sym, ◌∙◌, subst}
 use Rattle.dy_core.specs.Logs.{world_after}
-use Rattle.dy_core.specs.inside.Meanings.{gathered, settled_in}
+use Rattle.dy_core.specs.inside.Meanings.{settled_in}
 use Rattle.dy_core.specs.Listings.{ListsSettled}
-use Rattle.dy_core.specs.Orders.{key_cmp}
+use Rattle.dy_core.specs.Orders.{key_cmp, gathered}
 use Rattle.dy_core.proofs.Listed.{keys_listed}
 use Rattle.dy_core.proofs.worlds.World.settled.Goals as goal
 
