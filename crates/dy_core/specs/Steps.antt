@@ -115,14 +115,6 @@ key_of (Release p key d) = key
 key_of (Fetch p key) = key
 key_of (Ack key d count) = key
 
--- the step is no ack
-abbrev pub IsNoAck : Step → Type 0
-IsNoAck (Issue node key context value) = Unit {0}
-IsNoAck (Hold p row) = Unit {0}
-IsNoAck (Release p key d) = Unit {0}
-IsNoAck (Fetch p key) = Unit {0}
-IsNoAck (Ack key d count) = ⊥
-
 -- the step is a release at this place
 abbrev pub IsReleaseAt : ℕ → ℕ → List ℕ → Step → Type 0
 IsReleaseAt holder home key (Issue node k context value) = ⊥

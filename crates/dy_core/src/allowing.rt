@@ -1,13 +1,13 @@
-ghost use Rattle.std.specs.Prelude.{◌≡◌, ◌≢◌, ◌↔◌, ◌<◌, ◌≤◌, ℕ, IsTrue, IfOk, OnOk, IsOkUnless};
-ghost use Rattle.std.specs.List.{All, Contains, list_any};
+ghost use Rattle.std.specs.Prelude.{◌≡◌, ◌≢◌, ◌↔◌, ◌<◌, ◌≤◌, IsTrue, IfOk, IsOkUnless};
+ghost use Rattle.std.specs.List.{All, Contains};
 ghost use Rattle.dy_dots.specs.declared.dots.TheConstants.{MAX_COUNTER};
 ghost use Rattle.dy_siblings.specs.Siblings.{has_dot};
 ghost use Rattle.dy_preference.specs.Preferences.{homes_of, may_hold};
 ghost use Rattle.dy_core.specs.Worlds.{AreMadeOf, layout_of};
 ghost use Rattle.dy_core.specs.Covers.{CoversAt, HasCover};
-ghost use Rattle.dy_core.specs.Steps.{IsAllowed, IsKnown, IsNoAck};
+ghost use Rattle.dy_core.specs.Steps.{IsAllowed, IsKnown};
 ghost use Rattle.dy_core.specs.Logs.{world_after};
-ghost use Rattle.dy_core.specs.inside.Meanings.{AreChosen, clashes};
+ghost use Rattle.dy_core.specs.inside.Meanings.{CanChoose, apart_from};
 
 use crate::holdings;
 use crate::places::Place;
@@ -19,15 +19,11 @@ use dy_siblings::{Key, Row, Version};
 use std::alloc::Global;
 
 impl World {
-    /// Whether the step is allowed now. An ack may be told no though it has a cover: for each home
-    /// that covers by itself this home is taken, and then for each other the first stand-in that is
-    /// left.
+    /// Whether the step is allowed now. Before a no to an ack of w it has tried all choices of up to
+    /// w of the places that cover.
     pub fn allows(&self, alloc: Global, step: &Step) -> Result<bool, Fault>
-        ensures sound { IfOk result (λ yes. IsTrue yes →
+        ensures ok { IfOk result (λ yes. IsTrue yes ↔
             IsAllowed (layout_of self.now.ring self.now.n) (world_after self.now.steps) step.now) }
-        ensures exact { IfOk result (λ yes. IsNoAck step.now →
-            IsAllowed (layout_of self.now.ring self.now.n) (world_after self.now.steps) step.now →
-            IsTrue yes) }
         ensures memory { IsOkUnless result Fault.OutOfMemory }
     {
         match step {
@@ -91,35 +87,22 @@ impl World {
         }
     }
 
-    // Whether a cover of w places was found.
+    // Whether the dot has a cover of w places, and a key has so many homes.
     fn may_ack(&self, alloc: Global, key: &Key, dot: Dot, w: u8) -> Result<bool, Fault>
-        ensures ok { IfOk result (λ yes. IsTrue yes →
-            (1 ≤ w) × (w ≤ self.now.n) × HasCover (layout_of self.now.ring self.now.n)
-            (world_after self.now.steps) key.now dot w) }
+        ensures ok { IfOk result (λ yes. IsTrue yes ↔
+            ((1 ≤ w) × (w ≤ self.now.n) × HasCover (layout_of self.now.ring self.now.n)
+            (world_after self.now.steps) key.now dot w)) }
         ensures memory { IsOkUnless result Fault.OutOfMemory }
     {
-        let count = self.count_covered(alloc, key, dot)?;
         if w < 1 {
             return Ok(false);
         }
         if w > self.n {
             return Ok(false);
         }
-        Ok(w as usize <= count)
-    }
-
-    // How many places of a cover were found.
-    fn count_covered(&self, alloc: Global, key: &Key, dot: Dot) -> Result<usize, Fault>
-        ensures ok { IfOk result
-            (λ count. (n : ℕ) → n ≤ count → HasCover (layout_of self.now.ring self.now.n)
-            (world_after self.now.steps) key.now dot n) }
-        ensures memory { IsOkUnless result Fault.OutOfMemory }
-    {
         let places = self.covers(alloc, key, dot)?;
-        let mut chosen = Vec::new(alloc);
-        choose(&mut chosen, places.as_slice(), true)?;
-        choose(&mut chosen, places.as_slice(), false)?;
-        Ok(chosen.len())
+        let yes = can_choose(alloc, places.as_slice(), w)?;
+        Ok(yes)
     }
 }
 
@@ -154,24 +137,36 @@ fn are_among(versions: &[Version], row: &[Version]) -> bool
     true
 }
 
-// Whether one of those chosen has its home or its holder in common with the place.
-fn have_clash(chosen: &[Place], place: Place) -> bool
-    ensures { result ≡ list_any (clashes place) chosen.now }
-{
-    chosen.iter().any(|other| place.clashes(*other))
-}
-
-// Chooses more of the places, homes that hold for themselves or stand-ins, each home and each
-// holder once.
-fn choose(chosen: &mut Vec<Place>, places: &[Place], own: bool) -> Result<(), Fault>
-    requires { AreChosen places.now chosen.old.items }
-    ensures ok { OnOk result (AreChosen places.now chosen.new.items) }
+// Those of the places that have neither the home nor the holder of this one.
+fn apart_from(alloc: Global, places: &[Place], place: &Place) -> Result<Vec<Place>, Fault>
+    ensures ok { IfOk result (λ apart. apart.items ≡ apart_from place.now places.now) }
     ensures memory { IsOkUnless result Fault.OutOfMemory }
 {
-    for place in places {
-        if (place.home == place.holder) == own && !have_clash(chosen.as_slice(), *place) {
-            chosen.push(*place)?;
+    let mut apart = Vec::new(alloc);
+    for other in places {
+        if !place.clashes(*other) {
+            apart.push(*other)?;
         }
     }
-    Ok(())
+    Ok(apart)
+}
+
+// Whether so many of the places have distinct homes and distinct holders. It tries each place with
+// those behind it that stand apart from it.
+fn can_choose(alloc: Global, places: &[Place], count: u8) -> Result<bool, Fault>
+    ensures ok { IfOk result (λ yes. IsTrue yes ↔ CanChoose places.now count) }
+    ensures memory { IsOkUnless result Fault.OutOfMemory }
+{
+    if count < 1 {
+        return Ok(true);
+    }
+    let mut left = places;
+    while let Some((first, rest)) = left.split_first() {
+        let apart = apart_from(alloc, rest, first)?;
+        if can_choose(alloc, apart.as_slice(), count - 1)? {
+            return Ok(true);
+        }
+        left = rest;
+    }
+    Ok(false)
 }

@@ -122,3 +122,13 @@ pub record AreChosen (places chosen : List Place) : Type 0 where
   pub inside : (p : Place) → Contains chosen p → Contains places p
   pub homes_distinct : IsDistinct nat_eq (map (λ p. p.home) chosen)
   pub holders_distinct : IsDistinct nat_eq (map (λ p. p.holder) chosen)
+
+-- so many of these places, no two with one home or with one holder
+pub record CanChoose (places : List Place) (count : ℕ) : Type 0 where
+  pub chosen : List Place
+  pub count_is : length chosen ≡ count
+  pub are_chosen : AreChosen places chosen
+
+-- those of the places that have neither the home nor the holder of this one
+abbrev pub apart_from : Place → List Place → List Place
+apart_from p places = filter (λ q. not (clashes p q)) places
