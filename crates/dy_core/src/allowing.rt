@@ -19,8 +19,8 @@ use dy_siblings::{Key, Row, Version};
 use std::alloc::Global;
 
 impl World {
-    /// Whether the step is allowed now. Before a no to an ack of w it has tried all choices of up to
-    /// w of the places that cover.
+    /// Whether the step is allowed now. Before a no to an ack of w it tries all choices of up to w
+    /// of the places that cover.
     pub fn allows(&self, alloc: Global, step: &Step) -> Result<bool, Fault>
         ensures ok { IfOk result (λ yes. IsTrue yes ↔
             IsAllowed (layout_of self.now.ring self.now.n) (world_after self.now.steps) step.now) }
