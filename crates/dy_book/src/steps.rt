@@ -2,12 +2,13 @@
 ghost use Rattle.std.specs.Prelude.{◌≡◌, ◌≤◌, ◌-◌, ◌++◌, ℕ, Some, length, option_copied, slice_get};
 ghost use Rattle.std.specs.Prelude.{IfOk, OnOk, IsOkUnless};
 ghost use Rattle.std.specs.List.{filter};
-ghost use Rattle.dy_dots.specs.Runs.{in_run};
+ghost use Rattle.dy_dots.specs.Dots.{AreDots, DotSet};
+ghost use Rattle.dy_dots.specs.Runs.{AreRunsOf, in_run};
 ghost use Rattle.dy_siblings.specs.Siblings.{Siblings};
 ghost use Rattle.dy_core.specs.declared.steps.Step.{Step as OneStep};
 ghost use Rattle.dy_core.specs.declared.steps.Step.TheVariants.{Issue};
 ghost use Rattle.dy_shares.specs.Shares.{steps_of};
-ghost use Rattle.dy_shares.specs.Trails.{HasDots, Keeps};
+ghost use Rattle.dy_shares.specs.Trails.{HasRuns, Keeps};
 ghost use Rattle.dy_book.specs.inside.Indexes.{made_in};
 ghost use Rattle.dy_book.specs.inside.Lists.{AreCounted, list_at};
 ghost use Rattle.dy_book.specs.inside.Readings.{AreOfDots, IsLogged, IsLoggedRow};
@@ -15,7 +16,7 @@ ghost use Rattle.dy_book.specs.inside.Readings.{AreOfDots, IsLogged, IsLoggedRow
 use crate::books::Book;
 use crate::parts::KeyPart;
 use dy_core::Step;
-use dy_dots::{Context, Fault, Run};
+use dy_dots::{Fault, Run};
 use dy_shares::{KeptStep, Naming};
 use dy_siblings::{Key, Row, Version};
 use std::alloc::Global;
@@ -44,39 +45,39 @@ fn add_run(
     Ok(())
 }
 
-// The versions of the part that have these dots, in the order of their dots.
-fn versions_of(alloc: Global, part: Option<&KeyPart>, dots: &Context) -> Result<Vec<Version>, Fault>
+// The versions of the part that the runs name, in the order of their dots.
+fn versions_of(alloc: Global, part: Option<&KeyPart>, runs: &[Run]) -> Result<Vec<Version>, Fault>
     requires counted { (node : ℕ) → AreCounted node 0 (made_in (option_copied part) node) }
-    ensures ok { IfOk result
-        (λ versions. AreOfDots (made_in (option_copied part.entry)) dots.now versions.items) }
+    requires of_dots { (dots : DotSet) × AreRunsOf runs.now dots × AreDots dots }
+    ensures ok { (dots : DotSet) → AreRunsOf runs.now dots → IfOk result
+        (λ versions. AreOfDots (made_in (option_copied part.entry)) dots versions.items) }
     ensures memory { IsOkUnless result Fault.OutOfMemory }
 {
-    let mut versions = Vec::with_capacity(alloc, dots.len())?;
+    let mut versions = Vec::new(alloc);
     let Some(known) = part else {
         return Ok(versions);
     };
-    let runs = dots.runs();
     for run in runs {
         add_run(alloc, known, run, &mut versions)?;
     }
     Ok(versions)
 }
 
-// The row of the key that has these dots. A key has one version of a dot.
+// The row of the key whose dots these runs are. A key has one version of a dot.
 fn row_of(
     alloc: Global,
     keys: &BTreeMap<Key, KeyPart>,
     key: &Key,
-    dots: &Context,
+    runs: &[Run],
 ) -> Result<Row, Fault>
     requires logged { (row : Siblings) × IsLoggedRow keys.now.entries row
-        × HasDots row key.now dots.now }
+        × HasRuns row key.now runs.now }
     ensures ok { (row : Siblings) → IsLoggedRow keys.now.entries row →
-        HasDots row key.now dots.now → IfOk result (λ r. r ≡ row) }
+        HasRuns row key.now runs.now → IfOk result (λ r. r ≡ row) }
     ensures memory { IsOkUnless result Fault.OutOfMemory }
 {
     let part = keys.get(key);
-    let versions = versions_of(alloc, part, dots)?;
+    let versions = versions_of(alloc, part, runs)?;
     let own = key.try_clone(alloc)?;
     Ok(Row::from_versions(own, versions))
 }
@@ -118,11 +119,15 @@ pub(crate) fn step_of(
             let step = issue_of(alloc, version)?;
             Ok(step)
         }
-        KeptStep::Held { place, key, dots } => {
-            let row = row_of(alloc, keys, key, dots)?;
+        KeptStep::Held { place, run, key } => {
+            let row = row_of(alloc, keys, key, &[*run])?;
             Ok(Step::Hold { place: *place, row })
         }
-        KeptStep::Released { place, key, dot } => {
+        KeptStep::HeldRuns { place, key, dots } => {
+            let row = row_of(alloc, keys, key, dots.runs())?;
+            Ok(Step::Hold { place: *place, row })
+        }
+        KeptStep::Released { place, dot, key } => {
             let key = key.try_clone(alloc)?;
             Ok(Step::Release {
                 place: *place,
@@ -134,7 +139,7 @@ pub(crate) fn step_of(
             let key = key.try_clone(alloc)?;
             Ok(Step::Fetch { place: *place, key })
         }
-        KeptStep::Acked { key, dot, w } => {
+        KeptStep::Acked { w, dot, key } => {
             let key = key.try_clone(alloc)?;
             Ok(Step::Ack {
                 key,

@@ -2,11 +2,11 @@
 use Rattle.std.specs.Prelude.{ℕ, List, [], ◌∷◌, ◌++◌, codes, decimal, Option, Some, None}
 use Rattle.std.specs.List.{flat_map}
 use Rattle.dy_dots.specs.Dots.{dot_text}
-use Rattle.dy_dots.specs.Spelling.{context_text}
+use Rattle.dy_dots.specs.Spelling.{context_text, run_text}
 use Rattle.dy_core.specs.declared.places.Place.{Place}
 use Rattle.dy_shares.specs.declared.kept_steps.KeptStep.{KeptStep}
-use Rattle.dy_shares.specs.declared.kept_steps.KeptStep.TheVariants.{Issued, Held, Released}
-use Rattle.dy_shares.specs.declared.kept_steps.KeptStep.TheVariants.{Fetched, Acked}
+use Rattle.dy_shares.specs.declared.kept_steps.KeptStep.TheVariants.{Issued, Held, HeldRuns}
+use Rattle.dy_shares.specs.declared.kept_steps.KeptStep.TheVariants.{Released, Fetched, Acked}
 use Rattle.dy_lines.specs.Places.{place_text}
 use Rattle.dy_lines.specs.Texts.{hex_text}
 
@@ -26,12 +26,15 @@ kept_text session (Issued v) =
     codes "issue " ++ decimal v.dot.node ++ codes " " ++ hex_text v.key
     ++ codes " " ++ dot_text v.dot ++ codes " behind " ++ context_text v.past
     ++ codes " " ++ written_text v.value
-kept_text session (Held p key dots) =
-    codes "hold " ++ row_text p key ++ codes " " ++ context_text dots
-kept_text session (Released p key d) =
+kept_text session (Held p run key) =
+    codes "hold " ++ row_text p key
+    ++ codes " n" ++ decimal run.node ++ codes ":" ++ run_text run
+kept_text session (HeldRuns p key dots) =
+    codes "hold " ++ row_text p key ++ codes " " ++ context_text dots.value
+kept_text session (Released p d key) =
     codes "release " ++ row_text p key ++ codes " " ++ dot_text d
 kept_text session (Fetched p key) = codes "fetch " ++ row_text p key
-kept_text session (Acked key d w) =
+kept_text session (Acked w d key) =
     codes "ack " ++ hex_text key ++ codes " " ++ dot_text d ++ codes " w " ++ decimal w
     ++ codes " session " ++ decimal session
 

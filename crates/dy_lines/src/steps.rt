@@ -47,16 +47,20 @@ impl fmt::Display for StepText<'_> {
                 let node = dot.node();
                 write!(f, "issue {node} {key} {dot} behind {past} {written}")
             }
-            KeptStep::Held { place, key, dots } => {
+            KeptStep::Held { place, run, key } => {
+                let (key, node) = (Hex(key.as_bytes()), run.node);
+                write!(f, "hold {} {key} n{node}:{run}", At(*place))
+            }
+            KeptStep::HeldRuns { place, key, dots } => {
                 write!(f, "hold {} {} {dots}", At(*place), Hex(key.as_bytes()))
             }
-            KeptStep::Released { place, key, dot } => {
+            KeptStep::Released { place, dot, key } => {
                 write!(f, "release {} {} {dot}", At(*place), Hex(key.as_bytes()))
             }
             KeptStep::Fetched { place, key } => {
                 write!(f, "fetch {} {}", At(*place), Hex(key.as_bytes()))
             }
-            KeptStep::Acked { key, dot, w } => {
+            KeptStep::Acked { w, dot, key } => {
                 let (key, session) = (Hex(key.as_bytes()), self.session);
                 write!(f, "ack {key} {dot} w {w} session {session}")
             }

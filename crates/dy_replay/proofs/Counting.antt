@@ -12,7 +12,7 @@ use Rattle.dy_core.specs.declared.steps.Step.{Step}
 use Rattle.dy_core.specs.declared.steps.Step.TheVariants.{Issue}
 use Rattle.dy_shares.specs.Trails.{AreKept, Keeps}
 use Rattle.dy_shares.specs.declared.kept_steps.KeptStep.{KeptStep}
-use Rattle.dy_shares.specs.declared.kept_steps.KeptStep.TheVariants.{Issued, Held, Released, Fetched, Acked}
+use Rattle.dy_shares.specs.declared.kept_steps.KeptStep.TheVariants.{Issued, Held, HeldRuns, Released, Fetched, Acked}
 use Rattle.dy_replay.specs.Replays.{count_made, is_made_by}
 
 -- one where it is so
@@ -55,10 +55,11 @@ module _ (w : World) (node : ℕ) (key : List ℕ) where
   step_counts (Issued v) s keeps =
       subst (λ (x : Step). (world_after_step w x).counters node key ≡ one_if (is_made_by node key (Issued v)) + w.counters node key)
       (sym keeps) (issue_counts v)
-  step_counts (Held p k dots) s keeps = unmoved _ (ap (λ (x : Step). (world_after_step w x).counters node key) keeps.1)
-  step_counts (Released p k d) s keeps = unmoved _ (ap (λ (x : Step). (world_after_step w x).counters node key) keeps)
+  step_counts (HeldRuns p k dots) s keeps = unmoved _ (ap (λ (x : Step). (world_after_step w x).counters node key) keeps.1)
+  step_counts (Held p run k) s keeps = unmoved _ (ap (λ (x : Step). (world_after_step w x).counters node key) keeps.1)
+  step_counts (Released p d k) s keeps = unmoved _ (ap (λ (x : Step). (world_after_step w x).counters node key) keeps)
   step_counts (Fetched p k) s keeps = unmoved _ (ap (λ (x : Step). (world_after_step w x).counters node key) keeps)
-  step_counts (Acked k d n) s keeps = unmoved _ (ap (λ (x : Step). (world_after_step w x).counters node key) keeps)
+  step_counts (Acked n d k) s keeps = unmoved _ (ap (λ (x : Step). (world_after_step w x).counters node key) keeps)
 
 -- so step by step it grows by the number of issues
 pub counted_from : (ks : List KeptStep) (ss : List Step) (w : World) (node : ℕ) (key : List ℕ) → AreKept ks ss →

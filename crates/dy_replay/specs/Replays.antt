@@ -9,8 +9,8 @@ use Rattle.dy_core.specs.Listings.{ListsHoldings, ListsAcks, ListsCovers, ListsS
 use Rattle.dy_core.specs.Logs.{Log, world_after}
 use Rattle.dy_shares.specs.Shares.{steps_of}
 use Rattle.dy_shares.specs.declared.kept_steps.KeptStep.{KeptStep}
-use Rattle.dy_shares.specs.declared.kept_steps.KeptStep.TheVariants.{Issued, Held, Released}
-use Rattle.dy_shares.specs.declared.kept_steps.KeptStep.TheVariants.{Fetched, Acked}
+use Rattle.dy_shares.specs.declared.kept_steps.KeptStep.TheVariants.{Issued, Held, HeldRuns}
+use Rattle.dy_shares.specs.declared.kept_steps.KeptStep.TheVariants.{Released, Fetched, Acked}
 use Rattle.dy_book.specs.declared.audits.Audit.{Audit}
 use Rattle.dy_cluster.specs.Ends.{AtRest}
 
@@ -21,10 +21,11 @@ log_of ring n c = record { ring = ring; n = n; steps = steps_of c.book.log }
 -- whether the kept step says that the node made a version of the key
 abbrev pub is_made_by : ℕ → List ℕ → KeptStep → Bool
 is_made_by node key (Issued v) = (node == v.dot.node) && same_key key v.key
-is_made_by node key (Held p k dots) = false
-is_made_by node key (Released p k d) = false
+is_made_by node key (Held p run k) = false
+is_made_by node key (HeldRuns p k dots) = false
+is_made_by node key (Released p d k) = false
 is_made_by node key (Fetched p k) = false
-is_made_by node key (Acked k d w) = false
+is_made_by node key (Acked w d k) = false
 
 -- how many versions of the key the node made, as the kept steps say
 abbrev pub count_made : List KeptStep → ℕ → List ℕ → ℕ

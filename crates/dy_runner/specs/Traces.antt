@@ -3,8 +3,8 @@ use Rattle.std.specs.Prelude.{◌≡◌, ℕ, ◌+◌, Bool, true, false, List, 
 use Rattle.std.specs.Prelude.{get_or, nat_lt, if◌then◌else◌}
 use Rattle.std.specs.List.{flat_map}
 use Rattle.dy_shares.specs.declared.kept_steps.KeptStep.{KeptStep}
-use Rattle.dy_shares.specs.declared.kept_steps.KeptStep.TheVariants.{Issued, Held, Released}
-use Rattle.dy_shares.specs.declared.kept_steps.KeptStep.TheVariants.{Fetched, Acked}
+use Rattle.dy_shares.specs.declared.kept_steps.KeptStep.TheVariants.{Issued, Held, HeldRuns}
+use Rattle.dy_shares.specs.declared.kept_steps.KeptStep.TheVariants.{Released, Fetched, Acked}
 use Rattle.dy_shares.specs.declared.step_numbers.StepNumbers.{StepNumbers}
 use Rattle.dy_lines.specs.Outcomes.{command_text}
 use Rattle.dy_lines.specs.Sessions.{session_told}
@@ -34,10 +34,11 @@ session_of s number = get_or s.numbers (session_told s.told number) 0
 -- whether the step is a fetch
 abbrev pub is_fetch : KeptStep → Bool
 is_fetch (Issued v) = false
-is_fetch (Held p key dots) = false
-is_fetch (Released p key d) = false
+is_fetch (Held p run key) = false
+is_fetch (HeldRuns p key dots) = false
+is_fetch (Released p d key) = false
 is_fetch (Fetched p key) = true
-is_fetch (Acked key d w) = false
+is_fetch (Acked w d key) = false
 
 -- the fetches that a session was told of stand in one line, with the session of the first; where
 -- there are none there is no line

@@ -28,6 +28,26 @@ impl<'a> Model for StepRef<'a> {
     ghost view = { λ s. step_said s.said };
 }
 
+// The hold of the row in the form that is kept.
+fn keep_hold(alloc: Global, place: Place, row: &Row) -> Result<KeptStep, Fault>
+    ensures ok { IfOk result (λ kept. Keeps kept (Hold place row.now)) }
+    ensures memory { IsOkUnless result Fault.OutOfMemory }
+{
+    // Each version of a row is of its key.
+    let _versions = row.versions();
+    let key = row.key().try_clone(alloc)?;
+    let dots = row.dots(alloc)?;
+    if let [run] = dots.runs() {
+        return Ok(KeptStep::Held {
+            place,
+            run: *run,
+            key,
+        });
+    }
+    let dots = Box::new(alloc, dots)?;
+    Ok(KeptStep::HeldRuns { place, key, dots })
+}
+
 impl<'a> StepRef<'a> {
     /// The node of its dot makes the version; the context is its whole past. Takes no memory.
     pub fn issue(version: &'a Version) -> StepRef<'a>
@@ -86,22 +106,15 @@ impl<'a> StepRef<'a> {
                 Ok(KeptStep::Issued { version })
             }
             Said::Held { place, row } => {
-                // Each version of a row is of its key.
-                let _versions = row.versions();
-                let key = row.key().try_clone(alloc)?;
-                let dots = row.dots(alloc)?;
-                Ok(KeptStep::Held {
-                    place: *place,
-                    key,
-                    dots,
-                })
+                let kept = keep_hold(alloc, *place, row)?;
+                Ok(kept)
             }
             Said::Released { place, key, dot } => {
                 let key = key.try_clone(alloc)?;
                 Ok(KeptStep::Released {
                     place: *place,
-                    key,
                     dot: *dot,
+                    key,
                 })
             }
             Said::Fetched { place, key } => {
@@ -111,9 +124,9 @@ impl<'a> StepRef<'a> {
             Said::Acked { key, dot, w } => {
                 let key = key.try_clone(alloc)?;
                 Ok(KeptStep::Acked {
-                    key,
-                    dot: *dot,
                     w: *w,
+                    dot: *dot,
+                    key,
                 })
             }
         }

@@ -11,8 +11,9 @@ use Rattle.dy_book.proofs.steps.versions_of.Goals as goal
 
 pub add_run-requires-clause-low : goal.add_run-requires-clause-low
 add_run-requires-clause-low c =
-    run_low c.runs-runs.result.now c.args.dots.now c.runs-runs.ensures.runs c.loop-run.run-index
-    c.run-item.result c.loop-run-test.true c.run-item.is c.runs-runs.ensures.valid
+    let of = c.requires.of_dots in
+    run_low c.args.runs.now of.0 of.1 c.loop-run.run-index c.run-item.result c.loop-run-test.true
+    c.run-item.is of.2
 
 pub add_run-requires-clause-counted : goal.add_run-requires-clause-counted
 add_run-requires-clause-counted c =
@@ -26,13 +27,12 @@ loop-run-preserved c =
     let r = c.run-item.result in
     c.in_ok-add_run.ensures.ok
     ∙ ap (λ (vs : List Version). vs ++ named_by r (made r.node)) c.loop-run.invariant
-    ∙ sym (picked_more made c.runs-runs.result.now i r c.loop-run-test.true c.run-item.is)
+    ∙ sym (picked_more made c.args.runs.now i r c.loop-run-test.true c.run-item.is)
 
 pub returns-clause-ok : goal.returns-clause-ok
-returns-clause-ok c =
+returns-clause-ok c = λ dots are.
     let made = made_by c.in-Some.known.now in
-    let runs = c.runs-runs.result.now in
-    let dots = c.args.dots.now in
+    let runs = c.args.runs.now in
     subst (λ o. AreOfDots (made_in o) dots c.loop-run.versions.items)
     (sym (ap option_copied c.in-Some.is))
     (subst (AreOfDots made dots)
@@ -41,4 +41,4 @@ returns-clause-ok c =
     (picked_are made
     (λ n. subst (λ o. AreCounted n 0 (made_in o n)) (ap option_copied c.in-Some.is)
     (c.requires.counted n))
-    runs dots c.runs-runs.ensures.runs))
+    runs dots are))
