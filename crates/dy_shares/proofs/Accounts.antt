@@ -1,7 +1,7 @@
 -- A ledger stays one, and each share that agrees with its roll belongs to its log.
-use Rattle.std.proofs.Common.{◌≡◌, ℕ, suc, ◌+◌, ◌<◌, List, [], ◌∷◌, ◌++◌, length, length-append, drop, set, Option, None, Some, slice_index_or, refl, sym, ap, ◌∙◌, subst, arith}
+use Rattle.std.proofs.Common.{◌≡◌, ℕ, suc, ◌+◌, ◌<◌, List, [], ◌∷◌, ◌++◌, length, length-append, map, nat_eq, drop, set, Option, None, Some, slice_index_or, refl, sym, ap, ◌∙◌, subst, arith}
 use Rattle.std.specs.Prelude.{MatchOption}
-use Rattle.std.specs.List.{All, AllByRecursion as ByRecursion, cons_option}
+use Rattle.std.specs.List.{All, AllByRecursion as ByRecursion, IsDistinct, cons_option}
 use Rattle.std.proofs.lemmas.List.Elements.{All-append, All-weaker, All-cons, All-nil, recursion_from_All}
 use Rattle.std.proofs.Math.Seq.{drop-append_seam}
 use mathlib.Core.Option.{some}
@@ -126,13 +126,16 @@ module _ (nodes : ℕ) (layout : Layout) where
 
     pub all_are : (r : ℕ) (parts : List NodePart) (tellings : List SessionPart) → All (λ p. p.node < nodes) parts → All (AgreesAsNode roll) parts → All (AgreesAsSession nodes r roll log) tellings
         → ((node : ℕ) → node < nodes → HasNode node parts) → ((session : ℕ) → session < sessions → HasSession session tellings)
+        → IsDistinct nat_eq (map (λ p. p.node) parts) → IsDistinct nat_eq (map (λ s. s.session) tellings)
         → AreAll nodes r (record { log = log; sessions = sessions }) parts tellings
-    all_are r parts tellings low as_nodes as_sessions each_node each_session =
+    all_are r parts tellings low as_nodes as_sessions each_node each_session nodes_once sessions_once =
         record {
           nodes_belong = λ k d within. node_belongs (slice_index_or parts k d) (low k d within) (as_nodes k d within);
           sessions_belong = All-weaker (AgreesAsSession nodes r roll log) (SessionBelongsTo log r) (session_belongs r) tellings as_sessions;
           each_node = each_node;
           each_session = each_session;
+          nodes_once = nodes_once;
+          sessions_once = sessions_once;
           each_entry = is.owned;
         }
 

@@ -8,7 +8,7 @@ use Rattle.atomic_table.specs.Table.{State, Allows, Splits, Joins, step, keeps}
 use Rattle.atomic_table.proofs.Lists.{at_set, set_here, set_else, set_again, at_longer, at_last}
 use Rattle.dy_shares.specs.declared.entries.Done.{Done}
 use Rattle.dy_shares.specs.declared.parts.View.{View}
-use Rattle.dy_shares.specs.inside.Agreeing.{knower, share_of, nobody, knower_with, Fits, Agree, opened, newest_share, holding, alone, lent, Compares, grown, Grows}
+use Rattle.dy_shares.specs.inside.Agreeing.{knower, share_of, nobody, knower_with, Fits, Agree, opened, newest_share, holding, alone, lent, Compares, grown, Grows, Retires, retired}
 
 off : false ≡ true → ⊥
 off e = true≢false (sym e)
@@ -139,6 +139,22 @@ module _ (seat : ℕ) (parts : List (List Done)) (owner : ℕ → ℕ) where
             ((λ _. ((mine.0 refl).0, refl)), (λ _. ((mine.1 refl).0, set_here parts index more (inside parts index own (mine.1 refl).1)))),
       )
 
+  pub retires : (views : List View) (id index : ℕ) (own more : List Done) → get_elem? views id ≡ some (knower_with parts index own) → All seat parts owner views
+      → Agree (set views id (knower (set parts index more)))
+  retires views id index own more at all =
+      let new = set parts index more in
+      let mine = all id (knower_with parts index own) at in
+      let old : (j : ℕ) (u : View) → j ≢ id → get_elem? views j ≡ some u → Fits seat new owner j u = λ j u apart e. let f = all j u e in (
+        (λ k. absurd (apart ((f.0 k).0 ∙ sym (mine.0 refl).0))),
+        (λ s. let g = f.1 s in (g.0, set_else parts index u.index more (λ h. apart (g.0 ∙ (ap owner h ∙ sym (mine.1 refl).0))) ∙ g.1)),
+      ) in (
+        seat,
+        new,
+        owner,
+        after_set seat new owner views id (knower new) old
+            ((λ _. ((mine.0 refl).0, refl)), (λ s. absurd (off s))),
+      )
+
 module _ {S : Type 0} where
   abbrev pub Rule : State S View → Type 0
   Rule s = Agree s.views
@@ -167,6 +183,20 @@ module _ {S : Type 0} where
       let mine = h.3 id (knower_with parts index own) at in
       let known : get_elem? parts index ≡ some own = subst (λ p. get_elem? p index ≡ some own) (sym (mine.0 refl).1) (mine.1 refl).1 in
       (knower_with parts index own, keeps, tt, subst Agree (sym (set_again s.views id (knower_with parts index own) at)) h, (refl, known)))
+
+  pub retires_as : (id slots index : ℕ) (v : View) (parts : List (List Done)) (own : List Done) → v ≡ knower_with parts index own
+      → Allows Rule slots id (v, []) 0 (λ n. n) (Retires (step slots 0 0 0 none) (v, []))
+  retires_as id slots index v parts own is = subst (λ (u : View). Allows Rule slots id (u, []) 0 (λ n. n) (Retires (step slots 0 0 0 none) (u, []))) (sym is)
+      (λ s h len at fits.
+      let mine = h.3 id (knower_with parts index own) at in
+      let known : get_elem? parts index ≡ some own = subst (λ p. get_elem? p index ≡ some own) (sym (mine.0 refl).1) (mine.1 refl).1 in (
+        knower (set parts index (retired own)),
+        keeps,
+        tt,
+        subst (λ p. get_elem? s.views id ≡ some (knower_with p index own) → Agree (set s.views id (knower (set p index (retired own))))) (sym (mine.0 refl).1)
+            (λ there. retires h.0 h.1 h.2 s.views id index own (retired own) there h.3) at,
+        (refl, known),
+      ))
 
 pub grows_as : (id slots index : ℕ) (v : View) (parts : List (List Done)) (own xs : List Done) (f : ℕ → ℕ) → v ≡ knower_with parts index own
     → Allows Rule slots id (v, []) 0 f (Grows (step slots 0 0 0 (some xs)) (v, []))

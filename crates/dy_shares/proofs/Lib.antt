@@ -7,6 +7,7 @@ pub mod Showing
 pub mod Later
 pub mod Additions
 pub mod Accounts
+pub mod Returning
 pub mod Sent
 pub mod Keeping
 pub mod Sessions

@@ -336,13 +336,16 @@ abbrev pub HasSession : ℕ → List SessionPart → Type 0
 HasSession session parts = Any (λ s. s.session ≡ session) parts
 
 -- the shares are all that were given out, and what they show is all that the log has: each belongs
--- to the log, each node and session has its own, and each entry is one of theirs, or a fetch
+-- to the log, each node and session has its own, none is there twice, and each entry is one of
+-- theirs, or a fetch
 pub record AreAll (nodes r : ℕ) (a : Account) (parts : List NodePart) (tellings : List SessionPart)
     : Type 0 where
   pub nodes_belong : All (BelongsTo (steps_of a.log)) parts
   pub sessions_belong : All (SessionBelongsTo a.log r) tellings
   pub each_node : (node : ℕ) → node < nodes → HasNode node parts
   pub each_session : (session : ℕ) → session < a.sessions → HasSession session tellings
+  pub nodes_once : IsDistinct nat_eq (map (λ p. p.node) parts)
+  pub sessions_once : IsDistinct nat_eq (map (λ s. s.session) tellings)
   pub each_entry : AreOwned nodes a.sessions a.log
 
 -- each node and each session has a share among these

@@ -1,7 +1,7 @@
 // How a ledger ends: who is missing, and every share comes back.
-ghost use Rattle.std.specs.Prelude.{◌≡◌, ℕ, ◌+◌, ◌<◌, Decides, IfSome, IfNone};
+ghost use Rattle.std.specs.Prelude.{◌≡◌, ℕ, ◌+◌, ◌<◌, Decides, IfSome, IfNone, map};
 ghost use Rattle.std.specs.List.{All};
-ghost use Rattle.dy_shares.specs.inside.Parts.{AgreesAsNode, AgreesAsSession};
+ghost use Rattle.dy_shares.specs.inside.Parts.{AgreesAsNode, AgreesAsSession, CameBack};
 ghost use Rattle.dy_shares.specs.Shares.{HasNode, HasSession};
 
 use crate::chronicles::Chronicle;
@@ -75,11 +75,11 @@ pub(crate) fn missing_session<J: Naming>(
     None
 }
 
-// Compares each node's share with its seat of the roll, for the last time.
+// Compares each node's share with its seat of the roll, for the last time, and marks the seat.
 pub(crate) fn end_nodes<J: Naming>(roll: &mut Roll<J>, mut shares: Vec<NodeShare<J>>)
-    ensures same { roll.new ≡ roll.old }
     ensures low { All (λ p. p.node < J.ring.nodes) shares.items }
     ensures agree { All (AgreesAsNode roll.old) shares.items }
+    ensures back { CameBack roll.old (map (λ p. p.node) shares.items) roll.new }
 {
     while let Some(share) = shares.pop() {
         share.end(roll);
@@ -87,16 +87,16 @@ pub(crate) fn end_nodes<J: Naming>(roll: &mut Roll<J>, mut shares: Vec<NodeShare
     shares.destroy_empty();
 }
 
-// Compares each session's share with its seat of the roll, for the last time, and its gets with the
-// log.
+// Compares each session's share with its seat of the roll, for the last time, and marks the seat;
+// and its gets with the log.
 pub(crate) fn end_sessions<J: Naming>(
     roll: &mut Roll<J>,
     chronicle: &mut Chronicle<J>,
     mut shares: Vec<SessionShare<J>>,
 )
-    ensures roll { roll.new ≡ roll.old }
     ensures chronicle { chronicle.new ≡ chronicle.old }
     ensures agree { All (AgreesAsSession J.ring.nodes J.r roll.old chronicle.old) shares.items }
+    ensures back { CameBack roll.old (map (λ s. J.ring.nodes + s.session) shares.items) roll.new }
 {
     while let Some(share) = shares.pop() {
         share.end(roll, chronicle);

@@ -1,5 +1,7 @@
 ghost use Rattle.std.specs.Prelude.{◌≡◌, ◌<◌, ◌≤◌, ◌+◌, [], vec_len, vec_capacity};
 ghost use Rattle.dy_dots.specs.declared.nodes.TheConstants.{MAX_NODES};
+ghost use Rattle.std.specs.Prelude.{slice_set};
+ghost use Rattle.dy_shares.specs.inside.Agreeing.{retired};
 ghost use Rattle.dy_shares.specs.inside.Parts.{AgreesAsNode, IsRollOf, done_steps};
 ghost use Rattle.dy_shares.specs.Shares.{first_parts};
 
@@ -48,11 +50,11 @@ impl<J: Naming> NodeShare<J> {
         self.node
     }
 
-    // Compares the share with its seat of the roll, for the last time.
+    // Compares the share with its seat of the roll, for the last time, and marks the seat.
     pub(crate) fn end(self, roll: &mut Roll<J>)
-        ensures same { roll.new ≡ roll.old }
         ensures low { self.node < J.ring.nodes }
-        ensures agrees { AgreesAsNode roll.old self }
+        ensures agrees { (a : AgreesAsNode roll.old self)
+            × (roll.new ≡ slice_set roll.old self.node (retired a.part)) }
     {
         let NodeShare { node: _, share } = self;
         roll.end(share);

@@ -2,7 +2,7 @@
 ghost use Rattle.std.specs.Prelude.{◌≡◌, ◌<◌, ◌++◌, ◌∷◌, [], length, slice_set};
 ghost use mathlib.Core.Option.{some};
 ghost use lib.ListN.{get_elem?};
-ghost use Rattle.dy_shares.specs.inside.Agreeing.{knower};
+ghost use Rattle.dy_shares.specs.inside.Agreeing.{IsOut, knower, retired};
 ghost use Rattle.dy_shares.specs.inside.Parts.{held};
 
 use crate::chronicles::Added;
@@ -52,6 +52,15 @@ impl Play<Added, View> for Grow {
     ghost use Rattle.dy_shares.specs.inside.Agreeing.{Grows};
 
     ghost then = { Grows };
+}
+
+/// The keeper takes the share that it holds for good, and marks its seat.
+pub struct Retire;
+
+impl Play<Added, View> for Retire {
+    ghost use Rattle.dy_shares.specs.inside.Agreeing.{Retires};
+
+    ghost then = { Retires };
 }
 
 /// A new seat, and its share.
@@ -130,7 +139,7 @@ pub struct Share<J: Naming> {
 
 impl<J: Naming> Model for Share<J> {
     ghost use Rattle.std.specs.Prelude.{◌≡◌, [], ◌∷◌};
-    ghost use Rattle.dy_shares.specs.inside.Agreeing.{share_of, part_of};
+    ghost use Rattle.dy_shares.specs.inside.Agreeing.{IsOut, share_of, part_of};
     ghost use Rattle.dy_shares.specs.inside.Parts.{Held, held, held_code};
 
     ghost Value = { Held };
@@ -141,7 +150,8 @@ impl<J: Naming> Model for Share<J> {
 
     ghost invariant = { λ s.
         (s.badge.table_id ≡ J.table)
-        × (s.badge.views ≡ share_of s.index (part_of s.badge.views) ∷ []) };
+        × (s.badge.views ≡ share_of s.index (part_of s.badge.views) ∷ [])
+        × IsOut (part_of s.badge.views) };
 }
 
 impl BlankRoll {
@@ -193,6 +203,7 @@ impl<J: Naming> Roll<J> {
     pub(crate) fn compare(&mut self, share: &mut Share<J>)
         ensures same { (self.new ≡ self.old) × (share.new ≡ share.old) }
         ensures agree { get_elem? self.old share.old.index ≡ some share.old.part }
+        ensures is_out { IsOut share.old.part }
     {
         let party = mem::replace(&mut share.badge, Badge::blank()).into_seat::<Added>();
         let table = &self.table;
@@ -204,6 +215,7 @@ impl<J: Naming> Roll<J> {
 
     // What came to the log goes to the share and to its seat.
     pub(crate) fn grow(&mut self, share: &mut Share<J>, added: &Added)
+        requires { IsOut added.now }
         ensures roll { self.new ≡
             slice_set self.old share.old.index (share.old.part ++ added.now) }
         ensures share { share.new ≡ held share.old.index (share.old.part ++ added.now) }
@@ -218,16 +230,20 @@ impl<J: Naming> Roll<J> {
         share.badge = party.into_badge();
     }
 
-    // The share comes back for good.
-    pub(crate) fn end(&mut self, mut share: Share<J>)
-        ensures same { self.new ≡ self.old }
+    // The share comes back for good. Its seat is marked, so that none comes back twice.
+    pub(crate) fn end(&mut self, share: Share<J>)
         ensures agree { get_elem? self.old share.index ≡ some share.part }
+        ensures is_out { IsOut share.part }
+        ensures roll { self.new ≡ slice_set self.old share.index (retired share.part) }
     {
-        self.compare(&mut share);
         let Share {
             index: _,
-            badge: _,
+            badge,
             of: _,
         } = share;
+        let party = badge.into_seat::<Added>();
+        let table = &self.table;
+        table.shared.join_seat::<Lends>(&mut self.keeper, party);
+        table.shared.load::<Retire>(&mut self.keeper, 0);
     }
 }

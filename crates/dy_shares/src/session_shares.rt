@@ -3,6 +3,8 @@ ghost use Rattle.std.specs.Prelude.{[], OnOk, OnErr, IsOkUnless, vec_len, vec_ca
 ghost use Rattle.std.specs.List.{All, IsDistinct};
 ghost use mathlib.Core.List.{IsPrefix};
 ghost use Rattle.dy_core.specs.Logs.{Answer, IsAnswer};
+ghost use Rattle.std.specs.Prelude.{slice_set};
+ghost use Rattle.dy_shares.specs.inside.Agreeing.{retired};
 ghost use Rattle.dy_shares.specs.inside.Parts.{AgreesAsSession, held};
 ghost use Rattle.dy_shares.specs.Numbers.{AreNumbersOf};
 ghost use Rattle.dy_shares.specs.Shares.{first_session, greatest, since_of, steps_of, with_get};
@@ -201,12 +203,12 @@ impl<J: Naming> SessionShare<J> {
         &self.front
     }
 
-    // Compares the share with its seat of the roll, for the last time, and what was spent and its
-    // gets with the log.
+    // Compares the share with its seat of the roll, for the last time, and marks the seat; and what
+    // was spent and its gets with the log.
     pub(crate) fn end(self, roll: &mut Roll<J>, chronicle: &mut Chronicle<J>)
-        ensures roll { roll.new ≡ roll.old }
         ensures chronicle { chronicle.new ≡ chronicle.old }
-        ensures agrees { AgreesAsSession J.ring.nodes J.r roll.old chronicle.old self }
+        ensures agrees { (a : AgreesAsSession J.ring.nodes J.r roll.old chronicle.old self)
+            × (roll.new ≡ slice_set roll.old (J.ring.nodes + self.session) (retired a.part)) }
     {
         let SessionShare {
             number: _,

@@ -1,9 +1,11 @@
 -- The rule of a roll of shares, and what its steps tell.
-use Rattle.std.specs.Prelude.{ℕ, ◌≡◌, true, false, List, [], ◌∷◌, ◌++◌, length, slice_set}
+use Rattle.std.specs.Prelude.{ℕ, ◌≡◌, ◌≤◌, true, false, List, [], ◌∷◌, ◌++◌, length, slice_set}
+use Rattle.std.specs.List.{All}
 use mathlib.Core.Option.{some}
 use lib.ListN.{get_elem?}
 use Rattle.atomic_table.specs.Table.{Step, Me}
 use Rattle.atomic_table.specs.Seated.{TableId}
+use Rattle.dy_core.specs.declared.steps.Step.TheVariants.{Ack}
 use Rattle.dy_shares.specs.declared.entries.Done.{Done}
 use Rattle.dy_shares.specs.declared.parts.View.{View}
 
@@ -77,6 +79,20 @@ grown v xs = knower_with (slice_set v.parts v.index (v.own ++ xs)) v.index (v.ow
 abbrev pub Grows :
     Step (List Done) → Me (List Done) View → ℕ → Me (List Done) View → Type 0
 Grows s me found after = (xs : List Done) → s.said ≡ some xs → after ≡ (grown me.0 xs, me.1)
+
+-- the part of a seat whose share came back for good: a step without a number is its mark
+abbrev pub retired : List Done → List Done
+retired part = part ++ record { at = 0; step = Ack [] (record { node = 0; counter = 0 }) 0 } ∷ []
+
+-- the part is that of a share which did not come back for good: each of its steps has a number
+abbrev pub IsOut : List Done → Type 0
+IsOut part = All (λ x. 1 ≤ x.at) part
+
+-- the share that the keeper holds is that of the roll, and is gone; its seat is marked
+abbrev pub Retires : {S : Type 0} → Step S → Me S View → ℕ → Me S View → Type 0
+Retires s me found after =
+    (after ≡ (knower (slice_set me.0.parts me.0.index (retired me.0.own)), me.1))
+    × (get_elem? me.0.parts me.0.index ≡ some me.0.own)
 
 -- the part that the first party has for its own
 abbrev pub part_of : List View → List Done

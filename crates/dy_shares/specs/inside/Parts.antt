@@ -1,7 +1,7 @@
 -- Which part of a log a share of the roll has.
 use Rattle.std.specs.Prelude.{ℕ, ◌≡◌, ◌+◌, ◌<◌, ◌≤◌, Option, None, Some, List, [], ◌∷◌, ◌++◌}
-use Rattle.std.specs.Prelude.{length, map, if◌then◌else◌, refl}
-use Rattle.std.specs.List.{All}
+use Rattle.std.specs.Prelude.{length, map, if◌then◌else◌, nat_eq, refl}
+use Rattle.std.specs.List.{All, IsDistinct}
 use Rattle.std.specs.Coded.{Coded, code_by, coded×, coded_ℕ, coded_list}
 use mathlib.Core.Option.{some}
 use lib.ListN.{get_elem?}
@@ -14,6 +14,7 @@ use Rattle.dy_shares.specs.Shares.{names, node_of, ack_at, acks_of, steps_of, si
 use Rattle.dy_shares.specs.Shares.{Account, AckTold}
 use Rattle.dy_shares.specs.Shares.{GetTold, NodePart, ReceiptParts, SessionPart, GetMatches}
 use Rattle.dy_shares.specs.Shares.{AreInTurn, AreOwned, AreSpent}
+use Rattle.dy_shares.specs.inside.Agreeing.{IsOut, retired}
 use Rattle.dy_core.specs.Worlds.{Layout}
 use Rattle.dy_core.specs.Logs.{IsLegal}
 
@@ -88,10 +89,20 @@ abbrev pub done_acks : List Done → List AckTold
 done_acks [] = []
 done_acks (x ∷ xs) = ack_at x.at x.step ++ done_acks xs
 
+-- the shares of these seats came back for good: no seat is there twice, each is marked, and what is
+-- not marked is as it was
+pub record CameBack (old : List (List Done)) (seats : List ℕ) (new : List (List Done)) : Type 0
+  where
+    pub distinct : IsDistinct nat_eq seats
+    pub marked : All (λ k. (part : List Done) × (get_elem? new k ≡ some (retired part))) seats
+    pub stays : (k : ℕ) (part : List Done) → IsOut part → get_elem? new k ≡ some part →
+        get_elem? old k ≡ some part
+
 -- a node's share agrees with its seat of the roll
 pub record AgreesAsNode (parts : List (List Done)) (p : NodePart) : Type 0 where
   pub part : List Done
   pub seat_has : get_elem? parts p.node ≡ some part
+  pub is_out : IsOut part
   pub steps_are : p.steps ≡ done_steps part
 
 -- a session's share agrees with its seat of the roll, its receipts were spent for its acks, and its
@@ -100,6 +111,7 @@ pub record AgreesAsSession (nodes r : ℕ) (parts : List (List Done)) (log : Lis
     (s : SessionPart) : Type 0 where
   pub part : List Done
   pub seat_has : get_elem? parts (nodes + s.session) ≡ some part
+  pub is_out : IsOut part
   pub acks_are : s.acks ≡ done_acks part
   pub spent_are : AreSpent (steps_of log) s.acks s.spent
   pub gets_match : All (GetMatches (steps_of log) r) s.gets

@@ -16,4 +16,4 @@ returns-clause-belongs g c =
     let at = subst (λ k. get_elem? l.roll k ≡ some s.share.part) c.share.invariant.0 c.compare.ensures.agree in
     subst (λ a. BelongsTo (steps_of a.log) c.args.share.now) c.self.view_is
     (subst (BelongsTo (steps_of l.chronicle)) c.share.view_is
-    (node_belongs g.J.Naming.ring.nodes (layout_of g.J.Naming.ring g.J.Naming.n) l.steps l.acks.items l.sessions l.chronicle l.roll c.self.invariant.1 p c.share.invariant.1 (record { part = s.share.part; seat_has = at; steps_are = refl })))
+    (node_belongs g.J.Naming.ring.nodes (layout_of g.J.Naming.ring g.J.Naming.n) l.steps l.acks.items l.sessions l.chronicle l.roll c.self.invariant.1 p c.share.invariant.1 (record { part = s.share.part; seat_has = at; is_out = c.compare.ensures.is_out; steps_are = refl })))

@@ -25,4 +25,4 @@ returns-clause-belongs g c =
     let spent = subst (λ (x : SessionPart). AreSpent (steps_of l.chronicle) x.acks x.spent) (sym c.share.view_is) spents in
     subst (λ a. SessionBelongsTo a.log g.J.Naming.r c.args.share.now) c.self.view_is
     (subst (SessionBelongsTo l.chronicle g.J.Naming.r) c.share.view_is
-    (session_belongs g.J.Naming.ring.nodes (layout_of g.J.Naming.ring g.J.Naming.n) l.steps l.acks.items l.sessions l.chronicle l.roll c.self.invariant.1 g.J.Naming.r part (record { part = s.share.part; seat_has = at; acks_are = refl; spent_are = spent; gets_match = kept; in_turn = i.in_turn })))
+    (session_belongs g.J.Naming.ring.nodes (layout_of g.J.Naming.ring g.J.Naming.n) l.steps l.acks.items l.sessions l.chronicle l.roll c.self.invariant.1 g.J.Naming.r part (record { part = s.share.part; seat_has = at; is_out = c.compare.ensures.is_out; acks_are = refl; spent_are = spent; gets_match = kept; in_turn = i.in_turn })))

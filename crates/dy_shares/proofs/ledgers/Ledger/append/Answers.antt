@@ -1,5 +1,5 @@
 -- The log, what is counted of it, its acks and the seat of the roll grow alike, by the same entries.
-use Rattle.std.proofs.Common.{◌≡◌, List, ◌+◌, ◌<◌, ◌++◌, ◌∷◌, [], slice_set, length, drop, rules, sym, ap, ◌∙◌, subst}
+use Rattle.std.proofs.Common.{arith, ◌≡◌, List, ◌+◌, ◌<◌, ◌++◌, ◌∷◌, [], slice_set, length, drop, rules, sym, ap, ◌∙◌, subst}
 use Rattle.std.specs.Prelude.{MatchOption}
 use Rattle.std.proofs.lemmas.List.{append-nil}
 use Rattle.dy_core.specs.Worlds.{layout_of}
@@ -13,6 +13,8 @@ use Rattle.dy_shares.specs.Trails.{AreKept}
 use Rattle.dy_shares.proofs.Keeping.{kept_grown}
 use Rattle.dy_shares.proofs.Rolls.{roll_means}
 use Rattle.dy_shares.proofs.Accounts.{added_are, ledger_grown, seat_part, without_ack}
+use Rattle.dy_shares.specs.inside.Agreeing.{IsOut}
+use Rattle.dy_shares.proofs.Returning.{numbered_out}
 use Rattle.dy_shares.proofs.ledgers.Ledger.append.Goals as goal
 use Rattle.dy_shares.proofs.ledgers.Ledger.append.Goals.{in-Some-ack, in_default-ack}
 
@@ -51,6 +53,10 @@ returns-clause-belongs g c =
     let layout = layout_of g.J.Naming.ring g.J.Naming.n in
     subst (λ a. IsPartOf g.J.Naming.ring.nodes layout a c.args.share.now) c.self.view_is
     (seat_part g.J.Naming.ring.nodes layout l.steps l.acks.items l.sessions l.chronicle l.roll c.self.invariant.1 c.args.share.now.index c.args.share.now.part c.compare.ensures.agree)
+
+-- what comes to the log has numbers
+pub grow-requires : goal.grow-requires
+grow-requires g c = subst IsOut (sym c.added-added.ensures) (numbered_out (c.self.inside.steps + 1) _ (omega arith))
 
 -- the share has done these steps more
 pub returns-clause-share : goal.returns-clause-share

@@ -5,8 +5,9 @@ use prog.Atomic.{either}
 use Rattle.std.proofs.Common.{◌==◌}
 use Rattle.atomic_table.specs.Table.{Me, Allows, step}
 use Rattle.dy_shares.specs.declared.parts.View.{View}
-use Rattle.dy_shares.specs.inside.Agreeing.{knower, share_of, knower_with, holding, part_of, grown, alone, lent, Grows}
+use Rattle.dy_shares.specs.inside.Agreeing.{IsOut, knower, share_of, knower_with, holding, part_of, grown, alone, lent, Grows}
 use Rattle.dy_shares.proofs.Agreements.{Rule, takes_in_as, gives_out_as, grows_as, taken}
+use Rattle.dy_shares.proofs.Returning.{out_longer}
 use Rattle.dy_shares.proofs.parts.Roll.grow.Goals as goal
 
 pub join_seat-requires : goal.join_seat-requires
@@ -88,4 +89,4 @@ invariant_of-share g c =
     let held : c.join_seat.new.seat.me ≡ (knower_with parts index own, []) = j.2 ∙ (λ k. (holding (i.3 k).0 (theirs k), (i.3 k).1)) in
     let after : c.compare_exchange_with.new.seat.me ≡ (knower_with (set parts index more) index more, []) = x.2 c.args.added.now refl ∙ ap (λ (m : Me _ View). (grown m.0 c.args.added.now, m.1)) held in
     let out : c.into_badge.result.views ≡ share_of index more ∷ [] = b.2 ∙ ap (λ (m : Me _ View). m.0 ∷ []) l.4 ∙ ap (λ (m : Me _ View). lent m.0 ∷ []) after in
-    (b.0 ∙ l.3 ∙ x.0 ∙ j.0 ∙ i.1, out ∙ ap (λ vs. share_of index (part_of vs) ∷ []) (sym out))
+    (b.0 ∙ l.3 ∙ x.0 ∙ j.0 ∙ i.1, out ∙ ap (λ vs. share_of index (part_of vs) ∷ []) (sym out), subst (λ vs. IsOut (part_of vs)) (sym out) (out_longer own c.args.added.now s.2 c.requires))
