@@ -62,15 +62,14 @@ hold_receipts layout log legal holder home row of_row may log2 log_is m holder_i
     (receipt_parts row.key v.dot holder home)) row.versions (λ v inside.
     hold_covers layout log legal holder home row of_row may v inside)))
 
-module _ (ring : Tokens) (n r : ℕ) (own : Tokens) (log : List Entry) (options : Options)
+module _ (ring : Tokens) (n r : ℕ) (log : List Entry) (options : Options)
     (versions : ℕ) (es : List (List ℕ × KeyPart))
-    (book : IsBook ring n r own log options versions es) where
+    (book : IsBook ring n r log options versions es) where
   -- with an index as good
   pub book_reindexed : (fs : List (List ℕ × KeyPart)) →
-      ((w : World) → IsIndex w es → IsIndex w fs) → IsBook ring n r own log options versions fs
+      ((w : World) → IsIndex w es → IsIndex w fs) → IsBook ring n r log options versions fs
   book_reindexed fs as_good =
       record {
-        ring_is = book.ring_is;
         n_is = book.n_is;
         r_is = book.r_is;
         limits = book.limits;
@@ -88,10 +87,9 @@ module _ (ring : Tokens) (n r : ℕ) (own : Tokens) (log : List Entry) (options 
       versions2 ≤ options.versions_limit →
       versions2 ≡ length (world_after (steps_of log2)).versions →
       IsIndex (world_after (steps_of log2)) fs →
-      IsBook ring n r own log2 options versions2 fs
+      IsBook ring n r log2 options versions2 fs
   book_goes log2 versions2 fs legal steps_few versions_few versions_are index =
       record {
-        ring_is = book.ring_is;
         n_is = book.n_is;
         r_is = book.r_is;
         limits = book.limits;
@@ -107,13 +105,13 @@ module _ (ring : Tokens) (n r : ℕ) (own : Tokens) (log : List Entry) (options 
   pub book_rewritten : (k key : List ℕ) → k ≡ key → (p : KeyPart) (fs : List (List ℕ × KeyPart)) →
       ((q : List ℕ) → part_at fs q ≡ cond (is_at (slice_cmp nat_cmp k) q) (Some p) (part_at es q)) →
       (log2 : List Entry) → log2 ≡ log → IsPart (world_after (steps_of log2)) key (Some p) →
-      IsBook ring n r own log2 options versions fs
+      IsBook ring n r log2 options versions fs
   book_rewritten k key key_is p fs written log2 log_is here =
       let w = world_after (steps_of log) in
       let part = subst (λ j. IsPart w j (Some p)) (sym key_is)
       (subst (λ (l : List Entry). IsPart (world_after (steps_of l)) key (Some p)) log_is here)
       in
-      subst (λ (l : List Entry). IsBook ring n r own l options versions fs) (sym log_is)
+      subst (λ (l : List Entry). IsBook ring n r l options versions fs) (sym log_is)
       (book_goes log versions fs book.legal book.steps_few book.versions_few book.versions_are
       (index_written w w es fs k p written part (λ q apart made places are. are) book.index))
 
@@ -131,13 +129,13 @@ module _ (ring : Tokens) (n r : ℕ) (own : Tokens) (log : List Entry) (options 
         →
         (log2 : List Entry) → log2 ≡ log ++ map untold (issue_steps node home v) →
         IsPart (world_after (steps_of log2)) v.key (Some p) →
-        IsBook ring n r own log2 options (versions + 1) fs
+        IsBook ring n r log2 options (versions + 1) fs
     issue_book versions_left room k key_is p fs written log2 log_is here =
         let layout = layout_of ring n in
         let more = issue_versions layout log book.legal node home v next counter_few may in
         let count = length-append log (map untold (issue_steps node home v)) in
         let are = book.versions_are in
-        subst (λ (l : List Entry). IsBook ring n r own l options (versions + 1) fs) (sym log_is)
+        subst (λ (l : List Entry). IsBook ring n r l options (versions + 1) fs) (sym log_is)
         (book_goes (log ++ map untold (issue_steps node home v)) (versions + 1) fs
         (issue_legal layout log book.legal node home v next counter_few may)
         (omega (arith, count, room)) (omega (arith, are, versions_left))
@@ -172,11 +170,11 @@ module _ (ring : Tokens) (n r : ℕ) (own : Tokens) (log : List Entry) (options 
         →
         (log2 : List Entry) → log2 ≡ log ++ map untold (Hold (place_for holder home) row ∷ []) →
         IsPart (world_after (steps_of log2)) row.key (Some p) →
-        IsBook ring n r own log2 options versions fs
+        IsBook ring n r log2 options versions fs
     hold_book room k key_is p fs written log2 log_is here =
         let layout = layout_of ring n in
         let count = length-append log (map untold (Hold (place_for holder home) row ∷ [])) in
-        subst (λ (l : List Entry). IsBook ring n r own l options versions fs) (sym log_is)
+        subst (λ (l : List Entry). IsBook ring n r l options versions fs) (sym log_is)
         (book_goes (log ++ map untold (Hold (place_for holder home) row ∷ [])) versions fs
         (hold_legal layout log book.legal holder home row of_row may)
         (omega (arith, count, room)) book.versions_few
@@ -192,7 +190,7 @@ module _ (ring : Tokens) (n r : ℕ) (own : Tokens) (log : List Entry) (options 
   quiet_book : (w2 : World) → (log2 : List Entry) → IsLegal (layout_of ring n) (steps_of log2) →
       length log2 ≤ options.steps_limit →
       world_after (steps_of log2) ≡ w2 → w2.versions ≡ (world_after (steps_of log)).versions →
-      IsIndex w2 es → IsBook ring n r own log2 options versions es
+      IsIndex w2 es → IsBook ring n r log2 options versions es
   quiet_book w2 log2 legal few world_is same index =
       book_goes log2 versions es legal few book.versions_few
       (book.versions_are ∙ sym (ap length (ap (λ x. x.versions) world_is ∙ same)))
@@ -200,11 +198,11 @@ module _ (ring : Tokens) (n r : ℕ) (own : Tokens) (log : List Entry) (options 
 
   pub fetch_book : (holder home : ℕ) (key : List ℕ) → length log + 1 ≤ options.steps_limit →
       (log2 : List Entry) → log2 ≡ log ++ untold (Fetch (place_for holder home) key) ∷ [] →
-      IsBook ring n r own log2 options versions es
+      IsBook ring n r log2 options versions es
   fetch_book holder home key room log2 log_is =
       let s = Fetch (place_for holder home) key in
       let count = length-append log (untold s ∷ []) in
-      subst (λ (l : List Entry). IsBook ring n r own l options versions es) (sym log_is)
+      subst (λ (l : List Entry). IsBook ring n r l options versions es) (sym log_is)
       (quiet_book (world_after (steps_of log)) (log ++ untold s ∷ [])
       (legal_grown (layout_of ring n) log (s ∷ []) book.legal (tt, tt))
       (omega (arith, count, room))
@@ -215,14 +213,14 @@ module _ (ring : Tokens) (n r : ℕ) (own : Tokens) (log : List Entry) (options 
       length log + 1 ≤ options.steps_limit →
       IsAllowed (layout_of ring n) (world_after (steps_of log)) (Ack key d w) →
       (log2 : List Entry) → log2 ≡ log ++ told_to session (Ack key d w) ∷ [] →
-      IsBook ring n r own log2 options versions es
+      IsBook ring n r log2 options versions es
   ack_book session key d w room allowed log2 log_is =
       let s = Ack key d w in
       let e = told_to session s in
       let count = length-append log (e ∷ []) in
       let steps_are : steps_of (log ++ e ∷ []) ≡ steps_of log ++ s ∷ [] =
       steps_of-append log (e ∷ []) in
-      subst (λ (l : List Entry). IsBook ring n r own l options versions es) (sym log_is)
+      subst (λ (l : List Entry). IsBook ring n r l options versions es) (sym log_is)
       (quiet_book (world_after_step (world_after (steps_of log)) s) (log ++ e ∷ [])
       (subst (IsLegal (layout_of ring n)) (sym steps_are)
       (legal_join (layout_of ring n) empty_world (steps_of log) (s ∷ []) book.legal

@@ -341,22 +341,22 @@ world_more node rs i r more w =
 
 -- ---- the book
 
-pub release_book : (ring : Tokens) (n r : ℕ) (own : Tokens) (log : List Entry) (options : Options)
-    (versions : ℕ) (es : List (List ℕ × KeyPart)) → IsBook ring n r own log options versions es →
+pub release_book : (ring : Tokens) (n r : ℕ) (log : List Entry) (options : Options)
+    (versions : ℕ) (es : List (List ℕ × KeyPart)) → IsBook ring n r log options versions es →
     (node : ℕ) (rs : List ReceiptParts) →
     IsLegalFrom (layout_of ring n) (world_after (steps_of log)) (release_steps node rs) →
     length log + length rs ≤ options.steps_limit →
     (fs : List (List ℕ × KeyPart)) →
     ((w : World) → IsIndex w es → IsIndex (world_from w (release_steps node rs)) fs) →
     (log2 : List Entry) → log2 ≡ log ++ map untold (release_steps node rs) →
-    IsBook ring n r own log2 options versions fs
-release_book ring n r own log options versions es book node rs allowed room fs goes log2 log_is =
+    IsBook ring n r log2 options versions fs
+release_book ring n r log options versions es book node rs allowed room fs goes log2 log_is =
     let ss = release_steps node rs in
     let count = length-append log (map untold ss) in
     let few = count_steps node rs in
     let world_is = world_grown log ss in
-    subst (λ (l : List Entry). IsBook ring n r own l options versions fs) (sym log_is)
-    (book_goes ring n r own log options versions es book (log ++ map untold ss) versions fs
+    subst (λ (l : List Entry). IsBook ring n r l options versions fs) (sym log_is)
+    (book_goes ring n r log options versions es book (log ++ map untold ss) versions fs
     (legal_grown (layout_of ring n) log ss book.legal allowed)
     (omega (arith, count, few, room)) book.versions_few
     (book.versions_are ∙ sym

@@ -27,7 +27,6 @@ use std::marker::Model;
 /// after the log has. It can't be dropped: it ends with its shares.
 pub struct Book<J: Naming> {
     pub(crate) alloc: Global,
-    pub(crate) ring: Ring,
     pub(crate) options: Options,
     pub(crate) ledger: Ledger<J>,
     pub(crate) versions: usize,
@@ -46,7 +45,7 @@ impl<J: Naming> Model for Book<J> {
         record { log = b.ledger.log; sessions = b.ledger.sessions; options = b.options } };
 
     ghost invariant = { λ b.
-        IsBook J.ring J.n J.r b.ring b.ledger.log b.options b.versions b.keys.entries };
+        IsBook J.ring J.n J.r b.ledger.log b.options b.versions b.keys.entries };
 }
 
 impl<J: Naming> Book<J> {
@@ -83,7 +82,6 @@ impl<J: Naming> Book<J> {
         };
         let book = Book {
             alloc,
-            ring,
             options,
             ledger,
             versions: 0,
@@ -246,7 +244,6 @@ impl<J: Naming> Book<J> {
     pub fn abandon(self, nodes: Vec<NodeShare<J>>, sessions: Vec<SessionShare<J>>) {
         let Book {
             alloc: _,
-            ring: _,
             options: _,
             ledger,
             versions: _,

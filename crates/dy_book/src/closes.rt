@@ -272,7 +272,6 @@ impl<J: Naming> Book<J> {
     {
         let Book {
             alloc,
-            ring,
             options,
             ledger,
             versions,
@@ -294,7 +293,6 @@ impl<J: Naming> Book<J> {
                 fault: Fault::SharesMissing,
                 book: Book {
                     alloc,
-                    ring,
                     options,
                     ledger,
                     versions,

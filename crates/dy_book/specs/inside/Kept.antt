@@ -10,11 +10,10 @@ use Rattle.dy_book.specs.declared.parts.KeyPart.{KeyPart}
 use Rattle.dy_book.specs.Limits.{AreLimits, IsQuorum}
 use Rattle.dy_book.specs.inside.Indexes.{IsIndex}
 
--- the ring, n and r are those of the name; the limits are in their ranges, and kept; the log is
+-- n and r are those of the name; the limits are in their ranges, and kept; the log is
 -- legal, and the index is that of its world
-pub record IsBook (ring : Tokens) (n r : ℕ) (own : Tokens) (log : List Entry) (options : Options)
+pub record IsBook (ring : Tokens) (n r : ℕ) (log : List Entry) (options : Options)
     (versions : ℕ) (entries : List (List ℕ × KeyPart)) : Type 0 where
-  pub ring_is : own ≡ ring
   pub n_is : options.n ≡ n
   pub r_is : options.r ≡ r
   pub limits : AreLimits options

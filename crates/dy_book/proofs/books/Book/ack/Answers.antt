@@ -76,7 +76,7 @@ ack_step-requires-clause-allowed g c =
 pub invariant_of-self : goal.invariant_of-self
 invariant_of-self g c =
     let b = c.self.inside in
-    subst (λ (a : Account). IsBook g.J.Naming.ring g.J.Naming.n g.J.Naming.r b.ring a.log b.options
+    subst (λ (a : Account). IsBook g.J.Naming.ring g.J.Naming.n g.J.Naming.r a.log b.options
     b.versions b.keys.entries) (sym c.agree_session.ensures.log) c.self.invariant
 
 pub invariant_of-self-2 : goal.invariant_of-self-2
@@ -107,7 +107,7 @@ invariant_of-self-2 g c =
     c.agree_session.ensures.log few in
     let log_is = ap (λ a. a.log) c.in_ok-ack_step.ensures.log
     ∙ (λ i. (same i).log ++ told_to c.agree_session.new.share.session (Ack K D c.args.w) ∷ []) in
-    ack_book g.J.Naming.ring g.J.Naming.n g.J.Naming.r b.ring b.ledger.log b.options b.versions
+    ack_book g.J.Naming.ring g.J.Naming.n g.J.Naming.r b.ledger.log b.options b.versions
     b.keys.entries c.self.invariant
     c.agree_session.new.share.session K D c.args.w room
     (c.requires.some, c.requires.few, cover) c.ack_step.new.self.log log_is

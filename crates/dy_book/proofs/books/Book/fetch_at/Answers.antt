@@ -17,7 +17,7 @@ use Rattle.dy_book.proofs.books.Book.fetch_at.Goals as goal
 pub invariant_of-self : goal.invariant_of-self
 invariant_of-self g c =
     let b = c.self.inside in
-    subst (λ (a : Account). IsBook g.J.Naming.ring g.J.Naming.n g.J.Naming.r b.ring a.log b.options
+    subst (λ (a : Account). IsBook g.J.Naming.ring g.J.Naming.n g.J.Naming.r a.log b.options
     b.versions b.keys.entries) (sym c.in_err-fetch_step.ensures.err) c.self.invariant
 
 -- the log has the fetch as its last step
@@ -28,7 +28,7 @@ invariant_of-self-2 g c =
     (Fetch (place_for c.args.holder c.args.home) c.args.key.now) ∷ [] =
     ap (λ a. a.log) c.in_ok-fetch_step.ensures.log in
     let room = subst (λ s. HasRoom s 1) (sym c.self.view_is) c.requires in
-    fetch_book g.J.Naming.ring g.J.Naming.n g.J.Naming.r b.ring b.ledger.log b.options b.versions
+    fetch_book g.J.Naming.ring g.J.Naming.n g.J.Naming.r b.ledger.log b.options b.versions
     b.keys.entries c.self.invariant
     c.args.holder c.args.home c.args.key.now room c.fetch_step.new.self.log log_is
 

@@ -28,9 +28,9 @@ use Rattle.dy_book.proofs.books.Book.hold.Goals as goal
 pub invariant_of-self : goal.invariant_of-self
 invariant_of-self g c =
     let b = c.self.inside in
-    subst (λ (a : Account). IsBook g.J.Naming.ring g.J.Naming.n g.J.Naming.r b.ring a.log b.options
+    subst (λ (a : Account). IsBook g.J.Naming.ring g.J.Naming.n g.J.Naming.r a.log b.options
     b.versions c.make_part_of.new.keys.entries) (sym c.agree.ensures.log)
-    (book_reindexed g.J.Naming.ring g.J.Naming.n g.J.Naming.r b.ring b.ledger.log
+    (book_reindexed g.J.Naming.ring g.J.Naming.n g.J.Naming.r b.ledger.log
     b.options b.versions b.keys.entries c.self.invariant
     c.make_part_of.new.keys.entries c.make_part_of.ensures.same)
 
@@ -88,11 +88,11 @@ refusal_of_unknown-requires-clause-empty g c = λ empty.
 pub invariant_of-self-in_default : goal.invariant_of-self-in_default
 invariant_of-self-in_default g c =
     let b = c.self.inside in
-    subst (λ es. IsBook g.J.Naming.ring g.J.Naming.n g.J.Naming.r b.ring c.agree.new.self.log
+    subst (λ es. IsBook g.J.Naming.ring g.J.Naming.n g.J.Naming.r c.agree.new.self.log
     b.options b.versions es) (sym (ap (λ m. m.entries) c.get_mut.follows.holds-at-none))
-    (subst (λ (a : Account). IsBook g.J.Naming.ring g.J.Naming.n g.J.Naming.r b.ring a.log b.options
+    (subst (λ (a : Account). IsBook g.J.Naming.ring g.J.Naming.n g.J.Naming.r a.log b.options
     b.versions c.make_part_of.new.keys.entries) (sym c.agree.ensures.log)
-    (book_reindexed g.J.Naming.ring g.J.Naming.n g.J.Naming.r b.ring b.ledger.log
+    (book_reindexed g.J.Naming.ring g.J.Naming.n g.J.Naming.r b.ledger.log
     b.options b.versions b.keys.entries c.self.invariant
     c.make_part_of.new.keys.entries c.make_part_of.ensures.same))
 
@@ -154,12 +154,12 @@ hold_in-requires-clause-may_hold g c =
 pub invariant_of-self-in-Err-hold_in : goal.invariant_of-self-in-Err-hold_in
 invariant_of-self-in-Err-hold_in g c =
     let b = c.self.inside in
-    let book = book_reindexed g.J.Naming.ring g.J.Naming.n g.J.Naming.r b.ring b.ledger.log
+    let book = book_reindexed g.J.Naming.ring g.J.Naming.n g.J.Naming.r b.ledger.log
     b.options b.versions b.keys.entries c.self.invariant
     c.make_part_of.new.keys.entries c.make_part_of.ensures.same in
     let present = subst IsSome (sym (ap option_copied_mut c.in-Some.is) ∙ c.get_mut.ensures.value)
     refl in
-    book_rewritten g.J.Naming.ring g.J.Naming.n g.J.Naming.r b.ring b.ledger.log b.options
+    book_rewritten g.J.Naming.ring g.J.Naming.n g.J.Naming.r b.ledger.log b.options
     b.versions c.make_part_of.new.keys.entries book
     c.key.result.now c.args.incoming.now.key c.key.ensures c.hold_in.new.part
     (c.get_mut.follows.lender c.hold_in.new.part).entries
@@ -204,7 +204,7 @@ invariant_of-self-2 g c =
     let b = c.self.inside in
     let row = c.args.incoming.now in
     let node = c.args.share.now.node in
-    let book = book_reindexed g.J.Naming.ring g.J.Naming.n g.J.Naming.r b.ring b.ledger.log
+    let book = book_reindexed g.J.Naming.ring g.J.Naming.n g.J.Naming.r b.ledger.log
     b.options b.versions b.keys.entries c.self.invariant
     c.make_part_of.new.keys.entries c.make_part_of.ensures.same in
     let made = subst (λ (a : Account). AreMadeOf (world_after (steps_of a.log)) row.key row.versions)
@@ -218,7 +218,7 @@ invariant_of-self-2 g c =
     ++ map untold (Hold (place_for (c.agree.ensures.share i).node c.args.home) row ∷ [])) in
     let present = subst IsSome (sym (ap option_copied_mut c.in-Some.is) ∙ c.get_mut.ensures.value)
     refl in
-    hold_book g.J.Naming.ring g.J.Naming.n g.J.Naming.r b.ring b.ledger.log b.options b.versions
+    hold_book g.J.Naming.ring g.J.Naming.n g.J.Naming.r b.ledger.log b.options b.versions
     c.make_part_of.new.keys.entries book
     node c.args.home row made c.requires.may_hold (omega (arith, counted, lengths, some))
     c.key.result.now c.key.ensures c.hold_in.new.part

@@ -25,9 +25,9 @@ invariant_of-self-in_err-entry g c =
     let same : c.entry.follows.lender-at-none.entries ≡ b.keys.entries =
     subst (λ r. OnErr r (c.entry.follows.lender-at-none.entries ≡ b.keys.entries))
     c.in_err-entry.was c.entry.follows.holds-at-none in
-    subst (λ es. IsBook g.J.Naming.ring g.J.Naming.n g.J.Naming.r b.ring c.agree.new.self.log
+    subst (λ es. IsBook g.J.Naming.ring g.J.Naming.n g.J.Naming.r c.agree.new.self.log
     b.options b.versions es) (sym same)
-    (subst (λ (a : Account). IsBook g.J.Naming.ring g.J.Naming.n g.J.Naming.r b.ring a.log b.options
+    (subst (λ (a : Account). IsBook g.J.Naming.ring g.J.Naming.n g.J.Naming.r a.log b.options
     b.versions b.keys.entries) (sym c.agree.ensures.log) c.self.invariant)
 
 pub issue_in-requires-clause-part : goal.issue_in-requires-clause-part
@@ -57,7 +57,7 @@ invariant_of-self-in_err-issue_in g c =
     let same : c.entry.follows.lender keys ≡ keys =
     subst (λ r. OnOk r (c.entry.follows.lender keys ≡ keys)) c.in_ok-entry.was
     (c.entry.follows.holds keys) in
-    book_rewritten g.J.Naming.ring g.J.Naming.n g.J.Naming.r b.ring b.ledger.log b.options
+    book_rewritten g.J.Naming.ring g.J.Naming.n g.J.Naming.r b.ledger.log b.options
     b.versions b.keys.entries c.self.invariant
     c.in_ok-of_part.of_part c.in_ok-copy.copy.key key_is c.issue_in.new.part _
     (λ q. let written = (c.in_ok-entry.ensures.update.0 c.issue_in.new.part).0 q in
@@ -76,7 +76,7 @@ receipt-requires g c =
     let steps_are = c.steps_of_issue-steps.ensures ∙ ap (λ m. issue_steps m c.args.home v) node_is in
     let log_is = ap (λ a. a.log) c.in_ok-issue_in.ensures.log
     ∙ (λ i. (c.agree.ensures.log i).log ++ map untold (steps_are i)) in
-    issue_receipt g.J.Naming.ring g.J.Naming.n g.J.Naming.r b.ring b.ledger.log b.options b.versions
+    issue_receipt g.J.Naming.ring g.J.Naming.n g.J.Naming.r b.ledger.log b.options b.versions
     b.keys.entries c.self.invariant
     node c.args.home v may.next may.counter_left c.requires.may_hold c.issue_in.new.ledger.log
     log_is
@@ -97,7 +97,7 @@ invariant_of-self-2 g c =
     let same : c.entry.follows.lender keys ≡ keys =
     subst (λ r. OnOk r (c.entry.follows.lender keys ≡ keys)) c.in_ok-entry.was
     (c.entry.follows.holds keys) in
-    issue_book g.J.Naming.ring g.J.Naming.n g.J.Naming.r b.ring b.ledger.log b.options b.versions
+    issue_book g.J.Naming.ring g.J.Naming.n g.J.Naming.r b.ledger.log b.options b.versions
     b.keys.entries c.self.invariant
     node c.args.home v may.next may.counter_left c.requires.may_hold may.versions_left may.room
     c.in_ok-of_part.of_part
@@ -120,7 +120,7 @@ returns-clause-issued g c =
     let b = c.self.inside in
     subst (λ s. version_made (world_of s) node v.key v.past v.value ≡ v) c.self.view_is
     (issue_makes layout b.ledger.log c.self.invariant.legal node c.args.home v may.next
-    (counter_few g.J.Naming.ring g.J.Naming.n g.J.Naming.r b.ring b.ledger.log b.options b.versions
+    (counter_few g.J.Naming.ring g.J.Naming.n g.J.Naming.r b.ledger.log b.options b.versions
     b.keys.entries c.self.invariant node c.args.home v may.next may.counter_left
     c.requires.may_hold)
     c.requires.may_hold)

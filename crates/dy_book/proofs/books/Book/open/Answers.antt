@@ -13,10 +13,9 @@ invariant_of-book g c =
     let log_is : c.in-Ok.opened.0.log ≡ [] = ap (λ a. a.log) c.in-Ok.ensures.log in
     let limits = c.has_limits.ensures.0 c.if-not-has_limits.false in
     let quorum = c.is_quorum.ensures.0 c.if-not-is_quorum.false in
-    subst (λ (log : List Entry). IsBook g.J.Naming.ring g.J.Naming.n g.J.Naming.r c.args.ring log
+    subst (λ (log : List Entry). IsBook g.J.Naming.ring g.J.Naming.n g.J.Naming.r log
     c.args.options 0 c.new.result.entries) (sym log_is)
     (record {
-      ring_is = c.requires.ring;
       n_is = c.requires.n;
       r_is = c.requires.r;
       limits = limits;

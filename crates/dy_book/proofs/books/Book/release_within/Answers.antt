@@ -69,7 +69,7 @@ returns-clause-share g c =
 pub invariant_of-self : goal.invariant_of-self
 invariant_of-self g c =
     let b = c.self.inside in
-    subst (λ (a : Account). IsBook g.J.Naming.ring g.J.Naming.n g.J.Naming.r b.ring a.log b.options
+    subst (λ (a : Account). IsBook g.J.Naming.ring g.J.Naming.n g.J.Naming.r a.log b.options
     b.versions b.keys.entries)
     (sym (c.in_err-node_steps.ensures.err.0 ∙ c.learn_receipts.ensures.log)) c.self.invariant
 
@@ -91,7 +91,7 @@ invariant_of-self-2 g c =
     let follow = releases_follow (layout_of ring n)
     (steps_of b.ledger.log) node rs each c.requires.once c.learn_receipts.ensures.hold in
     let room = subst (λ s. HasRoom s (length rs)) (sym c.self.view_is) c.requires.room in
-    release_book ring n g.J.Naming.r b.ring b.ledger.log b.options b.versions b.keys.entries
+    release_book ring n g.J.Naming.r b.ledger.log b.options b.versions b.keys.entries
     c.self.invariant node rs follow room c.give_up_all.new.keys.entries
     (subst (λ m. (w : World) → IsIndex w b.keys.entries →
     IsIndex (world_from w (release_steps m rs)) c.give_up_all.new.keys.entries)
