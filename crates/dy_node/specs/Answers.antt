@@ -1,5 +1,5 @@
 -- What a node answers to an ask.
-use Rattle.std.specs.Prelude.{◌≡◌, ℕ, ◌<◌, IsTrue, List, Option, None, Some}
+use Rattle.std.specs.Prelude.{◌≡◌, ℕ, ◌+◌, ◌<◌, IsTrue, List, length, Option, None, Some}
 use Rattle.dy_dots.specs.declared.faults.Fault.TheVariants.{OutOfMemory}
 use Rattle.dy_siblings.specs.Siblings.{Siblings, IsSameRow}
 use Rattle.dy_ring.specs.Rings.{Tokens}
@@ -27,7 +27,7 @@ pub record IsStored (old : NodeState) (b : BookParts) (new : NodeState) (c : Boo
   pub mode : new.mode ≡ old.mode
   pub waiting : new.waiting ≡ old.waiting
 
--- the row that is kept is fetched, by a step whose number is greater than this one
+-- the row that is kept is fetched, by the next step, whose number is greater than this one
 pub record IsFetched (old : NodeState) (b : BookParts) (new : NodeState) (c : BookParts) (home : ℕ)
     (key : List ℕ) (since : ℕ) (seen : Seen) : Type 0 where
   pub node : new ≡ old
@@ -36,6 +36,7 @@ pub record IsFetched (old : NodeState) (b : BookParts) (new : NodeState) (c : Bo
   pub home_is : seen.home ≡ home
   pub key_is : seen.key ≡ key
   pub row_is : IsSameRow seen.row (versions_at old.rooms home key)
+  pub at : seen.at ≡ length b.log + 1
   pub later : since < seen.at
 
 module _ {J : Type 0} where

@@ -22,5 +22,6 @@ returns-in-Ok-fetch-clause-done g c =
       home_is = c.in-Ok-fetch.ensures.home;
       key_is = c.in-Ok-fetch.ensures.key;
       row_is = c.in-Ok-fetch.ensures.row;
+      at = c.in-Ok-fetch.ensures.at;
       later = c.in-Ok-fetch.ensures.later;
     })
