@@ -1,13 +1,21 @@
 -- What a node gives is what is asked for: whatever its mode, its first answer fits, and a second one
 -- comes only after the news that nothing came; and what it begins has the version in its row.
-use Rattle.std.proofs.Common.{◌≡◌, ℕ, List, Bool, true, false, not, None, Some, Option, refl, sym}
-use Rattle.std.proofs.Common.{◌∙◌}
+use Rattle.std.proofs.Common.{◌≡◌, ℕ, List, [], ◌∷◌, ◌++◌, Bool, true, false, not, None, Some}
+use Rattle.std.proofs.Common.{Option, refl, sym, ◌∙◌, ⊎_elim}
 use Rattle.std.proofs.Common.{ap, subst, Result, Ok, Err, IfOk, IfSome, IsTrue, OnOk}
 use Rattle.std.specs.FinSet as set
 use Rattle.std.specs.List.{Contains}
+use Rattle.std.proofs.lemmas.List.Elements.{Contains-append_cases, Contains-append_left}
+use Rattle.std.proofs.lemmas.List.Elements.{Contains-append_right}
 use Rattle.dy_dots.specs.Dots.{DotSet}
 use Rattle.dy_dots.specs.declared.faults.Fault.{Fault}
+use Rattle.dy_siblings.specs.Siblings.{IsSameRow, merge}
 use Rattle.dy_siblings.specs.declared.versions.Version.{Version}
+use Rattle.dy_core.specs.Worlds.{Layout, row_at}
+use Rattle.dy_core.specs.Steps.{version_made}
+use Rattle.dy_core.specs.Logs.{IsLegal, world_after}
+use Rattle.dy_core.specs.declared.steps.Step.{Step}
+use Rattle.dy_core.proofs.Merging.{newest_same, same_row_on}
 use Rattle.dy_shares.specs.Shares.{NodePart, receipt_parts}
 use Rattle.dy_book.specs.Books.{BookParts}
 use Rattle.dy_node.specs.Answers.{AnsweredBy, IsDone, IsDown, IsPutOff, IsRepeated}
@@ -20,6 +28,15 @@ use Rattle.dy_node.specs.declared.begun.Begun.{Begun}
 use Rattle.dy_node.specs.declared.modes.Mode.{Mode}
 use Rattle.dy_node.specs.declared.modes.Mode.TheVariants.{Plain, Mute, Late, Repeat, Delay}
 use Rattle.dy_transport.specs.Asking.{IsAnswerTo, IsBegun}
+
+-- the same versions, beside the same others
+same_beside : (xs ys zs : List Version) → IsSameRow xs ys → IsSameRow (xs ++ zs) (ys ++ zs)
+same_beside xs ys zs same v = (
+  (λ h. ⊎_elim (λ l. Contains-append_left ys zs v ((same v).0 l))
+      (λ r. Contains-append_right ys zs v r) (Contains-append_cases xs zs v h)),
+  (λ h. ⊎_elim (λ l. Contains-append_left xs zs v ((same v).1 l))
+      (λ r. Contains-append_right xs zs v r) (Contains-append_cases ys zs v h)),
+)
 
 -- what is not false is true
 pub not_false : (b : Bool) → false ≡ not b → b ≡ true
@@ -176,21 +193,34 @@ module _ {J : Type 0} where
       subst (λ n. AreAnswers n ask first second) is
       (by_flag old.is_up ask old b new c first second refl down nothing up)
 
-  -- what is begun, from the version that was made
-  pub begun_fits : (node home : ℕ) (key : List ℕ) (context : DotSet) (value : Option (List ℕ))
-      (v : Version) (r : Result (Begun J) Fault) → v.value ≡ value →
+  -- what is begun, from the version that was made and from what was held
+  pub begun_fits : (layout : Layout) (node home : ℕ) (key : List ℕ) (context : DotSet)
+      (value : Option (List ℕ)) (log : List Step) (held : List Version) (v : Version)
+      (r : Result (Begun J) Fault) → IsLegal layout log →
+      v ≡ version_made (world_after log) node key context value →
+      IsSameRow held (row_at (world_after log) node home key) →
       OnOk r (IsTrue (set.is_subset context v.past)) → IfOk r (λ b. b.dot ≡ v.dot) →
-      IfOk r (λ b. b.row.key ≡ key) → IfOk r (λ b. Contains b.row.versions v) →
+      IfOk r (λ b. b.row.key ≡ key) →
+      IfOk r (λ b. IsSameRow b.row.versions (merge held (v ∷ []))) →
+      IfOk r (λ b. Contains b.row.versions v) →
       IfOk r (λ b. b.receipt ≡ receipt_parts key v.dot node home) →
-      IfOk r (λ b. IsBegun node home key context value b)
-  begun_fits node home key context value v (Ok b) stores follows dot row_key in_row receipt =
+      IfOk r (λ b. IsBegun layout node home key context value b)
+  begun_fits layout node home key context value log held v (Ok b) legal made holds follows dot
+      row_key row in_row receipt =
+      let row_at_node = row_at (world_after log) node home key in
       record {
-        receipt_is = receipt ∙ ap (λ d. receipt_parts key d node home) (sym dot);
-        key_is = row_key;
+        log = log;
+        legal = legal;
         version = v;
-        in_row = in_row;
-        dot_is = sym dot;
+        is_made = made;
         follows = follows;
-        value_is = stores;
+        dot_is = sym dot;
+        key_is = row_key;
+        row_is = same_row_on b.row.versions (merge held (v ∷ [])) (merge row_at_node (v ∷ [])) row
+            (newest_same (held ++ v ∷ []) (row_at_node ++ v ∷ [])
+            (same_beside held row_at_node (v ∷ []) holds));
+        in_row = in_row;
+        receipt_is = receipt ∙ ap (λ d. receipt_parts key d node home) (sym dot);
       }
-  begun_fits node home key context value v (Err f) stores follows dot row_key in_row receipt = tt
+  begun_fits layout node home key context value log held v (Err f) legal made holds follows dot
+      row_key row in_row receipt = tt

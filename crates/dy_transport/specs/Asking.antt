@@ -1,10 +1,14 @@
 -- What is asked of a node, and which answers fit.
-use Rattle.std.specs.Prelude.{◌≡◌, ◌<◌, ℕ, IsTrue, List, Option}
+use Rattle.std.specs.Prelude.{◌≡◌, ◌<◌, ◌∷◌, [], ℕ, IsTrue, List, Option}
 use Rattle.std.specs.FinSet as set
 use Rattle.std.specs.List.{Contains}
 use Rattle.dy_dots.specs.Dots.{DotSet}
+use Rattle.dy_siblings.specs.Siblings.{IsSameRow, merge}
 use Rattle.dy_siblings.specs.declared.versions.Version.{Version}
-use Rattle.dy_core.specs.Logs.{Answer as SeenParts}
+use Rattle.dy_core.specs.Worlds.{Layout, row_at}
+use Rattle.dy_core.specs.Steps.{version_made}
+use Rattle.dy_core.specs.Logs.{Answer as SeenParts, IsLegal, world_after}
+use Rattle.dy_core.specs.declared.steps.Step.{Step}
 use Rattle.dy_shares.specs.Shares.{receipt_parts}
 use Rattle.dy_book.specs.Books.{receipts_of}
 use Rattle.dy_node.specs.declared.asks.Ask.{Ask}
@@ -39,18 +43,23 @@ module _ {J : Type 0} where
   abbrev pub asked : ℕ → Ask J → ℕ → Asked
   asked to a read = record { to = to; home = home_of a; what = what_of a; read = read }
 
-  -- what a begin at the node for the home gives: the row has a version of the dot with this value,
-  -- which has each dot of the context in its past; and the receipt is of that dot
-  pub record IsBegun (node home : ℕ) (key : List ℕ) (context : DotSet) (value : Option (List ℕ))
-      (b : Begun J) : Type 0
+  -- what a begin at the node for the home gives behind a legal log: the version that the node makes
+  -- there, whose past is the histories, together, of the versions that the context names; what the
+  -- node held for the home, merged with it; and the receipt of its dot
+  pub record IsBegun (layout : Layout) (node home : ℕ) (key : List ℕ) (context : DotSet)
+      (value : Option (List ℕ)) (b : Begun J) : Type 0
     where
-      pub receipt_is : b.receipt ≡ receipt_parts key b.dot node home
-      pub key_is : b.row.key ≡ key
+      pub log : List Step
+      pub legal : IsLegal layout log
       pub version : Version
-      pub in_row : Contains b.row.versions version
-      pub dot_is : version.dot ≡ b.dot
+      pub is_made : version ≡ version_made (world_after log) node key context value
       pub follows : IsTrue (set.is_subset context version.past)
-      pub value_is : version.value ≡ value
+      pub dot_is : version.dot ≡ b.dot
+      pub key_is : b.row.key ≡ key
+      pub row_is : IsSameRow b.row.versions
+          (merge (row_at (world_after log) node home key) (version ∷ []))
+      pub in_row : Contains b.row.versions version
+      pub receipt_is : b.receipt ≡ receipt_parts key b.dot node home
 
   -- an answer of a node to what it was asked for a home: a receipt for each version of the row, or
   -- a fetch of that key after so many steps; that it is down, that nothing came and a refusal fit

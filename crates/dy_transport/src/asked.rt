@@ -47,8 +47,8 @@ impl Asked {
     }
 }
 
-// The home that an ask is for.
-pub(crate) fn home_asked<J: Naming>(ask: &Ask<'_, J>) -> NodeId
+/// The home that an ask is for. Takes no memory.
+pub fn home_asked<J: Naming>(ask: &Ask<'_, J>) -> NodeId
     ensures { result ≡ home_of ask.now }
 {
     match ask {

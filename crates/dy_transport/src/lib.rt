@@ -12,7 +12,7 @@ mod trails;
 mod transports;
 mod tries;
 
-pub use asked::{Asked, What};
+pub use asked::{Asked, What, home_asked};
 pub use directs::Direct;
 pub use kinds::{AnswerKind, AnswerRead, AnswerVec};
 pub use lines::{Line, Waiting};

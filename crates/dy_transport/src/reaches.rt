@@ -1,6 +1,7 @@
 ghost use Rattle.std.specs.Prelude.{◌≡◌, true, IsTrue, IfOk, IfErr, IfSome, IsOkUnless};
 ghost use Rattle.std.specs.List.{All};
 ghost use Rattle.dy_preference.specs.Preferences.{homes_of, may_hold};
+ghost use Rattle.dy_core.specs.Worlds.{layout_of};
 ghost use Rattle.dy_node.specs.Answers.{AnsweredBy, MayAsk};
 ghost use Rattle.dy_node.specs.Nodes.{AreForHomes, AreForOthers, hints_of};
 ghost use Rattle.dy_node.specs.declared.asks.Answer.TheVariants.{NoAnswer};
@@ -51,9 +52,13 @@ fn begin_by<J: Naming>(
 ) -> Result<Begun<J>, Fault>
     requires number { held.old.part.node ≡ node }
     requires may_hold { IsTrue (may_hold (homes_of J.ring J.n key.now) node home) }
-    ensures begun { IfOk result (λ b. IsBegun node home key.now context.now value b) }
+    ensures begun { IfOk result (λ b.
+        IsBegun (layout_of J.ring J.n) node home key.now context.now value b) }
     ensures refused { IfErr result IsOfBegin }
 {
+    // Bring the clauses that the book's log is legal, and that the node keeps what it says.
+    held.agree(book);
+    book.log_is_legal();
     held.begin(book, home, key, context, value)
 }
 
@@ -111,8 +116,8 @@ impl<'a, J: Naming> Reach<'a, J> {
         value: &Option<Value>,
     ) -> Result<Begun<J>, Fault>
         requires { IsTrue (may_hold (homes_of J.ring J.n key.now) node home) }
-        ensures begun { IfOk result
-            (λ b. IsBegun node home key.now context.now value.now b) }
+        ensures begun { IfOk result (λ b.
+            IsBegun (layout_of J.ring J.n) node home key.now context.now value.now b) }
         ensures refused { IfErr result IsOfBegin }
     {
         let Some(place) = self.nodes.get(usize::from(node.number())) else {

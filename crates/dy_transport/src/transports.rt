@@ -3,6 +3,7 @@ ghost use Rattle.std.specs.Prelude.{IsTrue, IfOk, IfErr, OnOk, OnErr, IfNone, If
 ghost use Rattle.std.specs.List.{All, IsDistinct};
 ghost use Rattle.dy_dots.specs.declared.dots.Dot.{Dot as DotParts};
 ghost use Rattle.dy_preference.specs.Preferences.{homes_of, may_hold};
+ghost use Rattle.dy_core.specs.Worlds.{layout_of};
 ghost use Rattle.dy_book.specs.Books.{AreOf};
 ghost use Rattle.dy_node.specs.Answers.{MayAsk};
 ghost use Rattle.dy_node.specs.Nodes.{AreForHomes, AreForOthers};
@@ -60,7 +61,8 @@ pub trait Transport<J: Naming> {
     ) -> Result<Begun<J>, Fault>
         requires room { length (told self.old).tries < (told self.old).room + SPARE_TRIES }
         requires may_hold { IsTrue (may_hold (homes_of J.ring J.n key.now) node home) }
-        ensures begun { IfOk result (λ b. IsBegun node home key.now context.now value.now b) }
+        ensures begun { IfOk result (λ b.
+            IsBegun (layout_of J.ring J.n) node home key.now context.now value.now b) }
         ensures refused { IfErr result IsOfBegin }
         ensures told { told self.new ≡ with_try (told self.old)
             (Begin node home (snapshot_of key.now) (snapshot_of context.now)

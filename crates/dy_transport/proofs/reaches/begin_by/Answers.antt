@@ -1,14 +1,27 @@
-use Rattle.std.proofs.Common.{refl, subst, IfOk}
+use Rattle.std.proofs.Common.{◌∙◌, ap, refl, subst, sym, IfOk}
+use Rattle.dy_core.specs.Worlds.{layout_of}
+use Rattle.dy_book.specs.Books.{BookParts, world_of}
+use Rattle.dy_shares.specs.Shares.{steps_of}
+use Rattle.dy_node.specs.Nodes.{HoldsAs, NodeState}
 use Rattle.dy_transport.specs.Asking.{IsBegun}
 use Rattle.dy_transport.proofs.Reached.{begun_fits}
 use Rattle.dy_transport.proofs.reaches.begin_by.Goals as goal
 
--- the version is the one that the node made
+-- the version is the one that the node made, and the row what the log shows it to hold
 pub returns-clause-begun : goal.returns-clause-begun
 returns-clause-begun g c =
+    let layout = layout_of g.J.Naming.ring g.J.Naming.n in
+    let key = c.args.key.now in
+    let held = c.agree.new.self in
+    let book = c.agree.new.book in
+    let holds : HoldsAs (world_of book) held =
+    subst (λ (b : BookParts). HoldsAs (world_of b) held) (sym c.agree.ensures.book)
+    (subst (λ (n : NodeState). HoldsAs (world_of c.args.book.now) n) (sym c.agree.ensures.node)
+    c.agree.ensures.holds) in
     subst (λ n. IfOk c.begin.result
-    (λ b. IsBegun n c.args.home c.args.key.now c.args.context.now c.args.value b))
-    c.requires.number
-    (begun_fits _ c.args.home c.args.key.now c.args.context.now c.args.value _ c.begin.result refl
-    c.begin.ensures.follows c.begin.ensures.dot c.begin.ensures.key c.begin.ensures.in_row
-    c.begin.ensures.receipt)
+    (λ b. IsBegun layout n c.args.home key c.args.context.now c.args.value b))
+    (ap (λ (n : NodeState). n.part.node) c.agree.ensures.node ∙ c.requires.number)
+    (begun_fits layout held.part.node c.args.home key c.args.context.now c.args.value
+    (steps_of book.log) _ _ c.begin.result c.log_is_legal.ensures refl (holds c.args.home key)
+    c.begin.ensures.follows c.begin.ensures.dot c.begin.ensures.key c.begin.ensures.row
+    c.begin.ensures.in_row c.begin.ensures.receipt)

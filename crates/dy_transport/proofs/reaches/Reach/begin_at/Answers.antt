@@ -1,5 +1,6 @@
 use Rattle.std.proofs.Common.{◌==◌, subst, IfOk}
 use Rattle.std.proofs.lemmas.Bool.{eqb-true}
+use Rattle.dy_core.specs.Worlds.{layout_of}
 use Rattle.dy_transport.specs.Asking.{IsBegun}
 use Rattle.dy_transport.proofs.Reached.{not_false}
 use Rattle.dy_transport.proofs.reaches.Reach.begin_at.Goals as goal
@@ -15,5 +16,5 @@ begin_by-requires-clause-number g c =
 pub returns-clause-begun : goal.returns-clause-begun
 returns-clause-begun g c =
     subst (λ v. IfOk c.begin_by.result
-    (λ b. IsBegun c.args.node c.args.home c.args.key.now c.args.context.now v b))
+    (λ b. IsBegun (layout_of g.J.Naming.ring g.J.Naming.n) c.args.node c.args.home c.args.key.now c.args.context.now v b))
     c.in_ok-copy.ensures.value c.begin_by.ensures.begun
