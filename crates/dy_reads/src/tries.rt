@@ -1,5 +1,6 @@
 ghost use Rattle.std.specs.Prelude.{◌≡◌, []};
 ghost use Rattle.dy_preference.specs.Preferences.{home_for, preference_of};
+ghost use Rattle.dy_core.specs.Worlds.{layout_of};
 ghost use Rattle.dy_transport.specs.Asking.{IsBegun, IsSeenAt};
 ghost use Rattle.dy_transport.specs.Refusals.{IsOfBegin, IsOfNode};
 ghost use Rattle.dy_transport.specs.Told.{Told};
@@ -30,7 +31,8 @@ pub fn begin_somewhere<J: Naming, T: Transport<J>, R: Wait>(
     ensures tries { TriesEnd (begin_try list.now key.now context.now value.now) IsOfBegin
         list.now.nodes (T.told transport.new).tries result }
     ensures begun { IfAt result (λ c b.
-        IsBegun c (home_for (homes_in list.now) c) key.now context.now value.now b) }
+        IsBegun (layout_of J.ring J.n) c (home_for (homes_in list.now) c) key.now context.now
+        value.now b) }
     ensures asks { (T.told transport.new).asks ≡ (T.told transport.old).asks }
     ensures replies { (T.told transport.new).replies ≡ (T.told transport.old).replies }
     ensures room { (T.told transport.new).room ≡ (T.told transport.old).room }
