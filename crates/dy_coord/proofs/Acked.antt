@@ -61,6 +61,21 @@ module _ {J : Type 0} where
       (inr (inr (can, none, same, why))) =
       if_err (IsPutDone before after key w) result why.0 why.1
 
+  -- an Ok has the dot of the put
+  pub ends_dot : (key : List ℕ) (dot : Dot) (w : ℕ) (added : List ReceiptParts)
+      (answers : List AnswerRead) (begins tries : List (Try J)) (before after : SessionPart)
+      (result : Result (PutDone J) PutFault)
+      → EndsAfter key dot w added answers begins tries before after result
+      → IfOk result (λ done. done.dot ≡ dot)
+  ends_dot key dot w added answers begins tries before after result (inl (spent, last, ok)) =
+      let P : PutDone J → Type 0 = λ done. done.dot ≡ dot in
+      subst (λ r. IfOk r P) (sym ok.result_is) ok.dot_is
+  ends_dot key dot w added answers begins tries before after result (inr (inl (same, why))) =
+      if_err (λ done. done.dot ≡ dot) result why.0 why.1
+  ends_dot key dot w added answers begins tries before after result
+      (inr (inr (can, none, same, why))) =
+      if_err (λ done. done.dot ≡ dot) result why.0 why.1
+
   ends_err : (key : List ℕ) (dot : Dot) (w : ℕ) (added : List ReceiptParts)
       (answers : List AnswerRead) (begins tries : List (Try J)) (before after : SessionPart)
       (result : Result (PutDone J) PutFault)

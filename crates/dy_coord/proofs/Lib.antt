@@ -1,4 +1,5 @@
 pub mod Acked
+pub mod Beside
 pub mod ForHomes
 pub mod Getting
 pub mod Holders

@@ -9,6 +9,7 @@ use Rattle.dy_dots.specs.declared.faults.Fault.{Fault}
 use Rattle.dy_dots.specs.declared.faults.Fault.TheVariants.{OutOfMemory, NoNode, NotEnough}
 use Rattle.dy_dots.specs.declared.faults.Fault.TheVariants.{BadQuorum}
 use Rattle.dy_preference.specs.Preferences.{Preferred, home_for}
+use Rattle.dy_core.specs.Worlds.{Layout}
 use Rattle.dy_shares.specs.Shares.{ReceiptParts, SessionPart}
 use Rattle.dy_quorum.specs.Tallies.{CanChoose, IsChoice}
 use Rattle.dy_node.specs.declared.begun.Begun.{Begun}
@@ -68,7 +69,8 @@ module _ {J : Type 0} where
       × PutRefuses result (Some dot) answers (λ f. f ≡ NotEnough))
 
   -- what began at a coordinator: the first node that was not down made the version, for the home
-  -- that it holds for; its whole row was asked to be held; and how it ended
+  -- that it holds for, behind a log of a layout with these homes; its whole row was asked to be
+  -- held; and how it ended
   pub record IsPut (list : Preferred) (w : ℕ) (key : List ℕ) (context : DotSet)
       (value : Option (List ℕ)) (before after : SessionPart) (told : Told J)
       (result : Result (PutDone J) PutFault) (c : ℕ) (begun : Begun J) : Type 0 where
@@ -76,7 +78,9 @@ module _ {J : Type 0} where
     pub answers : List AnswerRead
     pub begins : List (Try J)
     pub begins_are : TriesAt (begin_try list key context value) list.nodes begins c (Ok begun)
-    pub begun_is : IsBegun c (home_for (homes_in list) c) key context value begun
+    pub layout : Layout
+    pub homes_are : layout.homes key ≡ homes_in list
+    pub begun_is : IsBegun layout c (home_for (homes_in list) c) key context value begun
     pub spreads : Spreads list begun.row begun.dot c told added answers
     pub ends :
         EndsAfter key begun.dot w added answers begins told.tries before after result

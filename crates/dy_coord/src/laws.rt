@@ -1,20 +1,24 @@
 //! The laws of puts and gets. Each is a function that does nothing, and its contract is the law.
-ghost use Rattle.std.specs.Prelude.{◌≡◌, ◌<◌, ◌≤◌, ◌↔◌, ℕ, List, Option, Result, Err, IfErr};
+ghost use Rattle.std.specs.Prelude.{◌≡◌, ◌<◌, ◌≤◌, ◌↔◌, ℕ, List, Option, Result, Ok, Err, IfErr};
 ghost use Rattle.std.specs.Prelude.{IsTrue, length};
-ghost use Rattle.std.specs.List.{All};
+ghost use Rattle.std.specs.List.{All, Contains};
 ghost use Rattle.std.specs.FinSet as set;
 ghost use Rattle.dy_dots.specs.Dots.{DotSet};
 ghost use Rattle.dy_dots.specs.declared.dots.Dot.{Dot};
 ghost use Rattle.dy_dots.specs.declared.faults.Fault.TheVariants.{NotEnough};
 ghost use Rattle.dy_siblings.specs.Siblings.{covers, newest};
-ghost use Rattle.dy_siblings.specs.Versions.{history_of};
-ghost use Rattle.dy_preference.specs.Preferences.{Preferred, is_home};
-ghost use Rattle.dy_core.specs.Logs.{AreOfHomes, rows_of};
+ghost use Rattle.dy_siblings.specs.Versions.{are_concurrent, history_of, in_history};
+ghost use Rattle.dy_siblings.specs.declared.versions.Version.{Version};
+ghost use Rattle.dy_preference.specs.Preferences.{Preferred, home_for, is_home};
+ghost use Rattle.dy_core.specs.Worlds.{row_at};
+ghost use Rattle.dy_core.specs.Logs.{AreOfHomes, rows_of, world_after};
 ghost use Rattle.dy_shares.specs.Shares.{SessionPart};
 ghost use Rattle.dy_quorum.specs.Gatherings.{first_answers};
 ghost use Rattle.dy_node.specs.declared.begun.Begun.{Begun};
 ghost use Rattle.dy_transport.specs.Refusals.{IsOfStep};
 ghost use Rattle.dy_transport.specs.Told.{Told};
+ghost use Rattle.dy_reads.specs.Lists.{homes_in};
+ghost use Rattle.dy_coord.specs.Following.{IsNamed, IsUnnamed};
 ghost use Rattle.dy_coord.specs.Puts.{AreStoredFor};
 ghost use Rattle.dy_coord.specs.PutEnds.{IsPut};
 ghost use Rattle.dy_coord.specs.Gets.{IsGot};
@@ -60,6 +64,43 @@ pub fn writes_follow_reads<J: Naming>()
         (put : IsPut list w key done.context value before after told result c begun) →
         All (λ v. IsTrue (set.is_subset (history_of v) put.begun_is.version.past))
         done.row.versions }
+{}
+
+/// A put follows exactly what its context names. A dot lies in the past of its version exactly where
+/// it lies in the history of a version of the key that the context names. So each version of the
+/// key that the context does not name, and that no named one follows, is concurrent with the put's.
+/// Where the coordinator held it, it stays in the row that the put spreads.
+pub fn puts_follow_what_they_name<J: Naming>()
+    ensures ok { (list : Preferred) (w : ℕ) (key : List ℕ) (context : DotSet)
+        (value : Option (List ℕ)) (before after : SessionPart) (told : Told J)
+        (result : Result (PutDone J) PutFault) (c : ℕ) (begun : Begun J) →
+        (put : IsPut list w key context value before after told result c begun) →
+        (done : PutDone J) → result ≡ Ok done → put.begun_is.version.dot ≡ done.dot }
+    ensures follows { (list : Preferred) (w : ℕ) (key : List ℕ) (context : DotSet)
+        (value : Option (List ℕ)) (before after : SessionPart) (told : Told J)
+        (result : Result (PutDone J) PutFault) (c : ℕ) (begun : Begun J) →
+        (put : IsPut list w key context value before after told result c begun) →
+        (d : Dot) → IsTrue (set.contains put.begun_is.version.past d)
+        ↔ ((v : Version) × IsNamed (world_after put.begun_is.log).versions key context v
+        × IsTrue (in_history v d)) }
+    ensures nothing { (list : Preferred) (w : ℕ) (key : List ℕ) (context : DotSet)
+        (value : Option (List ℕ)) (before after : SessionPart) (told : Told J)
+        (result : Result (PutDone J) PutFault) (c : ℕ) (begun : Begun J) →
+        (put : IsPut list w key context value before after told result c begun) →
+        context ≡ set.empty → put.begun_is.version.past ≡ set.empty }
+    ensures concurrent { (list : Preferred) (w : ℕ) (key : List ℕ) (context : DotSet)
+        (value : Option (List ℕ)) (before after : SessionPart) (told : Told J)
+        (result : Result (PutDone J) PutFault) (c : ℕ) (begun : Begun J) →
+        (put : IsPut list w key context value before after told result c begun) →
+        (u : Version) → IsUnnamed (world_after put.begun_is.log).versions key context u →
+        IsTrue (are_concurrent u put.begun_is.version) }
+    ensures siblings { (list : Preferred) (w : ℕ) (key : List ℕ) (context : DotSet)
+        (value : Option (List ℕ)) (before after : SessionPart) (told : Told J)
+        (result : Result (PutDone J) PutFault) (c : ℕ) (begun : Begun J) →
+        (put : IsPut list w key context value before after told result c begun) →
+        (u : Version) → IsUnnamed (world_after put.begun_is.log).versions key context u →
+        Contains (row_at (world_after put.begun_is.log) c (home_for (homes_in list) c) key) u →
+        Contains begun.row.versions u }
 {}
 
 /// A get gives what its session's list has. Its context has a dot exactly where the versions of the

@@ -1,6 +1,7 @@
 -- What was begun is spread, and then it is decided: the pieces of one put are put together.
 use Rattle.std.proofs.Common.{◌≡◌, ℕ, List, arith, sym, ◌∙◌, refl, subst, inl, inr}
 use Rattle.dy_preference.specs.Preferences.{home_for, preference_of}
+use Rattle.dy_core.specs.Worlds.{layout_of}
 use Rattle.dy_shares.specs.Shares.{ReceiptParts, receipt_parts}
 use Rattle.dy_book.specs.Books.{AreOf}
 use Rattle.dy_transport.specs.Told.{Told}
@@ -126,6 +127,8 @@ returns-in-At-clause-runs g c =
         answers = c.spread.new.answers.items;
         begins = (g.T.Transport.told c.begin_somewhere.new.transport).tries;
         begins_are = c.in-At.ensures.tries;
+        layout = layout_of g.J.Naming.ring g.J.Naming.n;
+        homes_are = rw (c.requires.nodes, c.requires.homes) refl;
         begun_is = c.in-At.ensures.begun;
         spreads = subst P (sym c.conclude.ensures.told) spreads;
         ends = rw (sym c.spread.ensures.tries) c.conclude.ensures.ends;
