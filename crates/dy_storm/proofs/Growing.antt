@@ -1,6 +1,6 @@
 -- What turns tell their session: each one get more at most, and one ack more at most.
 use Rattle.std.proofs.Common.{◌≡◌, ◌+◌, ◌≤◌, ◌∷◌, [], List, ℕ, zero, suc, length, length-append}
-use Rattle.std.proofs.Common.{Option, Some, None, Result, ap, arith, inl, inr}
+use Rattle.std.proofs.Common.{Bool, Option, Some, None, Result, ap, arith, inl, inr}
 use Rattle.std.specs.Prelude.{unwrap_or}
 use Rattle.std.specs.FinSet as set
 use Rattle.dy_dots.specs.Dots.{DotSet}
@@ -91,11 +91,11 @@ put_turn J list key context value before after (inr same) = unchanged before aft
 
 -- and of what it gets
 get_turn : (J : Type 0) (list : Preferred) (r : ℕ) (key : List ℕ) (context : Option DotSet)
-    (before after : SessionPart) → IsGetOf J list r key context before after →
-    Grows before after 1 0
-get_turn J list r key None before after same = unchanged before after 1 0 same
-get_turn J list r key (Some context) before after got =
-    let heard = got.2.heard in (
+    (before after : SessionPart) (mending : Told J) (is_mended : Bool)
+    → IsGetOf J list r key context before after mending is_mended → Grows before after 1 0
+get_turn J list r key None before after mending is_mended same = unchanged before after 1 0 same
+get_turn J list r key (Some context) before after mending is_mended got =
+    let heard = got.2.0.heard in (
       omega (
         arith,
         ap (λ (s : SessionPart). length s.gets) heard,
@@ -110,11 +110,11 @@ get_turn J list r key (Some context) before after got =
     )
 
 -- a turn tells one get at most, and one ack
-turn_grows : (s : Setting) (key value : List ℕ) (before after : SessionPart)
-    → IsTurnOf s key value before after → Grows before after 1 1
-turn_grows s key value before after t =
+turn_grows : (s : Setting) (key value : List ℕ) (before after : SessionPart) (is_mended : Bool)
+    → IsTurnOf s key value before after is_mended → Grows before after 1 1
+turn_grows s key value before after is_mended t =
     let list = list_of s.ring s.n key in
-    let got = get_turn s.book list s.r key t.context before t.between t.gets in
+    let got = get_turn s.book list s.r key t.context before t.between t.mending is_mended t.gets in
     let put = put_turn s.book list key (unwrap_or t.context set.empty) value t.between after t.puts in
     (omega (arith, got.0, put.0), omega (arith, got.1, put.1))
 
@@ -124,7 +124,7 @@ pub turns_tell : (s : Setting) (generator : Lcg) (client turns : ℕ) (session :
     (length session.gets ≤ turns) × (length session.acks ≤ turns)
 turns_tell s generator client zero session untold =
     (omega (arith, untold.1), omega (arith, untold.0))
-turns_tell s generator client (suc turns) session (before, are, turn) =
+turns_tell s generator client (suc turns) session (before, are, (is_mended, turn)) =
     let few = turns_tell s generator client turns before are in
-    let more = turn_grows s _ _ before session turn in
+    let more = turn_grows s _ _ before session is_mended turn in
     (omega (arith, few.0, more.0), omega (arith, few.1, more.1))

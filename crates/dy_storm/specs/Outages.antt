@@ -1,11 +1,11 @@
 -- What fails next in a storm.
-use Rattle.std.specs.Prelude.{◌≡◌, ◌⊎◌, ℕ, ◌%◌}
+use Rattle.std.specs.Prelude.{◌≡◌, ℕ, ◌%◌, true, false}
 use Rattle.dy_node.specs.declared.modes.Mode.{Mode}
 use Rattle.dy_node.specs.declared.modes.Mode.TheVariants.{Plain, Mute, Late, Repeat}
 use Rattle.rand_pcg.specs.Lcg.{Lcg}
 use Rattle.rand_pcg.specs.Pcg.{pcg32}
 use Rattle.dy_storm.specs.declared.events.Event.{Event}
-use Rattle.dy_storm.specs.declared.events.Event.TheVariants.{Down, Up, Handoff, SetMode}
+use Rattle.dy_storm.specs.declared.events.Event.TheVariants.{SetUp, Handoff, SetMode}
 use Rattle.dy_storm.specs.declared.events.Outage.{Outage}
 
 -- of four, the mode of this number
@@ -21,8 +21,8 @@ IsModeDrawn before mode after =
 
 -- the next word picks what happens to a node, and the one behind it a mode where that is it
 pub record IsEventDrawn (before : Lcg) (event : Event) (after : Lcg) : Type 0 where
-  pub down : (pcg32 before).0 % 4 ≡ 0 → (event ≡ Down) × (after ≡ (pcg32 before).1)
-  pub up : (pcg32 before).0 % 4 ≡ 1 → (event ≡ Up) × (after ≡ (pcg32 before).1)
+  pub down : (pcg32 before).0 % 4 ≡ 0 → (event ≡ SetUp false) × (after ≡ (pcg32 before).1)
+  pub up : (pcg32 before).0 % 4 ≡ 1 → (event ≡ SetUp true) × (after ≡ (pcg32 before).1)
   pub handoff : (pcg32 before).0 % 4 ≡ 2 → (event ≡ Handoff) × (after ≡ (pcg32 before).1)
   pub mode : (pcg32 before).0 % 4 ≡ 3 →
       (mode : Mode) × (event ≡ SetMode mode) × IsModeDrawn (pcg32 before).1 mode after

@@ -30,7 +30,8 @@ session_lines s = flat_map (get_line s.0) s.1.gets
 abbrev pub all_gets : List SessionPart → List ℕ
 all_gets tellings = flat_map session_lines (enumerate_from 0 tellings)
 
--- where steps are wanted: the cluster, on a ring with these tokens, its steps, and these of its gets
+-- where steps are wanted: the cluster, on a ring with these tokens, its steps, and these of its
+-- gets
 abbrev pub trace_lines : Bool → List (ℕ × ℕ) → Audit → List ℕ → List ℕ
 trace_lines is_wanted tokens a gets =
     if is_wanted then cluster_lines 3 2 2 tokens ++ step_lines a ++ gets else codes ""

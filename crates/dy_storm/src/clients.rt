@@ -1,8 +1,12 @@
-ghost use Rattle.std.specs.Prelude.{◌≡◌};
+ghost use Rattle.std.specs.Prelude.{◌≡◌, ◌+◌, ◌%◌, ◌^◌};
+ghost use Rattle.dy_cluster.specs.Settings.{setting};
+ghost use Rattle.dy_cluster.specs.Tellings.{IsUntold};
+ghost use Rattle.dy_storm.specs.Seeds.{generator_of};
+ghost use Rattle.dy_storm.specs.Turns.{AreTurns};
 
 use crate::outages::Outages;
 use crate::plans::Storm;
-use crate::turns::play;
+use crate::turns::Player;
 use dy_cluster::{Client, Connection, Naming, Transport};
 use dy_draws::draw;
 use rand_pcg::Lcg64Xsh32;
@@ -30,18 +34,40 @@ impl Clients {
             outages: Outages::new(plan),
         }
     }
+
+    // Makes all turns of the client, each of a key that it draws.
+    fn make_turns<J: Naming, T: Transport<J>, R: Wait>(
+        &self,
+        rt: &R,
+        alloc: Global,
+        player: &mut Player,
+        connection: &mut Connection<'_, J, T>,
+    )
+        requires none { player.old.turns ≡ 0 }
+        requires untold { IsUntold connection.old.session }
+        ensures told { AreTurns (setting J J.ring J.n J.r)
+            (generator_of ((self.now.plan.seed + player.old.client) % 2 ^ 64)) player.old.client
+            self.now.plan.puts connection.new.session }
+        ensures turns { player.new.turns ≡ self.now.plan.puts }
+    {
+        let seed = self.plan.seed.wrapping_add(player.client as u64);
+        let mut generator = Lcg64Xsh32::seed_from_u64(seed);
+        for _ in 0..self.plan.puts {
+            let key = draw(&mut generator, KEYS);
+            player.play(rt, alloc, connection, key);
+            if self.plan.faults {
+                self.outages.rounds.count(rt);
+            }
+        }
+    }
 }
 
 impl Client for Clients {
-    ghost use Rattle.std.specs.Prelude.{◌+◌, ◌%◌, ◌^◌};
-    ghost use Rattle.dy_storm.specs.Seeds.{generator_of};
-    ghost use Rattle.dy_storm.specs.Turns.{AreTurns};
-
     ghost told = { λ setting clients number telling.
         AreTurns setting (generator_of ((clients.plan.seed + number) % 2 ^ 64)) number
         clients.plan.puts telling };
 
-    /// Makes its turns, each of a key that it draws. May wait for answers and locks.
+    /// Makes its turns. May wait for answers and locks.
     fn run<J: Naming, T: Transport<J>, R: Wait>(
         &self,
         rt: &R,
@@ -49,13 +75,6 @@ impl Client for Clients {
         number: usize,
         connection: &mut Connection<'_, J, T>,
     ) {
-        let mut generator = Lcg64Xsh32::seed_from_u64(self.plan.seed.wrapping_add(number as u64));
-        for turn in 0..self.plan.puts {
-            let key = draw(&mut generator, KEYS);
-            play(rt, alloc, connection, key, number, turn);
-            if self.plan.faults {
-                self.outages.rounds.count(rt);
-            }
-        }
+        self.make_turns(rt, alloc, &mut Player::new(number), connection);
     }
 }

@@ -13,8 +13,7 @@ const NODES: u32 = 5;
 /// What a node does next: it goes down, comes up, hands over, or does something else with asks.
 #[derive(Clone, Copy, Debug, PartialEq, Eq)]
 pub(crate) enum Event {
-    Down,
-    Up,
+    SetUp(bool),
     Handoff,
     SetMode(Mode),
 }
@@ -40,8 +39,8 @@ fn next_event(generator: &mut Lcg64Xsh32) -> Event
     ensures { IsEventDrawn generator.old result generator.new }
 {
     match draw(generator, 4) {
-        0 => Event::Down,
-        1 => Event::Up,
+        0 => Event::SetUp(false),
+        1 => Event::SetUp(true),
         2 => Event::Handoff,
         _ => Event::SetMode(mode_of(draw(generator, 4))),
     }

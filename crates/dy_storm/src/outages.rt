@@ -1,5 +1,5 @@
 // What fails in a storm: what one more thread does beside the clients.
-ghost use Rattle.std.specs.Prelude.{◌≡◌, ◌+◌, ◌%◌, ◌^◌};
+ghost use Rattle.std.specs.Prelude.{◌≡◌, ◌≢◌, ◌+◌, ◌%◌, ◌^◌};
 ghost use Rattle.dy_storm.specs.Seeds.{generator_of};
 
 use crate::events::{Event, Outage, next_outage};
@@ -78,13 +78,14 @@ fn disturb<J: Naming, R: Wait>(
     cluster: &Cluster<J>,
     post: &mut Post<J>,
     next: Outage,
-) -> usize {
+) -> usize
+    ensures { next.event ≢ Event.Handoff → result ≡ 0 }
+{
     let Some(node) = cluster.node(next.node) else {
         return 0;
     };
     match next.event {
-        Event::Down => cluster.set_up(rt, node, false),
-        Event::Up => cluster.set_up(rt, node, true),
+        Event::SetUp(is_up) => cluster.set_up(rt, node, is_up),
         Event::SetMode(mode) => cluster.fault(rt, node, mode),
         Event::Handoff => {
             // A pass at a node that is down, or without memory, hands nothing over.

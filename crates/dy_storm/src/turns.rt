@@ -1,4 +1,5 @@
 // What a client does in one turn.
+ghost use Rattle.std.specs.Prelude.{◌≡◌, ◌<◌, ◌+◌, ◌-◌, ◌^◌};
 ghost use Rattle.dy_cluster.specs.Lists.{list_of};
 ghost use Rattle.dy_cluster.specs.Settings.{setting};
 ghost use Rattle.dy_storm.specs.Turns.{IsGetOf, IsTurnOf};
@@ -12,29 +13,51 @@ use std::sync::Wait;
 /// How many homes a put needs.
 const W: u8 = 2;
 
-/// Gets the key of this number, repairs it, and puts it with the context of the get. May wait for
-/// answers and locks.
-pub(crate) fn play<J: Naming, T: Transport<J>, R: Wait>(
-    rt: &R,
-    alloc: Global,
-    connection: &mut Connection<'_, J, T>,
-    number: u32,
-    client: usize,
-    turn: u32,
-)
-    ensures { IsTurnOf (setting J J.ring J.n J.r) (key_text number) (value_text client turn)
-        connection.old.session connection.new.session }
-{
-    let Ok(key) = key_of(alloc, number) else {
-        return;
-    };
-    let Ok(value) = value_of(alloc, client, turn) else {
-        return;
-    };
-    play_with(rt, alloc, connection, &key, value);
+/// A client by its number, and how many turns it made. This count is the number of the next turn.
+#[derive(Drop)]
+pub(crate) struct Player {
+    pub client: usize,
+    turns: u32,
 }
 
-// The same of this key and this value.
+impl Player {
+    /// A client that has made no turn.
+    pub fn new(client: usize) -> Player
+        ensures client { result.client ≡ client }
+        ensures turns { result.turns ≡ 0 }
+    {
+        Player { client, turns: 0 }
+    }
+
+    /// Makes the next turn. Gets the key of this number, repairs it, and puts it with the context
+    /// of the get. May wait for answers and locks.
+    pub fn play<J: Naming, T: Transport<J>, R: Wait>(
+        &mut self,
+        rt: &R,
+        alloc: Global,
+        connection: &mut Connection<'_, J, T>,
+        number: u32,
+    )
+        requires few { self.old.turns < 2 ^ 32 - 1 }
+        ensures turn { IsTurnOf (setting J J.ring J.n J.r) (key_text number)
+            (value_text self.old.client self.old.turns)
+            connection.old.session connection.new.session connection.new.is_mended }
+        ensures client { self.new.client ≡ self.old.client }
+        ensures turns { self.new.turns ≡ self.old.turns + 1 }
+    {
+        let turn = self.turns;
+        self.turns += 1;
+        let Ok(key) = key_of(alloc, number) else {
+            return;
+        };
+        let Ok(value) = value_of(alloc, self.client, turn) else {
+            return;
+        };
+        play_with(rt, alloc, connection, &key, value);
+    }
+}
+
+// A turn of this key and this value.
 fn play_with<J: Naming, T: Transport<J>, R: Wait>(
     rt: &R,
     alloc: Global,
@@ -43,7 +66,7 @@ fn play_with<J: Naming, T: Transport<J>, R: Wait>(
     value: Value,
 )
     ensures { IsTurnOf (setting J J.ring J.n J.r) key.now value
-        connection.old.session connection.new.session }
+        connection.old.session connection.new.session connection.new.is_mended }
 {
     let got = get_one(rt, connection, key);
     let context = got.unwrap_or(Context::new(alloc));
@@ -57,8 +80,8 @@ fn get_one<J: Naming, T: Transport<J>, R: Wait>(
     connection: &mut Connection<'_, J, T>,
     key: &Key,
 ) -> Option<Context>
-    ensures { IsGetOf J (list_of J.ring J.n key.now) J.r key.now result
-        connection.old.session connection.new.session }
+    ensures { IsGetOf J (list_of J.ring J.n key.now) J.r key.now result connection.old.session
+        connection.new.session (T.told connection.new.transport) connection.new.is_mended }
 {
     match connection.get(rt, key) {
         Ok(done) => Some(done.context),
