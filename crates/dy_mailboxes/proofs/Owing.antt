@@ -17,7 +17,7 @@ use Rattle.dy_book.specs.Books.{receipts_of}
 use Rattle.dy_node.specs.declared.asks.Answer.{Answer}
 use Rattle.dy_node.specs.declared.asks.Answer.TheVariants as answer
 use Rattle.dy_transport.specs.Asking.{FitsWhat}
-use Rattle.dy_transport.specs.Told.{Answers, IsAwaited, Told}
+use Rattle.dy_transport.specs.Told.{Answers, IsAwaited}
 use Rattle.dy_transport.specs.declared.asked.Asked.{Asked}
 use Rattle.dy_transport.specs.declared.asked.What.{What}
 use Rattle.dy_transport.specs.declared.asked.What.TheVariants as what
@@ -57,6 +57,13 @@ asks_each numbers left k count e h lt few = elim (cases_lt k (length left)) [
 -- a number below the next one is another
 not_next : (n m k : ℕ) → n < m → k ≡ m → n ≡ k → ⊥
 not_next n m k lt next same = absurd (omega arith)
+
+-- an element lies at its place
+pub at_place : {X : Type 0} (xs : List X) (k : ℕ) (x : X) → k < length xs → x ≡ get_or xs k x →
+    slice_get xs k ≡ Some x
+at_place [] k x lt e = absurd (omega (arith, lt))
+at_place (y ∷ ys) zero x lt e = ap Some (sym e)
+at_place (y ∷ ys) (suc k) x lt e = at_place ys k x (omega (arith, lt)) e
 
 module _ {J : Type 0} where
   abbrev numbered : Reply J → ℕ
@@ -266,14 +273,6 @@ module _ {J : Type 0} where
       (k : ℕ) → k < length asks → Contains (map numbered replies) k
   sheet_drained asks room replies sent left i none k lt =
       let n = i.left_count in i.each k lt (none k (omega arith))
-
-  abbrev sheet_of : ℕ → Told J → SheetParts J
-  sheet_of call told = record { told = told; call = call }
-
-  -- what is told more is told on the sheet of the same call
-  pub tells_on : (call : ℕ) (new told : Told J) → new ≡ told →
-      sheet_of call new ≡ sheet_of call told
-  tells_on call new told is = ap (sheet_of call) is
 
   -- the room is that of what is told
   pub room_left : {k l : SheetParts J} → k ≡ l → length k.told.asks < k.told.room →

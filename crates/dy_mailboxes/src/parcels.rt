@@ -1,6 +1,5 @@
 ghost use Rattle.std.specs.Prelude.{◌≡◌, ℕ, true, IfOk, IsOkUnless};
 ghost use Rattle.dy_node.specs.Answers.{MayAsk};
-ghost use Rattle.dy_transport.specs.Asking.{home_of};
 ghost use Rattle.dy_mailboxes.specs.Parcels.{IsParcelOf, may_carry};
 
 use crate::replies::ReplyTo;
@@ -59,16 +58,6 @@ impl<J: Naming> Parcel<J> {
                 since,
             },
         }
-    }
-}
-
-// The home that an ask is for.
-pub(crate) fn home_asked<J: Naming>(ask: &Ask<'_, J>) -> NodeId
-    ensures { result ≡ home_of ask.now }
-{
-    match ask {
-        Ask::Store { home, row: _ } => *home,
-        Ask::Fetch { home, .. } => *home,
     }
 }
 

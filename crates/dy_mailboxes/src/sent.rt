@@ -1,10 +1,9 @@
-ghost use Rattle.std.specs.Prelude.{◌≡◌, ◌<◌, IfSome, IsTrue, None};
-ghost use Rattle.dy_dots.specs.declared.faults.Fault.TheVariants.{OutOfMemory};
+ghost use Rattle.std.specs.Prelude.{◌≡◌, ◌↔◌, ◌<◌, IsTrue};
 ghost use Rattle.dy_shares.specs.Shares.{receipt_parts};
 ghost use Rattle.dy_book.specs.Books.{receipts_of};
-ghost use Rattle.dy_node.specs.declared.asks.Answer.TheVariants.{NoAnswer, Refused};
 ghost use Rattle.dy_transport.specs.Asking.{IsSeenAt};
-ghost use Rattle.dy_mailboxes.specs.inside.Sheets.{FitsNothing, FitsParcel, FitsSent};
+ghost use Rattle.dy_mailboxes.specs.inside.Sheets.{FitsNothing, FitsParcel, FitsSent, IsFitted};
+ghost use Rattle.dy_mailboxes.specs.inside.Sheets.{answer_unsent};
 
 use crate::parcels::Parcel;
 use dy_dots::{Fault, NodeId};
@@ -24,8 +23,8 @@ pub struct Sent<J: Naming> {
 
 // Whether the receipt is of the version, at this node for this home.
 fn is_receipt<J: Naming>(receipt: &Receipt<J>, version: &Version, to: NodeId, home: NodeId) -> bool
-    ensures { IsTrue result →
-        receipt.now ≡ receipt_parts version.now.key version.now.dot to home }
+    ensures { IsTrue result
+        ↔ (receipt.now ≡ receipt_parts version.now.key version.now.dot to home) }
 {
     receipt.key() == version.key()
         && receipt.dot() == version.dot()
@@ -40,7 +39,7 @@ fn are_receipts<J: Naming>(
     to: NodeId,
     home: NodeId,
 ) -> bool
-    ensures { IsTrue result → receipts.now ≡ receipts_of versions.now to home }
+    ensures { IsTrue result ↔ (receipts.now ≡ receipts_of versions.now to home) }
 {
     if receipts.len() != versions.len() {
         return false;
@@ -55,14 +54,14 @@ fn are_receipts<J: Naming>(
 
 // Whether it was seen at this node for this home and key, after so many steps.
 fn is_seen<J: Naming>(seen: &Seen<J>, to: NodeId, home: NodeId, key: &Key, since: usize) -> bool
-    ensures { IsTrue result → IsSeenAt to home key.now since seen.now }
+    ensures { IsTrue result ↔ IsSeenAt to home key.now since seen.now }
 {
     seen.holder() == to && seen.home() == home && seen.key() == key && since < seen.at()
 }
 
 // Whether the answer is one to what was asked of this node for this home.
 fn fits_parcel<J: Naming>(to: NodeId, home: NodeId, parcel: &Parcel<J>, answer: &Answer<J>) -> bool
-    ensures { IsTrue result → FitsParcel to home parcel.now answer.now }
+    ensures { IsTrue result ↔ FitsParcel to home parcel.now answer.now }
 {
     match (parcel, answer) {
         (Parcel::Store { row, .. }, Answer::Stored(receipts)) => {
@@ -80,7 +79,7 @@ fn fits_parcel<J: Naming>(to: NodeId, home: NodeId, parcel: &Parcel<J>, answer: 
 
 // Whether the answer is one to an ask of which nothing was kept.
 fn fits_nothing<J: Naming>(answer: &Answer<J>) -> bool
-    ensures { IsTrue result → FitsNothing answer.now }
+    ensures { IsTrue result ↔ FitsNothing answer.now }
 {
     match answer {
         Answer::Stored(_) | Answer::Rows(_) => false,
@@ -91,7 +90,7 @@ fn fits_nothing<J: Naming>(answer: &Answer<J>) -> bool
 impl<J: Naming> Sent<J> {
     // Whether the answer is one to this ask.
     fn fits(&self, answer: &Answer<J>) -> bool
-        ensures { IsTrue result → FitsSent self.now answer.now }
+        ensures { IsTrue result ↔ FitsSent self.now answer.now }
     {
         match &self.kept {
             Some(parcel) => fits_parcel(self.to, self.home, parcel, answer),
@@ -102,8 +101,7 @@ impl<J: Naming> Sent<J> {
     // What is answered where it is not on its way: refused where there was no memory for it, else
     // that nothing came.
     pub(crate) fn not_sent(&self) -> Answer<J>
-        ensures memory { self.now.kept ≡ None → result ≡ Refused OutOfMemory }
-        ensures closed { IfSome self.now.kept (λ _. result ≡ NoAnswer) }
+        ensures { result ≡ answer_unsent self.now.kept }
     {
         match &self.kept {
             None => Answer::Refused(Fault::OutOfMemory),
@@ -113,7 +111,8 @@ impl<J: Naming> Sent<J> {
 
     // The answer where it is one to this ask, else that nothing came.
     pub(crate) fn only_fitting(&self, answer: Answer<J>) -> Answer<J>
-        ensures { FitsSent self.now result }
+        ensures fits { FitsSent self.now result }
+        ensures fitted { IsFitted self.now answer result }
     {
         if self.fits(&answer) {
             answer

@@ -2,19 +2,22 @@ ghost use Rattle.std.specs.Prelude.{◌≡◌, ◌<◌, ◌+◌, ◌*◌, ◌^�
 ghost use Rattle.std.specs.Prelude.{IfOk, IfNone, IfSome, IsOkUnless};
 ghost use Rattle.dy_node.specs.declared.asks.Answer.TheVariants.{NoAnswer};
 ghost use Rattle.dy_transport.specs.Asking.{what_of};
-ghost use Rattle.dy_transport.specs.Told.{with_ask, with_none, with_reply, with_try};
+ghost use Rattle.dy_transport.specs.Told.{with_none, with_try};
 ghost use Rattle.dy_transport.specs.Told.{AllAnswered, Answers, IsAwaited};
 ghost use Rattle.dy_transport.specs.declared.transports.TheConstants.{SPARE_TRIES};
 ghost use Rattle.dy_mailboxes.specs.Parcels.{IsKept};
-ghost use Rattle.dy_mailboxes.specs.inside.Sheets.{nothing_on_sheet, with_told};
+ghost use Rattle.dy_mailboxes.specs.declared.sent.Sent.{Sent};
+ghost use Rattle.dy_mailboxes.specs.inside.Sheets.{IsFittedTo, IsOfUnsent, IsUnsent, is_awaiting};
+ghost use Rattle.dy_mailboxes.specs.inside.Sheets.{left_of, nothing_on_sheet, with_answer};
+ghost use Rattle.dy_mailboxes.specs.inside.Sheets.{with_sent, with_told};
 
-use crate::parcels::{Answered, Parcel, home_asked};
+use crate::parcels::{Answered, Parcel};
 use crate::sent::Sent;
 use dy_core::Place;
 use dy_dots::{Fault, NodeId};
 use dy_node::{Answer, Ask};
 use dy_shares::Naming;
-use dy_transport::{Trail, Try};
+use dy_transport::{Trail, Try, home_asked};
 use std::alloc::Global;
 use std::marker::Model;
 
@@ -41,7 +44,12 @@ impl<J: Naming> Model for Sheet<J> {
 
     ghost coded = { Prim.hlevel (codes, dot_set_code, siblings_code, receipt_code, answer_code) };
 
-    ghost view = { λ s. record { told = s.trail; call = s.call } };
+    ghost view = { λ s. record {
+      told = s.trail;
+      call = s.call;
+      sent = s.sent.items;
+      left = s.left.items;
+    } };
 
     ghost invariant = { λ s.
         IsSheet s.trail.asks s.trail.room s.trail.replies s.sent.items s.left.items
@@ -63,9 +71,16 @@ fn unanswered(left: &[u8]) -> Option<usize>
 }
 
 // The first ask that is not on its way and has no answer yet.
-fn unsent<J: Naming>(sent: &[Sent<J>], left: &[u8]) -> Option<usize> {
-    for (k, one) in sent.iter().enumerate() {
-        if !one.is_posted && left.get(k) == Some(&2) {
+fn unsent<J: Naming>(sent: &[Sent<J>], left: &[u8]) -> Option<usize>
+    requires { length sent.now ≡ length left.now }
+    ensures some { IfSome result (λ k. (k < length sent.now)
+        × ((s : Sent J) × IsUnsent sent.now left.now k s)) }
+    ensures none { IfNone result
+        ((k : ℕ) (s : Sent J) → IsUnsent sent.now left.now k s → ⊥) }
+{
+    for k in 0..sent.len() {
+        let one = &sent[k];
+        if !one.is_posted && left[k] == 2 {
             return Some(k);
         }
     }
@@ -76,6 +91,7 @@ fn unsent<J: Naming>(sent: &[Sent<J>], left: &[u8]) -> Option<usize> {
 // more than that nothing came is the last.
 fn left_after<J: Naming>(left: u8, answer: &Answer<J>, is_last: bool) -> u8
     requires { 0 < left }
+    ensures value { result ≡ left_of left answer.now is_last }
     ensures less { result < left }
     ensures awaited { 0 < result → answer.now ≡ NoAnswer }
 {
@@ -141,7 +157,7 @@ impl<J: Naming> Sheet<J> {
     pub fn put(&mut self, to: NodeId, ask: &Ask<'_, J>, kept: Option<Parcel<J>>, is_posted: bool)
         requires room { length self.old.told.asks < self.old.told.room }
         requires kept { IsKept (what_of ask.now) kept }
-        ensures { self.new ≡ with_told self.old (with_ask self.old.told to ask.now) }
+        ensures { self.new ≡ with_sent self.old to ask.now kept is_posted }
     {
         let home = home_asked(ask);
         self.trail.note_ask(to, ask);
@@ -155,7 +171,9 @@ impl<J: Naming> Sheet<J> {
     }
 
     /// Whether an answer may still come. Takes no memory.
-    pub fn is_open(&self) -> bool {
+    pub fn is_open(&self) -> bool
+        ensures { result ≡ is_awaiting self.now.left }
+    {
         self.left.iter().any(|left| *left > 0)
     }
 
@@ -164,11 +182,14 @@ impl<J: Naming> Sheet<J> {
     pub fn take(&mut self, answered: Answered<J>) -> Option<(Place, Answer<J>)>
         requires { answered.call ≡ self.old.call }
         ensures none { IfNone result (self.new ≡ self.old) }
-        ensures some { IfSome result (λ r. (number : ℕ)
-            × (self.new ≡ with_told self.old
-            (with_reply self.old.told number r.0.holder r.0.home r.1))
-            × Answers self.old.told.asks number r.0.holder r.0.home r.1
-            × IsAwaited self.old.told.replies number) }
+        ensures surplus { IfNone result (get_or self.old.left answered.number 0 ≡ 0) }
+        ensures some { IfSome result (λ r.
+            (self.new ≡ with_answer self.old answered.number r.0.holder r.0.home r.1
+            (left_of (get_or self.old.left answered.number 0) r.1 answered.is_last))
+            × Answers self.old.told.asks answered.number r.0.holder r.0.home r.1
+            × IsAwaited self.old.told.replies answered.number) }
+        ensures gives { IfSome result (λ r.
+            IsFittedTo self.old.sent answered.number answered.answer r.1) }
         ensures within { IfSome result
             (λ _. length self.old.told.replies < 2 * length self.old.told.asks) }
     {
@@ -198,23 +219,25 @@ impl<J: Naming> Sheet<J> {
     }
 
     /// Answers an ask that could not be sent: refused where there was no memory, else that nothing
-    /// came. Takes no memory.
+    /// came. No further answer to it comes. Takes no memory.
     pub fn take_unsent(&mut self) -> Option<(Place, Answer<J>)>
         ensures none { IfNone result (self.new ≡ self.old) }
+        ensures all_sent { IfNone result
+            ((k : ℕ) (s : Sent J) → IsUnsent self.old.sent self.old.left k s → ⊥) }
         ensures some { IfSome result (λ r. (number : ℕ)
-            × (self.new ≡ with_told self.old
-            (with_reply self.old.told number r.0.holder r.0.home r.1))
+            × (self.new ≡ with_answer self.old number r.0.holder r.0.home r.1 0)
             × Answers self.old.told.asks number r.0.holder r.0.home r.1
             × IsAwaited self.old.told.replies number) }
+        ensures gives { IfSome result (λ r. IsOfUnsent self.old r.1) }
         ensures within { IfSome result
             (λ _. length self.old.told.replies < 2 * length self.old.told.asks) }
     {
         let number = unsent(&self.sent, &self.left)?;
-        let answer = self.sent.get(number)?.not_sent();
+        let reason = self.sent[number].not_sent();
         self.take(Answered {
             call: self.call,
             number,
-            answer,
+            answer: reason,
             is_last: true,
         })
     }
@@ -226,10 +249,10 @@ impl<J: Naming> Sheet<J> {
             ((self.new ≡ with_told self.old (with_none self.old.told))
             × AllAnswered self.new.told) }
         ensures some { IfSome result (λ r. (number : ℕ)
-            × (self.new ≡ with_told self.old
-            (with_reply self.old.told number r.0.holder r.0.home r.1))
+            × (self.new ≡ with_answer self.old number r.0.holder r.0.home r.1 0)
             × Answers self.old.told.asks number r.0.holder r.0.home r.1
             × IsAwaited self.old.told.replies number) }
+        ensures gives { IfSome result (λ r. r.1 ≡ NoAnswer) }
         ensures within { IfSome result
             (λ _. length self.old.told.replies < 2 * length self.old.told.asks) }
     {

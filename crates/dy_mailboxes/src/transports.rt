@@ -1,13 +1,17 @@
 ghost use Rattle.std.specs.Prelude.{◌≡◌, ◌<◌, ◌≤◌, ◌+◌, ◌*◌, ◌^◌, ℕ, length, IfOk, IfNone, IfSome};
-ghost use Rattle.std.specs.Prelude.{IsOkUnless, OnErr};
+ghost use Rattle.std.specs.Prelude.{IsOkUnless, OnErr, Some, None, true, false};
+ghost use Rattle.dy_core.specs.declared.places.Place.{Place};
+ghost use Rattle.dy_node.specs.declared.asks.Answer.{Answer};
 ghost use Rattle.dy_node.specs.Answers.{MayAsk};
 ghost use Rattle.dy_transport.specs.Told.{AllAnswered, Answers, IsAwaited};
-ghost use Rattle.dy_transport.specs.Told.{nothing_told, with_none, with_reply};
+ghost use Rattle.dy_transport.specs.Told.{nothing_told, with_ask, with_none};
 ghost use Rattle.dy_mailboxes.specs.Parcels.{IsParcelOf};
-ghost use Rattle.dy_mailboxes.specs.inside.Calls.{with_ask};
-ghost use Rattle.dy_mailboxes.specs.inside.Sheets.{with_told};
+ghost use Rattle.dy_mailboxes.specs.declared.sent.Sent.{Sent};
+ghost use Rattle.dy_mailboxes.specs.inside.Calls.{with_ask as with_posted};
+ghost use Rattle.dy_mailboxes.specs.inside.Sheets.{IsOfUnsent, IsUnsent, is_awaiting};
+ghost use Rattle.dy_mailboxes.specs.inside.Sheets.{with_answer, with_sent, with_told};
 
-use crate::parcels::{Parcel, Posted};
+use crate::parcels::{Answered, Parcel, Posted};
 use crate::posts::Post;
 use crate::replies::Replies;
 use crate::sheets::Sheet;
@@ -90,7 +94,7 @@ fn post_ask<J: Naming, R: Wait>(
     requires may_ask { MayAsk J.ring J.n to ask.now }
     requires few { replies.old.posted + 1 < 2 ^ 64 }
     ensures copy { IfOk result (λ posted. IsParcelOf ask.now posted.0) }
-    ensures counted { IfOk result (λ _. replies.new ≡ with_ask replies.old) }
+    ensures counted { IfOk result (λ _. replies.new ≡ with_posted replies.old) }
     ensures err { OnErr result (replies.new ≡ replies.old) }
     ensures same { post.new ≡ post.old }
     ensures memory { IsOkUnless result Fault.OutOfMemory }
@@ -109,6 +113,42 @@ fn post_ask<J: Naming, R: Wait>(
     Ok((kept, is_posted))
 }
 
+// Tells of an ask what came of posting it: its copy, and whether it is on its way, or that there
+// was no memory for it.
+fn tell_ask<J: Naming>(
+    sheet: &mut Sheet<J>,
+    to: NodeId,
+    ask: &Ask<'_, J>,
+    posted: Result<(Parcel<J>, bool), Fault>,
+)
+    requires room { length sheet.old.told.asks < sheet.old.told.room }
+    requires kept { IfOk posted (λ p. IsParcelOf ask.now p.0) }
+    ensures ok { IfOk posted (λ p. sheet.new ≡ with_sent sheet.old to ask.now (Some p.0) p.1) }
+    ensures err { OnErr posted (sheet.new ≡ with_sent sheet.old to ask.now None false) }
+    ensures told { sheet.new.told ≡ with_ask sheet.old.told to ask.now }
+    ensures call { sheet.new.call ≡ sheet.old.call }
+{
+    match posted {
+        Ok((kept, is_posted)) => sheet.put(to, ask, Some(kept), is_posted),
+        Err(_) => sheet.put(to, ask, None, false),
+    }
+}
+
+// The next answer that comes to this call, while one may still come.
+fn receive_awaited<J: Naming, R: Wait>(
+    rt: &R,
+    replies: &mut Replies<J>,
+    sheet: &Sheet<J>,
+) -> Option<Answered<J>>
+    requires awaiting { is_awaiting sheet.now.left ≡ true }
+    ensures some { IfSome result (λ answered. answered.call ≡ replies.old.call) }
+    ensures same { replies.new ≡ replies.old }
+{
+    // The sheet is for the contract alone.
+    let _ = sheet;
+    replies.receive(rt)
+}
+
 // The next answer: that of an ask that could not be sent, else the next that comes to this call and
 // is not one too many. Where none is left to come, that nothing came to an ask without an answer,
 // else none.
@@ -121,11 +161,12 @@ fn next_of<J: Naming, R: Wait>(
     ensures none { IfNone result
         ((sheet.new ≡ with_told sheet.old (with_none sheet.old.told))
         × AllAnswered sheet.new.told) }
-    ensures some { IfSome result (λ r. (number : ℕ)
-        × (sheet.new ≡ with_told sheet.old
-        (with_reply sheet.old.told number r.0.holder r.0.home r.1))
+    ensures some { IfSome result (λ r. (number left : ℕ)
+        × (sheet.new ≡ with_answer sheet.old number r.0.holder r.0.home r.1 left)
         × Answers sheet.old.told.asks number r.0.holder r.0.home r.1
         × IsAwaited sheet.old.told.replies number) }
+    ensures unsent { (k : ℕ) (s : Sent J) → IsUnsent sheet.old.sent sheet.old.left k s →
+        (r : Place × Answer J) × (result ≡ Some r) × IsOfUnsent sheet.old r.1 }
     ensures within { IfSome result
         (λ _. length sheet.old.told.replies < 2 * length sheet.old.told.asks) }
     ensures same { replies.new ≡ replies.old }
@@ -137,7 +178,7 @@ fn next_of<J: Naming, R: Wait>(
         if !sheet.is_open() {
             break;
         }
-        let Some(answered) = replies.receive(rt) else {
+        let Some(answered) = receive_awaited(rt, replies, sheet) else {
             break;
         };
         if let Some(reply) = sheet.take(answered) {
@@ -166,7 +207,7 @@ impl<J: Naming> Transport<J> for Mailboxes<'_, J> {
 
     fn ask<R: Wait>(&mut self, rt: &R, to: NodeId, ask: &Ask<'_, J>) {
         let number = self.sheet.ask_count();
-        match post_ask(
+        let posted = post_ask(
             rt,
             self.alloc,
             &mut self.post,
@@ -174,10 +215,8 @@ impl<J: Naming> Transport<J> for Mailboxes<'_, J> {
             number,
             to,
             ask,
-        ) {
-            Ok((kept, is_posted)) => self.sheet.put(to, ask, Some(kept), is_posted),
-            Err(_) => self.sheet.put(to, ask, None, false),
-        }
+        );
+        tell_ask(&mut self.sheet, to, ask, posted);
     }
 
     fn next_reply<R: Wait>(&mut self, rt: &R) -> Option<(Place, Answer<J>)> {

@@ -1,7 +1,7 @@
 use Rattle.std.proofs.Common.{arith, refl}
 use Rattle.dy_node.specs.declared.asks.Answer.TheVariants.{NoAnswer}
 use Rattle.dy_mailboxes.proofs.Owing.{answers_sent, nothing_fits, sheet_awaits, sheet_drained}
-use Rattle.dy_mailboxes.proofs.Owing.{sheet_gives, tells_on}
+use Rattle.dy_mailboxes.proofs.Owing.{sheet_gives}
 use Rattle.dy_mailboxes.proofs.sheets.Sheet.close.Goals as goal
 
 -- each ask was answered
@@ -32,7 +32,7 @@ returns-clause-some g c =
     let two = rw c.deref.ensures.value at c.in-Some.ensures.some.1 in
     rw (← c.self.view_is) (
       c.in-Some.number,
-      tells_on c.self.inside.call _ _ c.note_reply.ensures,
+      rw c.note_reply.ensures refl,
       answers_sent _ _ _ _ _ c.in-Some.number c.index-sent.result.now c.index-sent.result.now
           NoAnswer c.self.invariant.0 place c.index-sent.ensures
           (nothing_fits c.index-sent.result.now),

@@ -1,6 +1,6 @@
-use Rattle.std.proofs.Common.{◌<◌, arith, length}
+use Rattle.std.proofs.Common.{◌≡◌, ◌<◌, arith, get_or, length, refl}
 use Rattle.std.proofs.lemmas.Grind.{get_or_default_zero}
-use Rattle.dy_mailboxes.proofs.Owing.{answers_sent, sheet_awaits, sheet_gives, tells_on}
+use Rattle.dy_mailboxes.proofs.Owing.{answers_sent, at_place, sheet_awaits, sheet_gives}
 use Rattle.dy_mailboxes.proofs.sheets.Sheet.take.Goals as goal
 
 -- the ask has less left
@@ -22,12 +22,24 @@ returns-clause-some g c =
     let place : c.args.answered.number < length c.self.inside.left.items = omega arith in
     let zeroed = get_or_default_zero c.self.inside.left.items c.args.answered.number
     c.index-left.result.now place in
+    let same : c.index-left.result.now ≡ get_or c.self.inside.left.items c.args.answered.number 0 =
+    omega (arith, zeroed) in
     rw (← c.self.view_is) (
-      c.args.answered.number,
-      tells_on c.self.inside.call _ _ c.note_reply.ensures,
+      rw (c.note_reply.ensures, c.left_after.ensures.value, same) refl,
       answers_sent _ _ _ _ _ c.args.answered.number c.index-sent.result.now
           c.index-sent.result.now _ c.self.invariant.0 place c.index-sent.ensures
-          c.only_fitting-answer.ensures,
+          c.only_fitting-answer.ensures.fits,
       sheet_awaits _ _ _ _ _ c.args.answered.number c.self.invariant.0 place
           (omega (arith, zeroed)),
+    )
+
+-- what is handed on is what fits what was kept of its ask
+pub returns-clause-gives : goal.returns-clause-gives
+returns-clause-gives g c =
+    let place : c.args.answered.number < length c.self.inside.sent.items =
+    omega (arith, c.self.invariant.0.left_count, c.self.invariant.0.sent_count) in
+    rw (← c.self.view_is) (
+      c.index-sent.result.now,
+      at_place _ _ _ place c.index-sent.ensures,
+      c.only_fitting-answer.ensures.fitted,
     )
