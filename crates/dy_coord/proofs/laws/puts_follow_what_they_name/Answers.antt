@@ -17,7 +17,8 @@ use Rattle.dy_coord.proofs.Beside.{empty_past, stays_concurrent, stays_sibling}
 use Rattle.dy_coord.proofs.laws.puts_follow_what_they_name.Goals as goal
 
 pub returns-clause-ok : goal.returns-clause-ok
-returns-clause-ok g c = λ list w key context value before after told result coordinator begun put done is.
+returns-clause-ok g c =
+    λ list w key context value before after told result coordinator begun put done is.
     let P : Result (PutDone g.row.J.Denot) PutFault → Type 0 =
     λ r. IfOk r (λ x. x.dot ≡ begun.dot) in
     let same : done.dot ≡ begun.dot = subst P is
@@ -26,7 +27,8 @@ returns-clause-ok g c = λ list w key context value before after told result coo
     put.begun_is.dot_is ∙ sym same
 
 pub returns-clause-follows : goal.returns-clause-follows
-returns-clause-follows g c = λ list w key context value before after told result coordinator begun put d.
+returns-clause-follows g c =
+    λ list w key context value before after told result coordinator begun put d.
     let b = put.begun_is in
     let issued = (world_after b.log).versions in
     let past_is = ap (λ (v : Version). set.contains v.past d) b.is_made in (
@@ -45,21 +47,26 @@ returns-clause-follows g c = λ list w key context value before after told resul
     )
 
 pub returns-clause-nothing : goal.returns-clause-nothing
-returns-clause-nothing g c = λ list w key context value before after told result coordinator begun put none.
+returns-clause-nothing g c =
+    λ list w key context value before after told result coordinator begun put none.
     let b = put.begun_is in
     ap (λ (v : Version). v.past) b.is_made
     ∙ empty_past (world_after b.log).versions key context none
 
 pub returns-clause-concurrent : goal.returns-clause-concurrent
-returns-clause-concurrent g c = λ list w key context value before after told result coordinator begun put u is.
+returns-clause-concurrent g c =
+    λ list w key context value before after told result coordinator begun put u is.
     let b = put.begun_is in
     subst (λ (v : Version). are_concurrent u v ≡ true) (sym b.is_made)
     (stays_concurrent put.layout b.log b.legal coordinator key context value u is)
 
 pub returns-clause-siblings : goal.returns-clause-siblings
-returns-clause-siblings g c = λ list w key context value before after told result coordinator begun put u is held.
+returns-clause-siblings g c =
+    λ list w key context value before after told result coordinator begun put u is held.
     let b = put.begun_is in
     let home = home_for (homes_in list) coordinator in
     (b.row_is u).1
-    (subst (λ (v : Version). Contains (merge (row_at (world_after b.log) coordinator home key) (v ∷ [])) u) (sym b.is_made)
+    (subst (λ (v : Version).
+    Contains (merge (row_at (world_after b.log) coordinator home key) (v ∷ [])) u)
+    (sym b.is_made)
     (stays_sibling put.layout b.log b.legal coordinator key context value u is coordinator home held))
