@@ -1,14 +1,22 @@
 -- Where sessions are.
 use Rattle.std.proofs.Common.{◌≡◌, ◌==◌, ◌<◌, ℕ, List, [], ◌∷◌, ◌++◌, length, get_or, false}
-use Rattle.std.proofs.Common.{Option, Some, None, unwrap_or, sym, ap, ◌∙◌, arith, eq-eqb}
-use Rattle.std.specs.Prelude.{slice_get, slice_set}
+use Rattle.std.proofs.Common.{Option, Some, None, Bool, true, false, unwrap_or, sym, ap, ◌∙◌}
+use Rattle.std.proofs.Common.{arith, eq-eqb}
+use Rattle.std.proofs.lemmas.Bool.{true≢false}
+use Rattle.std.specs.Prelude.{◌⊎◌, slice_get, slice_set}
 use Rattle.std.proofs.lemmas.Grind.{common_steps}
 use Rattle.std.proofs.lemmas.List.Folds.{position_or_len_push}
 use Rattle.std.proofs.lemmas.List.Sums.{position_or_len_is}
 use Rattle.std.proofs.lemmas.Option.{slice_get-get_or}
+use Rattle.dy_dots.specs.declared.faults.Fault.{Fault}
+use Rattle.dy_dots.specs.declared.faults.Fault.TheVariants.{OutOfMemory, TooMany}
+use Rattle.dy_lines.specs.declared.outcomes.Outcome.{Outcome}
+use Rattle.dy_lines.specs.declared.outcomes.Outcome.TheVariants.{Refused}
+use Rattle.dy_lines.specs.declared.outcomes.Word.{Word}
 use Rattle.dy_shares.specs.Shares.{SessionPart}
 use Rattle.dy_runner.specs.Openings.{given_or}
 use Rattle.dy_runner.specs.Seats.{IsSeated, IsToldAt, seat_of}
+use Rattle.dy_runner.specs.Writes.{IsTriedAt}
 
 -- the first place that has the number
 pub seat_of-at : (number : ℕ) (numbers : List ℕ) (i : ℕ) → i < length numbers
@@ -47,6 +55,23 @@ told_at at place before seated old new Tells same within here opened tells = rec
   after_is = ap (λ (k : ℕ). slice_set seated k new) same;
   tells = tells;
 }
+
+-- a session that is open was tried
+pub tried_at : (place : ℕ) (word : Word) (outcome : Outcome) (refused : Bool)
+    (before after : List SessionPart) (Tells : SessionPart → SessionPart → Type 0)
+    → refused ≡ false → IsToldAt place before after Tells →
+    IsTriedAt place word outcome refused before after Tells
+tried_at place word outcome refused before after Tells seated told =
+    (λ _. told, λ e. absurd (true≢false (sym e ∙ seated)))
+
+-- one that was refused was not
+pub untried_at : (place : ℕ) (word : Word) (outcome : Outcome) (refused : Bool)
+    (before after : List SessionPart) (Tells : SessionPart → SessionPart → Type 0) (f : Fault)
+    → refused ≡ true → after ≡ before → (f ≡ OutOfMemory) ⊎ (f ≡ TooMany)
+    → outcome ≡ Refused word f None →
+    IsTriedAt place word outcome refused before after Tells
+untried_at place word outcome refused before after Tells f shut same only told =
+    (λ e. absurd (true≢false (sym shut ∙ e)), λ _. (same, (f, only, told)))
 
 -- the number that was named, or else this
 pub number_of_homes : (w : ℕ) (own : Option ℕ) (n : ℕ) → n ≡ unwrap_or own w → n ≡ given_or w own

@@ -7,7 +7,9 @@ use Rattle.dy_dots.specs.Dots.{DotSet}
 use Rattle.dy_dots.specs.declared.faults.Fault.{Fault}
 use Rattle.dy_dots.specs.declared.faults.Fault.TheVariants.{Down, NotEnough, OutOfMemory, TooMany}
 use Rattle.dy_dots.specs.declared.nodes.TheConstants.{MAX_NODES}
+use Rattle.dy_ring.specs.Rings.{Tokens}
 use Rattle.dy_siblings.specs.Siblings.{Siblings, own_dots}
+use Rattle.dy_siblings.specs.Sizes.{IsKey}
 use Rattle.dy_preference.specs.Preferences.{Preferred}
 use Rattle.dy_shares.specs.Shares.{SessionPart, since_of, with_get}
 use Rattle.dy_quorum.specs.Gatherings.{first_answers}
@@ -24,6 +26,7 @@ use Rattle.dy_handoff.specs.Passes.{IsPass}
 use Rattle.dy_handoff.specs.declared.counts.Pass.{Pass}
 use Rattle.dy_cluster.specs.Connections.{IsMended}
 use Rattle.dy_cluster.specs.Deliveries.{IsDelivery, IsDeliveryRefusal}
+use Rattle.dy_cluster.specs.Named.{IsNodeOf}
 use Rattle.dy_cluster.specs.Shows.{IsShow}
 use Rattle.dy_lines.specs.declared.keeping.Kept.{Kept}
 use Rattle.dy_lines.specs.declared.outcomes.Outcome.{Outcome}
@@ -31,6 +34,7 @@ use Rattle.dy_lines.specs.declared.outcomes.Outcome.TheVariants.{Stored, Read, L
 use Rattle.dy_lines.specs.declared.outcomes.Outcome.TheVariants.{Delivered, HandedOver, Shown}
 use Rattle.dy_lines.specs.declared.outcomes.Word.{Word}
 use Rattle.dy_lines.specs.declared.outcomes.Word.TheVariants as word
+use Rattle.dy_runner.specs.Texts.{IsKeyRefused}
 
 -- the outcome of a delivery
 abbrev pub delivery_outcome : Result ℕ Fault → Outcome
@@ -46,34 +50,45 @@ pass_outcome (Err f) = Refused word.Handoff f None
 abbrev pub kept_row : ℕ × Siblings → Kept
 kept_row row = record { home = row.0; dots = own_dots row.1.versions }
 
--- the outcome tells what a delivery answered: it was one, or was refused
-pub record IsDeliveryTold (outcome : Outcome) : Type 0 where
+-- the outcome tells what a delivery at this node answered: it was one, or was refused, as where the
+-- ring has no such node
+pub record IsDeliveryTold (ring : Tokens) (node : ℕ) (outcome : Outcome) : Type 0 where
   pub answer : Result ℕ Fault
+  pub down : ¬ (IsNodeOf ring node) → answer ≡ Err Down
   pub ok : IfOk answer IsDelivery
   pub only : IfErr answer IsDeliveryRefusal
   pub tells : outcome ≡ delivery_outcome answer
 
 -- the outcome tells what a pass at this node answered: it was one, which stored no more than it
--- offered, or it was refused for a node that is down, or for memory
-pub record IsPassTold (J : Type 0) (node : ℕ) (outcome : Outcome) : Type 0 where
+-- offered, or it was refused for a node that is down, as one that the ring has not, or for memory
+pub record IsPassTold (J : Type 0) (ring : Tokens) (node : ℕ) (outcome : Outcome) : Type 0 where
   pub answer : Result Pass Fault
+  pub down : ¬ (IsNodeOf ring node) → answer ≡ Err Down
   pub ok : IfOk answer (λ pass. (told : Told J) × IsPass {J = J} node told pass)
   pub fewer : IfOk answer (λ pass. pass.stored ≤ pass.offers)
   pub only : IfErr answer (λ f. (f ≡ Down) ⊎ (f ≡ OutOfMemory))
   pub tells : outcome ≡ pass_outcome answer
 
 -- the outcome tells what a node keeps of the key, as what is kept of this one
-pub record TellsRows (number : ℕ) (key : List ℕ) (outcome : Outcome) : Type 0 where
+pub record TellsRows (ring : Tokens) (number : ℕ) (key : List ℕ) (outcome : Outcome) : Type 0 where
+  pub node : IsNodeOf ring number
+  pub sized : IsKey key
   pub rows : List (ℕ × Siblings)
   pub shown : IsShow key rows
   pub kept : Vec Kept Global
   pub kept_are : kept.items ≡ map kept_row rows
   pub tells : outcome ≡ Shown number kept
 
--- the outcome tells what the node keeps of the key, or a refusal
-abbrev pub IsShowTold : ℕ → List ℕ → Outcome → Type 0
-IsShowTold number key outcome =
-    TellsRows number key outcome ⊎ ((f : Fault) × (outcome ≡ Refused word.Show f None))
+-- why a show is refused: the ring has no such node, or else its key is refused
+abbrev pub IsShowRefused : Tokens → ℕ → List ℕ → Fault → Type 0
+IsShowRefused ring number key f =
+    (¬ (IsNodeOf ring number) × (f ≡ Down)) ⊎ (IsNodeOf ring number × IsKeyRefused key f)
+
+-- the outcome tells what the node keeps of the key, or why that is refused
+abbrev pub IsShowTold : Tokens → ℕ → List ℕ → Outcome → Type 0
+IsShowTold ring number key outcome =
+    TellsRows ring number key outcome
+    ⊎ ((f : Fault) × IsShowRefused ring number key f × (outcome ≡ Refused word.Show f None))
 
 module _ {J : Type 0} where
   -- the outcome tells the answer of a put: its dot and its answers, or its refusal, with all
@@ -125,7 +140,7 @@ pub record IsGetTold (J : Type 0) (list : Preferred) (r : ℕ) (key : List ℕ) 
   pub refused : IfErr answer (λ e. IsGetRefused list key r (since_of before) told e)
   pub tells : TellsGet answer outcome
 
--- there was no room for the session, so nobody was tried
+-- the session was refused, so nobody was tried
 abbrev pub IsUnseated : Word → Outcome → List SessionPart → List SessionPart → Type 0
 IsUnseated word outcome before after =
     (after ≡ before)

@@ -2,6 +2,7 @@ pub mod Answers
 pub mod AuditLines
 pub mod Modes
 pub mod Openings
+pub mod Refusals
 pub mod RingLines
 pub mod Runs
 pub mod Seats

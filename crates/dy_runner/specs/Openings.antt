@@ -1,9 +1,12 @@
 -- Which cluster a script asks for.
-use Rattle.std.specs.Prelude.{ℕ, Option, Some, None}
+use Rattle.std.specs.Prelude.{◌≡◌, ℕ, Option, Some, None}
 use Rattle.dy_dots.specs.declared.dots.TheConstants.{MAX_COUNTER}
+use Rattle.dy_book.specs.Limits.{AreLimits, IsQuorum}
 use Rattle.dy_book.specs.declared.options.Options.{Options}
 use Rattle.dy_book.specs.declared.options.TheConstants.{MAX_STEPS, MAX_VERSIONS}
 use Rattle.dy_script.specs.Reading.{ScriptParts}
+use Rattle.dy_runner.specs.RingLines.{IsLaidOut}
+use Rattle.dy_runner.specs.declared.plans.Plan.{Plan}
 
 -- what is given, or else this
 abbrev pub given_or : ℕ → Option ℕ → ℕ
@@ -20,3 +23,10 @@ options_for s = record {
   versions_limit = given_or MAX_VERSIONS s.limits.versions;
   steps_limit = given_or MAX_STEPS s.limits.steps;
 }
+
+-- this is the cluster that the script asks for, and nothing refuses it
+pub record IsPlanOf (s : ScriptParts) (plan : Plan) : Type 0 where
+  pub laid_out : IsLaidOut s.layout plan.ring
+  pub options : plan.options ≡ options_for s
+  pub limits : AreLimits (options_for s)
+  pub quorum : IsQuorum (options_for s) plan.ring.nodes

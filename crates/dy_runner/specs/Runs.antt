@@ -1,10 +1,12 @@
 -- What a script does, from its commands to what is printed of them.
 use Rattle.std.specs.Prelude.{◌≡◌, ◌⊎◌, ◌<◌, ℕ, ◌+◌, Bool, false, true, List, [], ◌∷◌, ◌++◌}
-use Rattle.std.specs.Prelude.{Option, Result, map}
+use Rattle.std.specs.Prelude.{None, Option, Result, map}
 use Rattle.std.specs.Io.KnownBytes.{Appends}
 use Rattle.std.specs.declared.marker.Brand.{Brand}
 use Rattle.dy_dots.specs.declared.faults.Fault.{Fault}
+use Rattle.dy_dots.specs.declared.faults.Fault.TheVariants.{Down}
 use Rattle.dy_ring.specs.Rings.{Tokens}
+use Rattle.dy_book.specs.Limits.{AreLimits, IsQuorum}
 use Rattle.dy_book.specs.declared.audits.Audit.{Audit}
 use Rattle.dy_script.specs.Orders.{CommandParts, WriteParts, written, puts, deletes, gets}
 use Rattle.dy_script.specs.Orders.{downs, ups, sets_mode, delivers, hands_off, shows}
@@ -18,14 +20,14 @@ use Rattle.dy_lines.specs.Clusters.{cluster_lines}
 use Rattle.dy_lines.specs.Outcomes.{command_text}
 use Rattle.dy_lines.specs.Texts.{line}
 use Rattle.dy_lines.specs.declared.outcomes.Outcome.{Outcome}
-use Rattle.dy_lines.specs.declared.outcomes.Outcome.TheVariants.{Done}
+use Rattle.dy_lines.specs.declared.outcomes.Outcome.TheVariants.{Done, Refused}
 use Rattle.dy_lines.specs.declared.outcomes.Word.{Word}
 use Rattle.dy_lines.specs.declared.outcomes.Word.TheVariants as word
 use Rattle.dy_runner.specs.Answers.{IsDeliveryTold, IsPassTold, IsShowTold}
 use Rattle.dy_runner.specs.AuditLines.{audit_lines}
-use Rattle.dy_runner.specs.Openings.{given_or}
+use Rattle.dy_runner.specs.Openings.{given_or, options_for}
 use Rattle.dy_runner.specs.RingLines.{IsLaidOut}
-use Rattle.dy_runner.specs.Seats.{IsOpenUnless, IsOpened, seat_of}
+use Rattle.dy_runner.specs.Seats.{OpensSession, Seated, seat_of}
 use Rattle.dy_runner.specs.Texts.{IsDeleteJudged, IsKeyJudged, IsPutJudged}
 use Rattle.dy_runner.specs.Traces.{AreTraced}
 use Rattle.dy_runner.specs.Writes.{ReadsJudged, RunsJudged}
@@ -34,36 +36,27 @@ use Rattle.dy_runner.specs.declared.recordings.Played.{Played}
 use Rattle.dy_runner.specs.declared.recordings.Recorded.{Recorded}
 use Rattle.dy_runner.specs.declared.seats.Seats.{Seats}
 
--- the sessions of a script, in the order of their opening: their numbers, and what each was told;
--- and whether the one that was asked for last could not be opened
-pub record Seated : Type 0 where
-  pub numbers : List ℕ
-  pub tellings : List SessionPart
-  pub refused : Bool
-
 -- no session is opened yet
 abbrev pub none_seated : Seated
 none_seated = record { numbers = []; tellings = []; refused = false }
 
 -- what was judged so was written in the session of this number, in a cluster of this setting; the
--- session was opened if it was not there, or could not be opened
+-- session was opened if it was not there, or was refused
 pub record IsWrite (s : Setting) (number w : ℕ) (word : Word) (judged : Result Given Fault)
     (outcome : Outcome) (before after : Seated) : Type 0 where
-  pub opened : IsOpened number before.numbers after.numbers
-  pub is_open : IsOpenUnless after.refused number after.numbers
+  pub opens : OpensSession number before after
   pub told : RunsJudged s.book s.ring s.n (seat_of number after.numbers) w word outcome
-      before.tellings after.tellings judged
+      after.refused before.tellings after.tellings judged
 
 -- the key was judged, and read in the session of this number; the session was opened if it was
--- not there, or could not be opened
+-- not there, or was refused
 pub record IsGet (s : Setting) (number : ℕ) (key : List ℕ) (outcome : Outcome)
     (before after : Seated) : Type 0 where
-  pub opened : IsOpened number before.numbers after.numbers
-  pub is_open : IsOpenUnless after.refused number after.numbers
+  pub opens : OpensSession number before after
   pub judged : Result (List ℕ) Fault
   pub judged_is : IsKeyJudged key judged
   pub told : ReadsJudged s.book s.ring s.n s.r (seat_of number after.numbers) key outcome
-      before.tellings after.tellings judged
+      after.refused before.tellings after.tellings judged
 
 -- the sessions on these seats
 abbrev pub seated : Seats → List SessionPart → Seated
@@ -86,10 +79,11 @@ DoesDelete s w (written key context session own) outcome before after =
     (judged : Result Given Fault) × IsDeleteJudged key context judged
     × IsWrite s session (given_or w own) word.Delete judged outcome before after
 
--- what a command did to a node
+-- what a command did to a node, which is down where the ring has no such node
 abbrev pub DoesAt : Setting → Word → ℕ → Outcome → Seated → Seated → Type 0
 DoesAt s word node outcome before after =
-    (IsNodeOf s.ring node → outcome ≡ Done word) × IsApart before after
+    (IsNodeOf s.ring node → outcome ≡ Done word)
+    × (¬ (IsNodeOf s.ring node) → outcome ≡ Refused word Down None) × IsApart before after
 
 -- what a command did, and what came of it
 abbrev pub Does : Setting → ℕ → CommandParts → Outcome → Seated → Seated → Type 0
@@ -100,11 +94,12 @@ Does s w (downs node) outcome before after = DoesAt s word.Down node outcome bef
 Does s w (ups node) outcome before after = DoesAt s word.Up node outcome before after
 Does s w (sets_mode node mode) outcome before after =
     DoesAt s word.SetMode node outcome before after
-Does s w (delivers node) outcome before after = IsDeliveryTold outcome × IsApart before after
+Does s w (delivers node) outcome before after =
+    IsDeliveryTold s.ring node outcome × IsApart before after
 Does s w (hands_off node) outcome before after =
-    IsPassTold s.book node outcome × IsApart before after
+    IsPassTold s.book s.ring node outcome × IsApart before after
 Does s w (shows node key) outcome before after =
-    IsShowTold node key outcome × IsApart before after
+    IsShowTold s.ring node key outcome × IsApart before after
 
 -- what the commands did, one after another, and what came of each
 abbrev pub DoAll :
@@ -171,6 +166,8 @@ IsPrinted true s ring outcomes numbers audit wrote =
 pub record IsRun (s : ScriptParts) (with_steps : Bool) (wrote : List ℕ) : Type 0 where
   pub ring : Tokens
   pub laid_out : IsLaidOut s.layout ring
+  pub limits : AreLimits (options_for s)
+  pub quorum : IsQuorum (options_for s) ring.nodes
   pub outcomes : List Outcome
   pub sessions : Seated
   pub done : DoAll (setting Brand ring s.n s.r) s.w s.run outcomes none_seated sessions

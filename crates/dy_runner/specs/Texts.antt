@@ -29,12 +29,13 @@ IsGiven key context value g =
 -- why a key or a context of the right sizes is refused
 abbrev pub IsGivenRefused : List ℕ → Option (List ℕ) → Fault → Type 0
 IsGivenRefused key context f =
-    ((f ≡ KeySize) × (IsKey key → ⊥)) ⊎ (f ≡ OutOfMemory) ⊎ (IsKey key × IsContextRefused context f)
+    ((f ≡ KeySize) × ¬ (IsKey key)) ⊎ (f ≡ OutOfMemory) ⊎ (IsKey key × IsContextRefused context f)
 
 -- how a put is judged: the size of its key, then that of its value, and then its context
 pub record IsPutJudged (key : List ℕ) (context : Option (List ℕ)) (value : List ℕ)
     (judged : Result Given Fault) : Type 0 where
   pub ok : IfOk judged (IsGiven key context (Some value))
+  pub key_size : IsErrOf judged KeySize ↔ ¬ (IsKey key)
   pub value_size : IsErrOf judged ValueSize ↔ (IsKey key × (MAX_VALUE_BYTES < length value))
   pub only : IfErr judged (λ f. (f ≡ ValueSize) ⊎ IsGivenRefused key context f)
 
@@ -42,10 +43,15 @@ pub record IsPutJudged (key : List ℕ) (context : Option (List ℕ)) (value : L
 pub record IsDeleteJudged (key : List ℕ) (context : Option (List ℕ))
     (judged : Result Given Fault) : Type 0 where
   pub ok : IfOk judged (IsGiven key context None)
+  pub key_size : IsErrOf judged KeySize ↔ ¬ (IsKey key)
   pub only : IfErr judged (IsGivenRefused key context)
 
--- how the key of a get is judged: by its size
+-- why the key of a get or a show is refused: for its size, or else for memory
+abbrev pub IsKeyRefused : List ℕ → Fault → Type 0
+IsKeyRefused key f = (¬ (IsKey key) × (f ≡ KeySize)) ⊎ (IsKey key × (f ≡ OutOfMemory))
+
+-- how the key of a get is judged
 pub record IsKeyJudged (key : List ℕ) (judged : Result (List ℕ) Fault) : Type 0 where
-  pub ok : IfOk judged (λ k. k ≡ key)
-  pub size : IsErrOf judged KeySize ↔ (IsKey key → ⊥)
-  pub only : IfErr judged (λ f. (f ≡ KeySize) ⊎ (f ≡ OutOfMemory))
+  pub ok : IfOk judged (λ k. (k ≡ key) × IsKey key)
+  pub size : IsErrOf judged KeySize ↔ ¬ (IsKey key)
+  pub only : IfErr judged (IsKeyRefused key)

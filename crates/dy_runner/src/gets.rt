@@ -1,4 +1,5 @@
-ghost use Rattle.std.specs.Prelude.{◌≡◌, ℕ, List, Result, length, IfOk, IsOk, IsOkUnless};
+ghost use Rattle.std.specs.Prelude.{◌≡◌, ◌↔◌, ℕ, List, Result, false, length, IfOk, IsOk};
+ghost use Rattle.std.specs.Prelude.{IsOkUnless};
 ghost use Rattle.dy_dots.specs.declared.nodes.TheConstants.{MAX_NODES};
 ghost use Rattle.dy_reads.specs.Lists.{homes_in};
 ghost use Rattle.dy_repair.specs.Stales.{AreCurrent};
@@ -6,10 +7,11 @@ ghost use Rattle.dy_cluster.specs.Connections.{IsMended};
 ghost use Rattle.dy_cluster.specs.Lists.{list_of};
 ghost use Rattle.dy_dots.specs.declared.faults.Fault.{Fault as FaultParts};
 ghost use Rattle.dy_runner.specs.Answers.{TellsGet};
-ghost use Rattle.dy_runner.specs.Seats.{IsOpenUnless, IsOpened, seat_of};
+ghost use Rattle.dy_runner.specs.Seats.{IsOpen, IsOpened, seat_of};
 ghost use Rattle.dy_runner.specs.Texts.{IsKeyJudged};
 ghost use Rattle.dy_runner.specs.Writes.{IsRead, ReadsJudged};
 
+use crate::givens::read_key;
 use crate::renewals::renew;
 use crate::seats::Seats;
 use crate::writes::refused;
@@ -41,13 +43,14 @@ pub(crate) fn run_get<J: Naming, R: Wait>(
     ensures room { direct.new.room ≡ MAX_NODES }
     ensures together { length seats.new.numbers.items ≡ length sessions.new.items }
     ensures opened { IsOpened number seats.old.numbers.items seats.new.numbers.items }
-    ensures is_open { IsOpenUnless seats.new.refused number seats.new.numbers.items }
+    ensures is_open { IsOpen number seats.new.numbers.items
+        ↔ (seats.new.refused ≡ false) }
     ensures told { (judged : Result (List ℕ) FaultParts) × IsKeyJudged key.now judged
         × ReadsJudged J J.ring J.n J.r (seat_of number seats.new.numbers.items) key.now result
-        sessions.old.items sessions.new.items judged }
+        seats.new.refused sessions.old.items sessions.new.items judged }
 {
     let place = seats.place_of(rt, cluster, sessions, number);
-    let key = match Key::new(alloc, key.as_bytes()) {
+    let key = match read_key(alloc, key) {
         Ok(key) => key,
         Err(fault) => return refused(Word::Get, fault),
     };

@@ -1,9 +1,9 @@
-// What a put or a delete is given, its texts judged: the sizes of the key and of the value first.
+// What a command is given, its texts judged: the sizes of the key and of the value first.
 ghost use Rattle.std.specs.Prelude.{◌≡◌, ◌<◌, ◌⊎◌, ◌↔◌, Some, None, IfOk, IfErr, IsErrOf};
 ghost use Rattle.std.specs.Prelude.{length, IsTrue, option_map, string_bytes};
 ghost use Rattle.dy_siblings.specs.Sizes.{IsKey};
 ghost use Rattle.dy_siblings.specs.declared.values.TheConstants.{MAX_VALUE_BYTES};
-ghost use Rattle.dy_runner.specs.Texts.{IsGiven, IsGivenRefused};
+ghost use Rattle.dy_runner.specs.Texts.{IsGiven, IsGivenRefused, IsKeyJudged};
 
 use dy_dots::{Context, Fault};
 use dy_script::Write;
@@ -22,6 +22,7 @@ pub(crate) struct Given {
 pub(crate) fn read_put(alloc: Global, write: &Write, value: &[u8]) -> Result<Given, Fault>
     ensures ok { IfOk result (λ given. IsGiven (string_bytes write.now.key)
         (option_map string_bytes write.now.context) (Some value.now) given) }
+    ensures key_size { IsErrOf result Fault.KeySize ↔ ¬ (IsKey (string_bytes write.now.key)) }
     ensures value_size { IsErrOf result Fault.ValueSize
         ↔ (IsKey (string_bytes write.now.key) × (MAX_VALUE_BYTES < length value.now)) }
     ensures only { IfErr result (λ fault. (fault ≡ Fault.ValueSize)
@@ -39,10 +40,18 @@ pub(crate) fn read_put(alloc: Global, write: &Write, value: &[u8]) -> Result<Giv
 pub(crate) fn read_delete(alloc: Global, write: &Write) -> Result<Given, Fault>
     ensures ok { IfOk result (λ given. IsGiven (string_bytes write.now.key)
         (option_map string_bytes write.now.context) None given) }
+    ensures key_size { IsErrOf result Fault.KeySize ↔ ¬ (IsKey (string_bytes write.now.key)) }
     ensures only { IfErr result (IsGivenRefused (string_bytes write.now.key)
         (option_map string_bytes write.now.context)) }
 {
     read_given(alloc, write, None)
+}
+
+/// The key of a get or a show.
+pub(crate) fn read_key(alloc: Global, text: &str) -> Result<Key, Fault>
+    ensures { IsKeyJudged text.now result }
+{
+    Key::new(alloc, text.as_bytes())
 }
 
 // Whether the bytes are a key's.
@@ -56,6 +65,7 @@ fn is_key(bytes: &[u8]) -> bool
 fn read_given(alloc: Global, write: &Write, value: Option<Value>) -> Result<Given, Fault>
     ensures ok { IfOk result (λ given. IsGiven (string_bytes write.now.key)
         (option_map string_bytes write.now.context) value given) }
+    ensures key_size { IsErrOf result Fault.KeySize ↔ ¬ (IsKey (string_bytes write.now.key)) }
     ensures only { IfErr result (IsGivenRefused (string_bytes write.now.key)
         (option_map string_bytes write.now.context)) }
 {

@@ -5,6 +5,7 @@ mod gets;
 mod givens;
 mod options;
 mod outages;
+mod plans;
 mod recordings;
 mod renewals;
 mod running;

@@ -2,7 +2,7 @@ ghost use Rattle.std.specs.Prelude.{◌≡◌, ◌≤◌, ◌↔◌, IfOk, IfErr
 ghost use Rattle.dy_book.specs.Limits.{AreLimits};
 ghost use Rattle.dy_script.specs.Reading.{layout_parts, script_parts};
 ghost use Rattle.dy_runner.specs.Openings.{given_or, options_for};
-ghost use Rattle.dy_runner.specs.RingLines.{IsLaidOut};
+ghost use Rattle.dy_runner.specs.RingLines.{IsRingMade, lists_of};
 
 use dy_book::{MAX_STEPS, MAX_VERSIONS, Options};
 use dy_dots::{Fault, MAX_COUNTER};
@@ -12,7 +12,7 @@ use std::alloc::Global;
 
 /// The ring that the layout says, or why there is none.
 pub fn ring_of(alloc: Global, layout: &Layout) -> Result<Ring, Fault>
-    ensures { IfOk result (λ ring. IsLaidOut (layout_parts layout.now) ring) }
+    ensures { IsRingMade (lists_of (layout_parts layout.now)) result }
 {
     match layout {
         Layout::Tokens(lists) => Ring::from_tokens(alloc, lists.as_slice()),

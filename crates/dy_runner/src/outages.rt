@@ -1,12 +1,15 @@
 // What a command does at one node.
-ghost use Rattle.std.specs.Prelude.{◌≡◌, None, IfOk, IsOkUnless, List, map, ℕ};
+ghost use Rattle.std.specs.Prelude.{◌≡◌, None, IfErr, IfOk, IsOkUnless, OnOk, List, map, ℕ};
 ghost use Rattle.dy_siblings.specs.Siblings.{Siblings};
+ghost use Rattle.dy_siblings.specs.Sizes.{IsKey};
 ghost use Rattle.dy_cluster.specs.Named.{IsNodeOf};
 ghost use Rattle.dy_cluster.specs.Shows.{IsShow};
 ghost use Rattle.dy_runner.specs.Answers.{IsDeliveryTold, IsPassTold, IsShowTold};
 ghost use Rattle.dy_runner.specs.Answers.{delivery_outcome, kept_row, pass_outcome};
 ghost use Rattle.dy_runner.specs.Modes.{node_mode};
+ghost use Rattle.dy_runner.specs.Texts.{IsKeyRefused};
 
+use crate::givens::read_key;
 use crate::writes::refused;
 use dy_cluster::Cluster;
 use dy_dots::{Fault, NodeId};
@@ -15,7 +18,6 @@ use dy_lines::{Kept, Outcome, Word};
 use dy_node::{Mode as NodeMode, RowFor};
 use dy_script::Mode;
 use dy_shares::Naming;
-use dy_siblings::Key;
 use std::alloc::Global;
 use std::sync::Wait;
 
@@ -27,7 +29,8 @@ pub(crate) fn run_set_up<J: Naming, R: Wait>(
     number: usize,
     is_up: bool,
 ) -> Outcome
-    ensures { IsNodeOf J.ring number → result ≡ Outcome.Done word }
+    ensures done { IsNodeOf J.ring number → result ≡ Outcome.Done word }
+    ensures down { ¬ (IsNodeOf J.ring number) → result ≡ Outcome.Refused word Fault.Down None }
 {
     match cluster.node(number) {
         Some(node) => {
@@ -45,7 +48,9 @@ pub(crate) fn run_set_mode<J: Naming, R: Wait>(
     number: usize,
     mode: Mode,
 ) -> Outcome
-    ensures { IsNodeOf J.ring number → result ≡ Outcome.Done Word.SetMode }
+    ensures done { IsNodeOf J.ring number → result ≡ Outcome.Done Word.SetMode }
+    ensures down { ¬ (IsNodeOf J.ring number)
+        → result ≡ Outcome.Refused Word.SetMode Fault.Down None }
 {
     match cluster.node(number) {
         Some(node) => {
@@ -64,7 +69,7 @@ pub(crate) fn run_deliver<J: Naming, R: Wait>(
     cluster: &Cluster<J>,
     number: usize,
 ) -> Outcome
-    ensures { IsDeliveryTold result }
+    ensures { IsDeliveryTold J.ring number result }
 {
     match cluster.node(number) {
         Some(node) => delivered(cluster.deliver(rt, node)),
@@ -88,7 +93,7 @@ pub(crate) fn run_handoff<J: Naming, R: Wait>(
     cluster: &Cluster<J>,
     number: usize,
 ) -> Outcome
-    ensures { IsPassTold J number result }
+    ensures { IsPassTold J J.ring number result }
 {
     match cluster.node(number) {
         Some(node) => handed_over(cluster.handoff(rt, node)),
@@ -118,7 +123,7 @@ pub(crate) fn run_show<J: Naming, R: Wait>(
     number: usize,
     key: &str,
 ) -> Outcome
-    ensures { IsShowTold number key.now result }
+    ensures { IsShowTold J.ring number key.now result }
 {
     let Some(node) = cluster.node(number) else {
         return refused(Word::Show, Fault::Down);
@@ -138,10 +143,15 @@ fn shown<J: Naming, R: Wait>(
     key: &str,
 ) -> Result<Vec<Kept>, Fault>
     requires { IsNodeOf J.ring node }
-    ensures { IfOk result (λ kept. (rows : List (ℕ × Siblings))
+    ensures ok { IfOk result (λ kept. (rows : List (ℕ × Siblings))
         × IsShow key.now rows × (kept.items ≡ map kept_row rows)) }
+    ensures sized { OnOk result (IsKey key.now) }
+    ensures only { IfErr result (IsKeyRefused key.now) }
 {
-    let key = Key::new(alloc, key.as_bytes())?;
+    let key = match read_key(alloc, key) {
+        Ok(key) => key,
+        Err(fault) => return Err(fault),
+    };
     let rows = cluster.show(rt, node, &key)?;
     let kept = kept_of(alloc, rows.as_slice())?;
     Ok(kept)

@@ -1,4 +1,4 @@
-ghost use Rattle.std.specs.Prelude.{◌≡◌, ◌<◌, ◌≤◌, ◌⊎◌, [], length, false, is_err};
+ghost use Rattle.std.specs.Prelude.{◌≡◌, ◌<◌, ◌≤◌, ◌⊎◌, ◌↔◌, [], length, false, is_err};
 ghost use Rattle.std.specs.Prelude.{IfOk, IfErr, OnErr};
 ghost use Rattle.dy_dots.specs.declared.faults.Fault.TheVariants as Fault;
 ghost use Rattle.dy_runner.specs.Seats.{IsOpen, IsOpened, IsSeated, seat_of};
@@ -45,7 +45,7 @@ impl Seats {
         ensures there { IfOk result (λ place. place < length sessions.new.items) }
         ensures opened { IsOpened number self.old.numbers.items self.new.numbers.items }
         ensures seated { IsSeated sessions.old.items sessions.new.items }
-        ensures is_open { IfOk result (λ _. IsOpen number self.new.numbers.items) }
+        ensures is_open { IsOpen number self.new.numbers.items ↔ (self.new.refused ≡ false) }
         ensures err { OnErr result (sessions.new.items ≡ sessions.old.items) }
         ensures refused { self.new.refused ≡ is_err result }
         ensures only { IfErr result (λ fault. (fault ≡ Fault.OutOfMemory)
@@ -71,6 +71,7 @@ fn seat_in<J: Naming, R: Wait>(
     ensures there { IfOk result (λ place. place < length sessions.new.items) }
     ensures opened { IsOpened number numbers.old.items numbers.new.items }
     ensures seated { IsSeated sessions.old.items sessions.new.items }
+    ensures is_open { IsOpen number numbers.new.items ↔ (is_err result ≡ false) }
     ensures err { OnErr result (sessions.new.items ≡ sessions.old.items) }
     ensures only { IfErr result (λ fault. (fault ≡ Fault.OutOfMemory)
         ⊎ (fault ≡ Fault.TooMany)) }

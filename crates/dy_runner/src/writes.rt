@@ -1,10 +1,11 @@
-ghost use Rattle.std.specs.Prelude.{◌≡◌, None, Result, length, option_map, string_bytes};
+ghost use Rattle.std.specs.Prelude.{◌≡◌, ◌↔◌, None, Result, false, length, option_map};
+ghost use Rattle.std.specs.Prelude.{string_bytes};
 ghost use Rattle.dy_dots.specs.declared.faults.Fault.{Fault as FaultParts};
 ghost use Rattle.dy_dots.specs.declared.nodes.TheConstants.{MAX_NODES};
 ghost use Rattle.dy_lines.specs.declared.outcomes.Word.TheVariants as word;
 ghost use Rattle.dy_runner.specs.Answers.{TellsPut};
 ghost use Rattle.dy_runner.specs.Openings.{given_or};
-ghost use Rattle.dy_runner.specs.Seats.{IsOpenUnless, IsOpened, seat_of};
+ghost use Rattle.dy_runner.specs.Seats.{IsOpen, IsOpened, seat_of};
 ghost use Rattle.dy_runner.specs.Texts.{IsDeleteJudged, IsPutJudged};
 ghost use Rattle.dy_runner.specs.Writes.{IsWritten, RunsJudged};
 ghost use Rattle.dy_runner.specs.declared.givens.Given.{Given as GivenParts};
@@ -39,14 +40,15 @@ pub(crate) fn run_put<J: Naming, R: Wait>(
     ensures room { direct.new.room ≡ MAX_NODES }
     ensures together { length seats.new.numbers.items ≡ length sessions.new.items }
     ensures opened { IsOpened write.now.session seats.old.numbers.items seats.new.numbers.items }
-    ensures is_open { IsOpenUnless seats.new.refused write.now.session seats.new.numbers.items }
+    ensures is_open { IsOpen write.now.session seats.new.numbers.items
+        ↔ (seats.new.refused ≡ false) }
     ensures told { (judged : Result GivenParts FaultParts)
         × IsPutJudged (string_bytes write.now.key)
         (option_map string_bytes write.now.context) value.now judged
         × RunsJudged J J.ring J.n
         (seat_of write.now.session seats.new.numbers.items)
         (given_or w write.now.w) word.Put result
-        sessions.old.items sessions.new.items judged }
+        seats.new.refused sessions.old.items sessions.new.items judged }
 {
     let place = seats.place_of(rt, cluster, sessions, write.session);
     let given = match read_put(alloc, write, value) {
@@ -84,14 +86,15 @@ pub(crate) fn run_delete<J: Naming, R: Wait>(
     ensures room { direct.new.room ≡ MAX_NODES }
     ensures together { length seats.new.numbers.items ≡ length sessions.new.items }
     ensures opened { IsOpened write.now.session seats.old.numbers.items seats.new.numbers.items }
-    ensures is_open { IsOpenUnless seats.new.refused write.now.session seats.new.numbers.items }
+    ensures is_open { IsOpen write.now.session seats.new.numbers.items
+        ↔ (seats.new.refused ≡ false) }
     ensures told { (judged : Result GivenParts FaultParts)
         × IsDeleteJudged (string_bytes write.now.key)
         (option_map string_bytes write.now.context) judged
         × RunsJudged J J.ring J.n
         (seat_of write.now.session seats.new.numbers.items)
         (given_or w write.now.w) word.Delete result
-        sessions.old.items sessions.new.items judged }
+        seats.new.refused sessions.old.items sessions.new.items judged }
 {
     let number = write.session;
     let place = seats.place_of(rt, cluster, sessions, number);

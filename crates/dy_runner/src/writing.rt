@@ -1,7 +1,8 @@
-ghost use Rattle.std.specs.Prelude.{◌≡◌, List, ℕ, IfOk, OnOk, true};
+ghost use Rattle.std.specs.Prelude.{◌≡◌, ◌↔◌, List, ℕ, Result, IfOk, IsErrOf, OnErr, OnOk, true};
 ghost use Rattle.std.specs.Io.KnownBytes.{Appends};
 ghost use Rattle.std.specs.List.{flat_map};
 ghost use Rattle.std.specs.declared.marker.Brand.{Brand};
+ghost use Rattle.dy_dots.specs.declared.faults.Fault.{Fault as FaultParts};
 ghost use Rattle.dy_ring.specs.Rings.{Tokens};
 ghost use Rattle.dy_script.specs.Reading.{script_parts};
 ghost use Rattle.dy_book.specs.Limits.{AreLimits};
@@ -10,11 +11,13 @@ ghost use Rattle.dy_cluster.specs.Ends.{IsClosed};
 ghost use Rattle.dy_cluster.specs.Settings.{setting};
 ghost use Rattle.dy_runner.specs.AuditLines.{acked_line, audit_lines, end_line, held_line};
 ghost use Rattle.dy_runner.specs.AuditLines.{settled_line, settled_lines};
-ghost use Rattle.dy_runner.specs.Openings.{options_for};
-ghost use Rattle.dy_runner.specs.RingLines.{IsLaidOut, key_lines, ring_lines};
+ghost use Rattle.dy_runner.specs.Openings.{IsPlanOf, options_for};
+ghost use Rattle.dy_runner.specs.Refusals.{IsFirstRefusal, IsStoppedBy};
+ghost use Rattle.dy_runner.specs.RingLines.{IsLaidOut, IsRingMade, key_lines, lists_of, ring_lines};
 ghost use Rattle.dy_runner.specs.Runs.{HasRun, IsRun};
 
-use crate::options::{options_of, ring_of};
+use crate::options::ring_of;
+use crate::plans::{Plan, plan_of};
 use crate::recordings::{Recorded, Recording};
 use crate::running::Run;
 use crate::telling::write_plays;
@@ -31,6 +34,7 @@ use dy_ring::Ring;
 use dy_script::Script;
 use dy_siblings::Key;
 use std::alloc::Global;
+use std::io;
 use std::io::Write;
 use std::sync::Wait;
 
@@ -44,34 +48,55 @@ pub fn write_run<O: Write, R: Wait>(
     out: &mut O,
 ) -> Result<(), Stopped>
     ensures limits { OnOk result (AreLimits (options_for (script_parts script.now))) }
+    ensures refused { (made : Result Tokens FaultParts)
+        × IsRingMade (lists_of (script_parts script.now).layout) made
+        × IsStoppedBy (IsFirstRefusal made (options_for (script_parts script.now))) result
+        (O.contents out.old) (O.contents out.new) }
     ensures run { OnOk result ((wrote : List ℕ) × IsRun (script_parts script.now) with_steps wrote
         × Appends (O.contents out.old) (O.contents out.new) wrote) }
 {
-    let ring = ring_of(alloc, &script.layout)?;
-    let options = options_of(script)?;
-    if with_steps {
-        return write_with_steps(rt, alloc, ring, options, script, out);
+    match plan_of(alloc, script) {
+        Ok(plan) => write_planned(rt, alloc, plan, script, with_steps, out),
+        Err(fault) => Err(Stopped::Refused(fault)),
     }
+}
+
+// Runs the script on the cluster that it asks for, with the steps or without.
+fn write_planned<O: Write, R: Wait>(
+    rt: &R,
+    alloc: Global,
+    plan: Plan,
+    script: &Script,
+    with_steps: bool,
+    out: &mut O,
+) -> Result<(), Stopped>
+    requires planned { IsPlanOf (script_parts script.now) plan }
+    ensures { OnOk result ((wrote : List ℕ) × IsRun (script_parts script.now) with_steps wrote
+        × Appends (O.contents out.old) (O.contents out.new) wrote) }
+{
+    if with_steps {
+        return write_with_steps(rt, alloc, plan, script, out);
+    }
+    let Plan { ring, options } = plan;
     let closed = run_script(rt, alloc, ring, options, script, out)?;
     write_audit(alloc, script.w, script.settled, &closed.audit, out)?;
     Ok(())
 }
 
-// Runs the script on a cluster of this ring, which it closes, and then writes the cluster, each
-// command with the steps that the book made, and the audit.
+// Runs the script on the cluster that it asks for, which it closes, and then writes the cluster,
+// each command with the steps that the book made, and the audit.
 fn write_with_steps<O: Write, R: Wait>(
     rt: &R,
     alloc: Global,
-    ring: Ring,
-    options: Options,
+    plan: Plan,
     script: &Script,
     out: &mut O,
 ) -> Result<(), Stopped>
-    requires laid_out { IsLaidOut (script_parts script.now).layout ring }
-    requires asked { options ≡ options_for (script_parts script.now) }
+    requires planned { IsPlanOf (script_parts script.now) plan }
     ensures { OnOk result ((wrote : List ℕ) × IsRun (script_parts script.now) true wrote
         × Appends (O.contents out.old) (O.contents out.new) wrote) }
 {
+    let Plan { ring, options } = plan;
     let again = ring.try_clone(alloc)?;
     let mut recording = Recording {
         script,
@@ -197,14 +222,31 @@ pub fn write_ring<W: Write>(alloc: Global, script: &Script, out: &mut W) -> Resu
         × IsLaidOut (script_parts script.now).layout ring
         × Appends (W.contents out.old) (W.contents out.new)
         (ring_lines ring (script_parts script.now).keys)) }
+    ensures refused { (made : Result Tokens FaultParts)
+        × IsRingMade (lists_of (script_parts script.now).layout) made
+        × ((f : FaultParts) → IsErrOf result (Stopped.Refused f) ↔ IsErrOf made f)
+        × OnErr made (W.contents out.new ≡ W.contents out.old) }
 {
-    let ring = ring_of(alloc, &script.layout)?;
+    let ring = match ring_of(alloc, &script.layout) {
+        Ok(ring) => ring,
+        Err(fault) => return Err(Stopped::Refused(fault)),
+    };
+    match write_lines(&ring, script.keys.as_slice(), out) {
+        Ok(()) => Ok(()),
+        Err(error) => Err(Stopped::Output(error)),
+    }
+}
+
+fn write_lines<W: Write>(ring: &Ring, keys: &[Key], out: &mut W) -> io::Result<()>
+    ensures { OnOk result (Appends (W.contents out.old) (W.contents out.new)
+        (ring_lines ring.now keys.now)) }
+{
     write_tokens(ring.tokens(), out)?;
-    write_keys(&ring, script.keys.as_slice(), out)?;
+    write_keys(ring, keys, out)?;
     Ok(())
 }
 
-fn write_keys<W: Write>(ring: &Ring, keys: &[Key], out: &mut W) -> Result<(), Stopped>
+fn write_keys<W: Write>(ring: &Ring, keys: &[Key], out: &mut W) -> io::Result<()>
     ensures { OnOk result (Appends (W.contents out.old) (W.contents out.new)
         (key_lines ring.now keys.now)) }
 {

@@ -7,6 +7,7 @@ use Rattle.dy_runner.proofs.outages.run_deliver.Goals as goal
 pub returns-in-Some : goal.returns-in-Some
 returns-in-Some g c = record {
   answer = c.deliver.result;
+  down = λ none. absurd (none (c.in-Some.ensures.some.0 refl));
   ok = c.deliver.ensures.ok;
   only = c.deliver.ensures.only;
   tells = c.delivered.ensures;
@@ -16,6 +17,7 @@ returns-in-Some g c = record {
 pub returns-in-None : goal.returns-in-None
 returns-in-None g c = record {
   answer = Err Down;
+  down = λ none. refl;
   ok = tt;
   only = inl refl;
   tells = c.refused.ensures;

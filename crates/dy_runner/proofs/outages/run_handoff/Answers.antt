@@ -9,6 +9,7 @@ use Rattle.dy_runner.proofs.outages.run_handoff.Goals as goal
 pub returns-in-Some : goal.returns-in-Some
 returns-in-Some g c = record {
   answer = c.handoff.result;
+  down = λ none. absurd (none (c.in-Some.ensures.some.0 refl));
   ok = subst (λ (n : ℕ). IfOk c.handoff.result (λ pass. (told : Told g.row.J.Denot)
       × IsPass {J = g.row.J.Denot} n told pass)) c.in-Some.ensures.value c.handoff.ensures.ok;
   fewer = c.handoff.ensures.fewer;
@@ -20,6 +21,7 @@ returns-in-Some g c = record {
 pub returns-in-None : goal.returns-in-None
 returns-in-None g c = record {
   answer = Err Down;
+  down = λ none. refl;
   ok = tt;
   fewer = tt;
   only = inl refl;

@@ -1,10 +1,10 @@
 -- the session at this place wrote it
-use Rattle.std.proofs.Common.{ℕ, inl, subst}
+use Rattle.std.proofs.Common.{ℕ, subst}
 use Rattle.std.specs.Prelude.{Ok}
 use Rattle.dy_lines.specs.declared.outcomes.Word.TheVariants as word
 use Rattle.dy_runner.specs.Openings.{given_or}
 use Rattle.dy_runner.specs.Writes.{IsWritten}
-use Rattle.dy_runner.proofs.Seating.{told_at, number_of_homes}
+use Rattle.dy_runner.proofs.Seating.{told_at, tried_at, number_of_homes}
 use Rattle.dy_runner.proofs.writes.run_delete.Goals as goal
 
 pub returns-in-Ok-place-clause-told : goal.returns-in-Ok-place-clause-told
@@ -15,13 +15,14 @@ returns-in-Ok-place-clause-told g c =
     let new = c.write_in.new.session in
     let Tells : ℕ → Type 0 = λ w. IsWritten g.row.J.Denot naming.ring naming.n w c.in-Ok.given
     word.Delete c.write_in.result old new in
+    let Written = IsWritten g.row.J.Denot naming.ring naming.n
+    (given_or c.args.w c.args.write.now.w) c.in-Ok.given word.Delete c.write_in.result in
     let tells = subst Tells (number_of_homes c.args.w c.args.write.now.w _ c.unwrap_or-w.ensures)
     c.write_in.ensures.told in (
       Ok c.in-Ok.given,
-      record { ok = c.in-Ok.ensures.ok; only = tt },
-      inl (told_at c.in-Ok-place.place _ c.args.sessions.now.items
-          c.place_of-place.new.sessions.items old new
-          (IsWritten g.row.J.Denot naming.ring naming.n (given_or c.args.w c.args.write.now.w)
-          c.in-Ok.given word.Delete c.write_in.result)
+      record { ok = c.in-Ok.ensures.ok; key_size = c.in-Ok.ensures.key_size; only = tt },
+      tried_at _ word.Delete c.write_in.result _ c.args.sessions.now.items _ Written place.refused
+          (told_at c.in-Ok-place.place _ c.args.sessions.now.items
+          c.place_of-place.new.sessions.items old new Written
           place.place place.there c.index_mut.ensures.value place.seated tells),
     )

@@ -1,51 +1,35 @@
--- The lines of the commands, and the audit's behind them, where no steps are wanted; the options
--- are the script's.
-use Rattle.std.proofs.Common.{Bool, List, ℕ, OnOk, refl, subst, sym}
-use Rattle.std.proofs.KnownBytes.{Appends-trans}
-use Rattle.std.specs.Io.KnownBytes.{Appends}
-use Rattle.std.specs.declared.marker.Brand.{Brand}
+-- What stops a run is the refusal that comes first, and then nothing is written.
+use Rattle.std.proofs.Common.{ap, refl}
+use Rattle.std.specs.Prelude.{Err}
 use Rattle.dy_script.specs.Reading.{script_parts}
-use Rattle.dy_book.specs.declared.options.Options.{Options}
-use Rattle.dy_cluster.specs.Ends.{IsClosed}
-use Rattle.dy_cluster.specs.Settings.{setting}
-use Rattle.dy_runner.specs.Runs.{DoAll, IsPrinted, IsRun, Seated, none_seated, plain_lines}
+use Rattle.dy_book.specs.Limits.{AreLimits}
+use Rattle.dy_dots.specs.declared.faults.Fault.{Fault}
+use Rattle.dy_lines.specs.declared.stops.Stopped.TheVariants.{Refused}
+use Rattle.dy_runner.specs.Openings.{options_for}
+use Rattle.dy_runner.proofs.Refusing.{not_refused, on_ok, same_refusal}
 use Rattle.dy_runner.proofs.writing.write_run.Goals as goal
 
-pub returns-clause-run : goal.returns-clause-run
-returns-clause-run g c =
-    let script = script_parts c.args.script.now in
-    let ring = c.in_ok-ring.ring in
-    let closed = c.in_ok-closed.closed in
-    let told = c.in_ok-closed.ensures in
-    let run = told.2 in
-    let sessions : Seated = record {
-      numbers = run.numbers;
-      tellings = told.0;
-      refused = run.refused;
-    } in
-    let asked = c.in_ok-options.ensures.ok in (
-      plain_lines script run.outcomes closed.audit,
-      record {
-        ring = ring;
-        laid_out = c.in_ok-ring.ensures;
-        outcomes = run.outcomes;
-        sessions = sessions;
-        done = subst (λ (o : Options). DoAll (setting Brand ring o.n o.r) script.w script.run
-            run.outcomes none_seated sessions) asked run.done;
-        closed = closed;
-        ended = subst (λ (o : Options). IsClosed ring o.n o.r told.0 closed) asked told.1;
-        wrote_is = subst (λ (b : Bool). IsPrinted b script ring run.outcomes run.numbers
-            closed.audit (plain_lines script run.outcomes closed.audit))
-            (sym c.if-with_steps.false) refl;
-      },
-      Appends-trans _ _ _ _ _ run.wrote c.in_ok-write_audit.ensures,
-    )
+-- a script that has a plan has its limits in their ranges
+pub returns-in-Ok-clause-limits : goal.returns-in-Ok-clause-limits
+returns-in-Ok-clause-limits g c =
+    on_ok c.write_planned.result (AreLimits (options_for (script_parts c.args.script.now)))
+    c.in-Ok.ensures.ok.limits
 
--- what is written with the steps, where they are wanted
-pub returns-then-with_steps-clause-run : goal.returns-then-with_steps-clause-run
-returns-then-with_steps-clause-run g c =
-    let contents = g.O.Write.contents in
-    subst (λ (b : Bool). OnOk c.write_with_steps.result ((wrote : List ℕ)
-    × IsRun (script_parts c.args.script.now) b wrote
-    × Appends (contents c.args.out.now) (contents c.write_with_steps.new.out) wrote))
-    (sym c.if-with_steps.true) c.write_with_steps.ensures
+-- and nothing refuses it
+pub returns-in-Ok-clause-refused : goal.returns-in-Ok-clause-refused
+returns-in-Ok-clause-refused g c =
+    let first = c.in-Ok.ensures.first in
+    (first.0, first.1, λ f this. not_refused c.in-Ok.plan f ((first.2 f).1 this))
+
+-- what has none is stopped by what refuses it
+pub returns-in-Err-clause-refused : goal.returns-in-Err-clause-refused
+returns-in-Err-clause-refused g c =
+    let first = c.in-Err.ensures.first in (
+      first.0,
+      first.1,
+      λ f this. (
+        ap (λ (e : Fault). Err (Refused e))
+            (same_refusal c.in-Err.fault f ((first.2 f).1 this)),
+        refl,
+      ),
+    )

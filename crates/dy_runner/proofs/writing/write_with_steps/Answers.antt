@@ -17,7 +17,8 @@ pub returns : goal.returns
 returns g c =
     let contents = g.O.Write.contents in
     let script = script_parts c.args.script.now in
-    let ring = c.args.ring in
+    let plan = c.requires.planned in
+    let ring = c.args.plan.ring in
     let closed = c.in_ok-closed.closed in
     let told = c.in_ok-closed.ensures.closed in
     let recorded = c.with_cluster.new.work.recorded in
@@ -33,13 +34,15 @@ returns g c =
       first ++ lines.0 ++ last,
       record {
         ring = ring;
-        laid_out = c.requires.laid_out;
+        laid_out = plan.laid_out;
+        limits = plan.limits;
+        quorum = plan.quorum;
         outcomes = outcomes;
         sessions = seated recorded.seats told.0;
         done = subst (λ (o : Options). DoAll (setting Brand ring o.n o.r) script.w script.run
-            outcomes none_seated (seated recorded.seats told.0)) c.requires.asked told.2;
+            outcomes none_seated (seated recorded.seats told.0)) plan.options told.2;
         closed = closed;
-        ended = subst (λ (o : Options). IsClosed ring o.n o.r told.0 closed) c.requires.asked
+        ended = subst (λ (o : Options). IsClosed ring o.n o.r told.0 closed) plan.options
             told.1;
         wrote_is = (
           lines.0,
