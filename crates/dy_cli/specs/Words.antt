@@ -1,7 +1,10 @@
 -- What the words of a command line say.
-use Rattle.std.specs.Prelude.{◌≡◌, ◌<◌, ℕ, List, Some, slice_get}
+use Rattle.std.specs.Prelude.{◌≡◌, ◌≢◌, ◌<◌, ◌↔◌, ℕ, List, [], Some, IsTrue, codes, length}
+use Rattle.std.specs.Prelude.{get_or, slice_get}
 use Rattle.std.specs.Str.Parse.{IsNumeral, digits_value}
 use Rattle.dy_storm.specs.declared.plans.Storm.{Storm}
+use Rattle.dy_cli.specs.declared.jobs.Job.{Job}
+use Rattle.dy_cli.specs.declared.jobs.Job.TheVariants as job
 
 -- a word of one or more decimal digits, leading zeros allowed, and the number that they write
 abbrev pub IsNumberWord : List ℕ → ℕ → Type 0
@@ -11,7 +14,14 @@ IsNumberWord word n = IsNumeral 10 word × (n ≡ digits_value 10 word)
 abbrev pub SaysAt : List (List ℕ) → ℕ → ℕ → Type 0
 SaysAt words at n = (word : List ℕ) × (slice_get words at ≡ Some word) × IsNumberWord word n
 
--- three words behind the first say the numbers of the storm, in their order
+-- the flag is one of the words, and no word before it is two dashes alone
+abbrev pub HasFlag : List (List ℕ) → List ℕ → Type 0
+HasFlag words flag =
+    (at : ℕ) × (at < length words) × (get_or words at [] ≡ flag)
+    × ((k : ℕ) → k < at → get_or words k [] ≢ codes "--")
+
+-- three words behind the first say the numbers of the storm, in their order; it has the faults and
+-- the steps where the words have these flags
 pub record IsStormOf (words : List (List ℕ)) (storm : Storm) : Type 0 where
   pub seed_at : ℕ
   pub threads_at : ℕ
@@ -22,3 +32,12 @@ pub record IsStormOf (words : List (List ℕ)) (storm : Storm) : Type 0 where
   pub behind : 0 < seed_at
   pub between : seed_at < threads_at
   pub last : threads_at < puts_at
+  pub faults : IsTrue storm.faults ↔ HasFlag words (codes "--faults")
+  pub steps : IsTrue storm.steps ↔ HasFlag words (codes "--steps")
+
+-- the words say this job, as far as that is known: a run with the steps where they have this flag,
+-- and a storm
+abbrev pub IsJobOf : List (List ℕ) → Job → Type 0
+IsJobOf words (job.Run file with_steps) = IsTrue with_steps ↔ HasFlag words (codes "--steps")
+IsJobOf words (job.Ring file) = Unit {0}
+IsJobOf words (job.Storm storm) = IsStormOf words storm

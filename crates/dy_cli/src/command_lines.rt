@@ -1,10 +1,9 @@
-ghost use Rattle.std.specs.Prelude.{◌≡◌, ◌≢◌, ◌≤◌, IfErr, IfOk, IfSome, map, string_bytes};
-ghost use Rattle.dy_cli.specs.Words.{IsStormOf};
-ghost use Rattle.dy_cli.specs.declared.jobs.Job.TheVariants as Job;
-ghost use Rattle.dy_storm.specs.declared.plans.Storm.{Storm as StormPlan};
+ghost use Rattle.std.specs.Prelude.{◌≡◌, ◌≢◌, ◌≤◌, ◌⊎◌, IfErr, IfOk, IfSome, map, string_bytes};
+ghost use Rattle.clap.specs.Values.{kind_of};
+ghost use Rattle.dy_cli.specs.Words.{IsJobOf};
 
 use crate::jobs::Job;
-use crate::numbers::storm_of;
+use crate::numbers::{has_flag, storm_of};
 use clap::error::ErrorKind;
 use clap::{Arg, ArgAction, ArgMatches, Command, Error};
 use std::alloc::{AllocError, Global};
@@ -33,8 +32,7 @@ Scripts and lines: docs/FORMATS.md. Refusals, and what to do: docs/REFUSALS.md."
 /// The job that the words after the program's name ask for, or the status to end with.
 pub fn words(alloc: Global, words: &[String]) -> Result<Job, u8>
     ensures status { IfErr result (λ status. (1 ≤ status) × (status ≤ 2)) }
-    ensures storm { IfOk result (λ job. (storm : StormPlan) → job ≡ Job.Storm storm →
-        IsStormOf (map string_bytes words.now) storm) }
+    ensures job { IfOk result (IsJobOf (map string_bytes words.now)) }
 {
     match matches_of(alloc, words) {
         Ok(matches) => match job_of(alloc, words, &matches) {
@@ -42,10 +40,20 @@ pub fn words(alloc: Global, words: &[String]) -> Result<Job, u8>
             Ok(None) => Err(2),
             Err(_) => Err(1),
         },
-        Err(error) => match error.kind() {
-            ErrorKind::OutOfMemory => Err(1),
-            _ => Err(2),
-        },
+        Err(error) => Err(status_of(&error)),
+    }
+}
+
+/// The status to end with where clap refuses the words: 1 where memory ran out, and 2 for any other
+/// cause.
+fn status_of(error: &Error) -> u8
+    ensures memory { kind_of error.now ≡ ErrorKind.OutOfMemory → result ≡ 1 }
+    ensures other { kind_of error.now ≢ ErrorKind.OutOfMemory → result ≡ 2 }
+    ensures some { (result ≡ 1) ⊎ (result ≡ 2) }
+{
+    match error.kind() {
+        ErrorKind::OutOfMemory => 1,
+        _ => 2,
     }
 }
 
@@ -59,28 +67,28 @@ pub fn explain<R: Print + Eprint>(rt: &R, alloc: Global, words: &[String]) -> io
 
 /// The job that the matches of the words name.
 fn job_of(alloc: Global, words: &[String], matches: &ArgMatches) -> Result<Option<Job>, AllocError>
-    ensures { IfOk result (λ found. IfSome found (λ job. (storm : StormPlan) →
-        job ≡ Job.Storm storm → IsStormOf (map string_bytes words.now) storm)) }
+    ensures { IfOk result (λ found. IfSome found (IsJobOf (map string_bytes words.now))) }
 {
     let Some((name, inner)) = matches.subcommand() else {
         return Ok(None);
     };
     Ok(match name {
-        "run" => run_of(file_of(alloc, inner)?, inner.get_flag("steps")),
+        "run" => run_of(words, file_of(alloc, inner)?),
         "ring" => file_of(alloc, inner)?.map(|file| Job::Ring(file)),
-        "storm" => storm_of(words, inner.get_flag("faults"), inner.get_flag("steps")).map(
-            |plan| Job::Storm(plan),
-        ),
+        "storm" => storm_of(words).map(|plan| Job::Storm(plan)),
         _ => None,
     })
 }
 
-/// The run of this file, with the steps or without.
-fn run_of(file: Option<String>, with_steps: bool) -> Option<Job>
-    ensures { IfSome result (λ job. (storm : StormPlan) → job ≢ Job.Storm storm) }
+/// The run of this file, with the steps where the words have their flag.
+fn run_of(words: &[String], file: Option<String>) -> Option<Job>
+    ensures { IfSome result (IsJobOf (map string_bytes words.now)) }
 {
     match file {
-        Some(file) => Some(Job::Run { file, with_steps }),
+        Some(file) => Some(Job::Run {
+            file,
+            with_steps: has_flag(words, "--steps"),
+        }),
         None => None,
     }
 }

@@ -1,12 +1,13 @@
-// The numbers that words of a command line say.
-ghost use Rattle.std.specs.Prelude.{◌<◌, ◌≤◌, ◌↔◌, ◌^◌, IfSome, IsSome, map, string_bytes};
+// The numbers and the flags that words of a command line say.
+ghost use Rattle.std.specs.Prelude.{◌≡◌, ◌<◌, ◌≤◌, ◌↔◌, ◌^◌, IfSome, IsSome, IsTrue, codes, map};
+ghost use Rattle.std.specs.Prelude.{string_bytes};
 ghost use Rattle.std.specs.Str.Parse.{IsNumeral, digits_value};
-ghost use Rattle.dy_cli.specs.Words.{IsNumberWord, IsStormOf, SaysAt};
+ghost use Rattle.dy_cli.specs.Words.{HasFlag, IsNumberWord, IsStormOf, SaysAt};
 
 use dy_storm::Storm;
 
-/// The storm that the words behind the first say, beside their options.
-pub(crate) fn storm_of(words: &[String], faults: bool, steps: bool) -> Option<Storm>
+/// The storm that the words behind the first say.
+pub(crate) fn storm_of(words: &[String]) -> Option<Storm>
     ensures { IfSome result (IsStormOf (map string_bytes words.now)) }
 {
     let seed = number_from(words, 1)?;
@@ -16,9 +17,38 @@ pub(crate) fn storm_of(words: &[String], faults: bool, steps: bool) -> Option<St
         seed: seed.number,
         threads: u8::try_from(threads.number).ok()?,
         puts: u32::try_from(puts.number).ok()?,
-        faults,
-        steps,
+        faults: has_flag(words, "--faults"),
+        steps: has_flag(words, "--steps"),
     })
+}
+
+/// Whether the flag is one of the words, and no word before it is two dashes alone.
+pub(crate) fn has_flag(words: &[String], flag: &str) -> bool
+    ensures { IsTrue result ↔ HasFlag (map string_bytes words.now) flag.now }
+{
+    for word in words {
+        if is_same(word.as_str(), flag) {
+            return true;
+        }
+        if is_dashes(word.as_str()) {
+            return false;
+        }
+    }
+    false
+}
+
+// Whether both are one word.
+fn is_same(word: &str, other: &str) -> bool
+    ensures { IsTrue result ↔ (word.now ≡ other.now) }
+{
+    word == other
+}
+
+// Whether the word is two dashes alone, behind which no word is a flag.
+fn is_dashes(word: &str) -> bool
+    ensures { IsTrue result ↔ (word.now ≡ codes "--") }
+{
+    word == "--"
 }
 
 // A number that one of the words says, and which word.
