@@ -1,4 +1,5 @@
 pub mod Carried
+pub mod CarriedOver
 pub mod Delivered
 pub mod Firsts
 pub mod Gathered

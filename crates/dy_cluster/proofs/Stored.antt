@@ -68,16 +68,14 @@ module _ (ring : Tokens) (n r : ℕ) (c : AtRest) (tellings : List SessionPart) 
         ),
       )
 
-  pub kept_held : (key : List ℕ) (v : Version) → KeepsVersion closed.rests.items key v →
+  -- what stands at a place in the world is held
+  pub stands_listed : (holder home : ℕ) (key : List ℕ) (v : Version) →
+      Contains (row_at (world_of c.book) holder home key) v →
       Contains (versions_held closed.audit.held.items key) v
-  kept_held key v kept =
+  stands_listed holder home key v at =
       let w = world_of c.book in
       let held = closed.audit.held.items in
-      let home = kept.2.0 in
-      let o = share_of ring n r c tellings closed ended kept.0 kept.1 in
-      let at = (same_rows ring n r c tellings closed ended o.item o.in_list kept.0 o.goes.0 home
-      key v).0 kept.2.1 in
-      let h = ended.audit.tells.held.every o.item.node home key v at in
+      let h = ended.audit.tells.held.every holder home key v at in
       let same = All-contains
       (λ g. IsSameRow g.row.versions (row_at w g.holder g.home g.row.key)) held h.0
       ended.audit.tells.held.each h.1 in
@@ -90,18 +88,28 @@ module _ (ring : Tokens) (n r : ℕ) (c : AtRest) (tellings : List SessionPart) 
       flat_map_in (λ (g : Holding). g.row.versions) (filter (λ g. same_key g.row.key key) held) h.0 v
       (filter_in (λ (g : Holding). same_key g.row.key key) held h.0 h.1 of_key) ((same v).1 there)
 
+  pub kept_held : (key : List ℕ) (v : Version) → KeepsVersion closed.rests.items key v →
+      Contains (versions_held closed.audit.held.items key) v
+  kept_held key v kept =
+      let home = kept.2.0 in
+      let o = share_of ring n r c tellings closed ended kept.0 kept.1 in
+      stands_listed o.item.node home key v
+      ((same_rows ring n r c tellings closed ended o.item o.in_list kept.0 o.goes.0 home
+      key v).0 kept.2.1)
+
+  -- each was made, and is of its key
+  pub held_made : (key : List ℕ) (x : Version) →
+      Contains (versions_held closed.audit.held.items key) x →
+      Contains (world_of c.book).versions x × (x.key ≡ key)
+  held_made key x there =
+      let s = stands_held key x there in
+      let at = stands_from (world_of c.book) s.holding.holder s.holding.home key x s.stands in
+      (at.made, at.key_is)
+
   pub held_one : (key : List ℕ) → AreOneByDot (versions_held closed.audit.held.items key)
   held_one key u v u_in v_in dot_is =
       let w = world_of c.book in
       let sound = log_sound (layout_of ring n) (steps_of c.book.log) ended.legal in
-      let a = made key u u_in in
-      let b = made key v v_in in
+      let a = held_made key u u_in in
+      let b = held_made key v v_in in
       same_version w.versions sound.ordered u v a.0 b.0 (a.1 ∙ sym b.1) dot_is
-    where
-      made : (key : List ℕ) (x : Version) →
-          Contains (versions_held closed.audit.held.items key) x →
-          Contains (world_of c.book).versions x × (x.key ≡ key)
-      made key x there =
-          let s = stands_held key x there in
-          let at = stands_from (world_of c.book) s.holding.holder s.holding.home key x s.stands in
-          (at.made, at.key_is)

@@ -32,7 +32,9 @@ module _ {J : Type 0} where
       IsGetRefused list key r since new e
       ⊎ ((new ≡ old) × (e.answers.items ≡ []) × (e.fault ≡ OutOfMemory))
 
-  -- what a get found stale was repaired; or no home was stale, and nobody was asked
+  -- what a get found stale was repaired, over a transport that was tried by nobody; or no home was
+  -- stale, and nobody was asked
   abbrev pub IsMended : List ℕ → Siblings → List Answer → Told J → Told J → Type 0
   IsMended homes row answers old new =
-      IsRepaired homes row answers new ⊎ (AreCurrent row answers × (new ≡ old))
+      (IsRepaired homes row answers new × (new.tries ≡ []))
+      ⊎ (AreCurrent row answers × (new ≡ old))

@@ -9,12 +9,16 @@ use Rattle.dy_shares.specs.Shares.{NodePart, SessionPart, steps_of}
 use Rattle.dy_shares.specs.Codes.{node_part_code}
 use Rattle.dy_book.specs.Audits.{IsAuditOf}
 use Rattle.dy_book.specs.Books.{BookParts, book_code}
+use Rattle.dy_book.specs.contracts.options.Options as options
+use Rattle.dy_book.specs.declared.options.Options.{Options}
 use Rattle.dy_node.specs.Nodes.{AreDeferred, RestState, rest_code}
 use Rattle.dy_node.specs.Stored.{Shows}
 use Rattle.dy_cluster.specs.declared.restings.Closed.{Closed}
 
--- what a cluster at rest is seen as: its book, its nodes' shares, and what the nodes keep
+-- what a cluster at rest is seen as: its options, its book, its nodes' shares, and what the nodes
+-- keep
 pub record AtRest : Type 0 where
+  pub options : Options
   pub book : BookParts
   pub parts : List NodePart
   pub rests : List RestState
@@ -22,10 +26,11 @@ pub record AtRest : Type 0 where
 -- a cluster at rest as plain data
 abbrev pub at_rest_code : Coded AtRest
 at_rest_code =
-    code_by (BookParts × (List NodePart × List RestState))
-    (coded× book_code (coded× (coded_list node_part_code) (coded_list rest_code)))
-    (λ c. (c.book, (c.parts, c.rests)))
-    (λ p. record { book = p.0; parts = p.1.0; rests = p.1.1 }) (λ _. refl)
+    code_by (Options × (BookParts × (List NodePart × List RestState)))
+    (coded× options.the_row.coded
+    (coded× book_code (coded× (coded_list node_part_code) (coded_list rest_code))))
+    (λ c. (c.options, (c.book, (c.parts, c.rests))))
+    (λ p. record { options = p.0; book = p.1.0; parts = p.1.1.0; rests = p.1.1.1 }) (λ _. refl)
 
 -- what a node keeps is what its share shows, and it may hold what it has deferred
 abbrev pub GoesWith : Tokens → ℕ → NodePart → RestState → Type 0

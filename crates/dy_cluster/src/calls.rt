@@ -73,12 +73,6 @@ impl<J: Naming> Cluster<J> {
         ensures err { OnErr result (session.new ≡ session.old) }
         ensures room { (T.told transport.new).room ≡ (T.told transport.old).room }
     {
-        if w < 1 {
-            return Err(self.put_untried(Fault::BadQuorum));
-        }
-        if self.options.n < w {
-            return Err(self.put_untried(Fault::BadQuorum));
-        }
         let list = self.list(key);
         dy_coord::put(
             rt, self.alloc, transport, &list, w, session, key, context, value,

@@ -4,7 +4,6 @@ ghost use Rattle.std.specs.Prelude.{IsOkUnless, Err};
 ghost use Rattle.std.specs.FinSet as set;
 ghost use Rattle.dy_cluster.specs.Carrying.{AreCarried, EndsBehindNothing, IsCarried, StopsAt};
 ghost use Rattle.dy_cluster.specs.Carrying.{IsCarriedOver, StopsCarrying};
-ghost use Rattle.dy_cluster.specs.Settings.{setting};
 
 use crate::connections::Connection;
 use crate::restings::Closed;
@@ -58,11 +57,13 @@ impl<'a, J: Naming, T: Transport<J>> Connection<'a, J, T> {
     ) -> Result<PutDone<J>, PutFault>
         requires nothing { none.now ≡ set.empty }
         requires value { value ≡ present.now.value }
-        ensures ok { IfOk result (λ done. IsCarried (setting J J.ring J.n J.r) self.old.w
-            present.now self.old.session self.new.session) }
+        ensures ok { IfOk result (λ done. IsCarried {J = J} J.ring J.n self.old.w present.now
+            self.old.session self.new.session
+            (T.told self.old.transport) (T.told self.new.transport)) }
         ensures err { IfErr result (λ refused. (self.new.session ≡ self.old.session)
-            × EndsBehindNothing (setting J J.ring J.n J.r) self.old.w present.now
-            self.old.session self.old.session (Err refused)) }
+            × EndsBehindNothing {J = J} J.ring J.n self.old.w present.now
+            self.old.session self.old.session
+            (T.told self.old.transport) (T.told self.new.transport) (Err refused)) }
         ensures w { self.new.w ≡ self.old.w }
         ensures mended { self.new.is_mended ≡ self.old.is_mended }
     {
@@ -77,10 +78,12 @@ impl<'a, J: Naming, T: Transport<J>> Connection<'a, J, T> {
         alloc: Global,
         values: &[PresentValue],
     ) -> Result<(), CarryFault>
-        ensures ok { OnOk result (AreCarried (setting J J.ring J.n J.r) self.old.w values.now
-            self.old.session self.new.session) }
-        ensures err { IfErr result (StopsAt (setting J J.ring J.n J.r) self.old.w values.now
-            self.old.session self.new.session) }
+        ensures ok { OnOk result (AreCarried {J = J} J.ring J.n self.old.w values.now
+            self.old.session self.new.session
+            (T.told self.old.transport) (T.told self.new.transport)) }
+        ensures err { IfErr result (StopsAt {J = J} J.ring J.n self.old.w values.now
+            self.old.session self.new.session
+            (T.told self.old.transport) (T.told self.new.transport)) }
         ensures w { self.new.w ≡ self.old.w }
         ensures mended { self.new.is_mended ≡ self.old.is_mended }
     {
@@ -116,10 +119,12 @@ pub fn carry_over<J: Naming, T: Transport<J>, R: Wait>(
     closed: &Closed,
     connection: &mut Connection<'_, J, T>,
 ) -> Result<usize, CarryFault>
-    ensures ok { IfOk result (IsCarriedOver (setting J J.ring J.n J.r) connection.old.w
-        closed.now.audit.held.items connection.old.session connection.new.session) }
-    ensures err { IfErr result (StopsCarrying (setting J J.ring J.n J.r) connection.old.w
-        closed.now.audit.held.items connection.old.session connection.new.session) }
+    ensures ok { IfOk result (IsCarriedOver {J = J} J.ring J.n connection.old.w
+        closed.now.audit.held.items connection.old.session connection.new.session
+        (T.told connection.old.transport) (T.told connection.new.transport)) }
+    ensures err { IfErr result (StopsCarrying {J = J} J.ring J.n connection.old.w
+        closed.now.audit.held.items connection.old.session connection.new.session
+        (T.told connection.old.transport) (T.told connection.new.transport)) }
     ensures w { connection.new.w ≡ connection.old.w }
     ensures mended { connection.new.is_mended ≡ connection.old.is_mended }
 {

@@ -8,6 +8,7 @@ ghost use Rattle.dy_cluster.specs.Ends.{IsClosed};
 ghost use Rattle.dy_cluster.specs.Named.{NamesBook};
 ghost use Rattle.dy_cluster.specs.Stores.{TellsAcks, TellsStores};
 
+use crate::books::{OpenBook, open_book};
 use crate::locks::{lock_all, rejoin_all, retire_all};
 use crate::openings::Opened;
 use crate::restings::{Closed, ClusterRefused, Resting};
@@ -52,19 +53,19 @@ impl<J: Naming> Cluster<J> {
     /// nothing, and the log is empty.
     pub fn open(alloc: Global, opened: Opened) -> Result<Cluster<J>, Fault>
         requires named { NamesBook J.book J.table J.ring J.n J.r opened }
+        ensures options { IfOk result (λ cluster. cluster.options ≡ opened.options) }
         ensures memory { IsOkUnless result Fault.OutOfMemory }
     {
-        let Opened {
-            blank,
+        let count = usize::from(opened.ring.nodes());
+        let rests = Vec::with_capacity(alloc, count)?;
+        let mut nodes = Vec::with_capacity(alloc, count)?;
+        let OpenBook {
+            book,
+            mut shares,
             ring,
             options,
-        } = opened;
-        let count = usize::from(ring.nodes());
-        let rests = Vec::with_capacity(alloc, count)?;
-        let again = ring.try_clone(alloc)?;
-        let mut nodes = Vec::with_capacity(alloc, count)?;
-        let (book, mut shares) = match Book::<J>::open(alloc, blank, again, options) {
-            Ok(opened) => opened,
+        } = match open_book::<J>(alloc, opened) {
+            Ok(made) => made,
             Err(fault) => {
                 nodes.destroy_empty();
                 return Err(fault);
@@ -127,7 +128,9 @@ impl<J: Naming> Cluster<J> {
     }
 
     /// Takes the cluster out of its locks. Waits for nobody, and takes no memory.
-    pub fn rest(self) -> Resting<J> {
+    pub fn rest(self) -> Resting<J>
+        ensures options { result.options ≡ self.options }
+    {
         let Cluster {
             alloc,
             ring,
@@ -153,7 +156,9 @@ impl<J: Naming> Cluster<J> {
     }
 
     /// Puts a cluster at rest into its locks again. Takes no memory.
-    pub fn wake(resting: Resting<J>) -> Cluster<J> {
+    pub fn wake(resting: Resting<J>) -> Cluster<J>
+        ensures options { result.options ≡ resting.options }
+    {
         let Resting {
             alloc,
             ring,

@@ -1,4 +1,4 @@
-ghost use Rattle.std.specs.Prelude.{◌≡◌, ◌≤◌, ◌⊎◌, Some, None, IsTrue};
+ghost use Rattle.std.specs.Prelude.{◌≡◌, ◌≤◌, ◌⊎◌, Some, None, IsTrue, false};
 ghost use Rattle.std.specs.Prelude.{IfOk, IfErr, OnErr, IsOkUnless};
 ghost use Rattle.dy_dots.specs.declared.nodes.TheConstants.{MAX_NODES};
 ghost use Rattle.dy_shares.specs.Shares.{since_of, with_get};
@@ -76,6 +76,8 @@ impl<'a, J: Naming, T: Transport<J>> Connection<'a, J, T> {
         ensures session { result.session ≡ session }
         ensures transport { result.transport ≡ transport }
         ensures w { result.w ≡ cluster.now.options.w }
+        ensures mended { result.is_mended ≡ false }
+        ensures cluster { result.cluster.now ≡ cluster.now }
     {
         Connection {
             session,

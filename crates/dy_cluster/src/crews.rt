@@ -67,7 +67,8 @@ pub(crate) fn run_staffed<
     seats: &[Mutex<S>],
 ) -> bool
     requires tells { (number : ℕ) (telling : SessionPart) →
-        C.told (setting J J.ring J.n J.r) client.now number telling → S.told number telling }
+        C.told (setting J J.ring J.n J.r cluster.now.options) client.now number telling →
+        S.told number telling }
 {
     let Mail {
         inboxes,
@@ -79,7 +80,7 @@ pub(crate) fn run_staffed<
         rt,
         |scope|
             requires tells { (number : ℕ) (telling : SessionPart) →
-                C.told (setting J J.ring J.n J.r) client.now number telling →
+                C.told (setting J J.ring J.n J.r cluster.now.options) client.now number telling →
                 S.told number telling }
         {
             let mut started = 0usize;
@@ -139,14 +140,15 @@ pub(crate) fn run_beside<
     seats: &[Mutex<S>],
 )
     requires tells { (number : ℕ) (telling : SessionPart) →
-        C.told (setting J J.ring J.n J.r) client.now number telling → S.told number telling }
+        C.told (setting J J.ring J.n J.r cluster.now.options) client.now number telling →
+        S.told number telling }
 {
     thread::scope(
         thread::scope_env(),
         rt,
         |scope|
             requires tells { (number : ℕ) (telling : SessionPart) →
-                C.told (setting J J.ring J.n J.r) client.now number telling →
+                C.told (setting J J.ring J.n J.r cluster.now.options) client.now number telling →
                 S.told number telling }
         {
             for seat in seats.iter() {
@@ -154,8 +156,8 @@ pub(crate) fn run_beside<
                 let thread = scope.spawn(
                     move ||
                         requires tells { (number : ℕ) (telling : SessionPart) →
-                            C.told (setting J J.ring J.n J.r) client.now number telling →
-                            S.told number telling }
+                            C.told (setting J J.ring J.n J.r cluster.now.options) client.now
+                            number telling → S.told number telling }
                     { sit(rt, alloc, cluster, client, seat, post) },
                 );
                 if thread.is_err() {
@@ -176,7 +178,8 @@ fn sit<J: Naming, S: Place<J>, C: Client, R: Wait>(
     mut post: Option<Post<J>>,
 )
     requires tells { (number : ℕ) (telling : SessionPart) →
-        C.told (setting J J.ring J.n J.r) client.now number telling → S.told number telling }
+        C.told (setting J J.ring J.n J.r cluster.now.options) client.now number telling →
+        S.told number telling }
 {
     seat.lock(rt).run(rt, alloc, cluster, client, &mut post);
 }

@@ -1,11 +1,12 @@
 ghost use Rattle.std.specs.Prelude.{◌≡◌, ◌<◌, ◌↔◌, ◌⊎◌, ℕ, [], List, length};
 ghost use Rattle.std.specs.Prelude.{IfOk, IfErr, IsErrOf};
 ghost use Rattle.std.specs.declared.marker.Brand.{Brand as BrandParts};
+ghost use Rattle.dy_dots.specs.declared.faults.Fault.{Fault as FaultParts};
 ghost use Rattle.dy_book.specs.Limits.{AreLimits, IsQuorum};
 ghost use Rattle.dy_shares.specs.Shares.{SessionPart};
 ghost use Rattle.dy_cluster.specs.Ends.{IsClosed};
 ghost use Rattle.dy_cluster.specs.Named.{NamesBook};
-ghost use Rattle.dy_cluster.specs.Refusals.{IsRunRefusal};
+ghost use Rattle.dy_cluster.specs.Refusals.{IsOpenRefusal, IsRunRefusal};
 ghost use Rattle.dy_cluster.specs.Settings.{Setting, setting};
 ghost use Rattle.dy_cluster.specs.Stores.{TellsAcks, TellsStores};
 ghost use Rattle.dy_cluster.specs.Tellings.{AreTold, IsUntold, as_fact};
@@ -33,6 +34,10 @@ pub trait Work {
     // sessions' lists. If it is left out, it says nothing.
     ghost told: { Setting → Self → Self → List SessionPart → Type 0 } = { λ _ _ _ _. Unit {0} };
 
+    // What it says of itself before and after it, where it is refused for this fault. If it is left
+    // out, it says nothing.
+    ghost refused: { Setting → Self → Self → FaultParts → Type 0 } = { λ _ _ _ _. Unit {0} };
+
     /// When the cluster closes, the sessions in the list are handed in.
     fn run<J: Naming, R: Wait>(
         &mut self,
@@ -42,8 +47,10 @@ pub trait Work {
         sessions: &mut Vec<SessionShare<J>>,
     ) -> Result<(), Fault>
         requires none { sessions.old.items ≡ [] }
-        ensures told { IfOk result (λ _. told (setting J J.ring J.n J.r) self.old self.new
-            sessions.new.items) };
+        ensures told { IfOk result (λ _. told (setting J J.ring J.n J.r cluster.now.options)
+            self.old self.new sessions.new.items) }
+        ensures refused { IfErr result (refused (setting J J.ring J.n J.r cluster.now.options)
+            self.old self.new) };
 }
 
 /// What each of many clients does, in a thread of its own, with a connection of its own, over any
@@ -53,7 +60,8 @@ pub trait Client {
     // setting. If it is left out, it says nothing.
     ghost told: { Setting → Self → ℕ → SessionPart → Type 0 } = { λ _ _ _ _. Unit {0} };
 
-    /// Clients are numbered from 0. The session's list is empty before.
+    /// Clients are numbered from 0. The session's list is empty before, and puts name as many homes
+    /// as the cluster's options.
     fn run<J: Naming, T: Transport<J>, R: Wait>(
         &self,
         rt: &R,
@@ -63,7 +71,9 @@ pub trait Client {
     )
         requires few { number < 255 }
         requires untold { IsUntold connection.old.session }
-        ensures told { told (setting J J.ring J.n J.r) self.now number connection.new.session };
+        requires w { connection.old.w ≡ connection.old.cluster.now.options.w }
+        ensures told { told (setting J J.ring J.n J.r connection.old.cluster.now.options) self.now
+            number connection.new.session };
 }
 
 /// Opens a cluster on the ring, runs the work, and closes the cluster. A refusal of the work is
@@ -78,13 +88,16 @@ pub fn with_cluster<W: Work, R: Wait>(
     ensures stores { IfOk result (TellsStores ring options.n) }
     ensures acks { IfOk result (λ closed. (tellings : List SessionPart)
         × TellsAcks tellings closed
-        × W.told (setting BrandParts ring options.n options.r) work.old work.new tellings) }
+        × W.told (setting BrandParts ring options.n options.r options) work.old work.new tellings) }
     ensures closed { IfOk result (λ closed. (tellings : List SessionPart)
         × IsClosed ring options.n options.r tellings closed
-        × W.told (setting BrandParts ring options.n options.r) work.old work.new tellings) }
+        × W.told (setting BrandParts ring options.n options.r options) work.old work.new tellings) }
     ensures too_many { ¬ (AreLimits options) → IsErrOf result Fault.TooMany }
     ensures bad_quorum { AreLimits options → ¬ (IsQuorum options ring.nodes) →
         IsErrOf result Fault.BadQuorum }
+    ensures only { IfErr result (λ fault. IsOpenRefusal options ring.nodes fault
+        ⊎ (fault ≡ Fault.SharesMissing)
+        ⊎ W.refused (setting BrandParts ring options.n options.r options) work.old work.new fault) }
 {
     let opened = Opened::new(alloc, ring, options)?;
     run_named::<Brand, W, R>(rt, alloc, opened, work)
@@ -101,12 +114,16 @@ fn run_named<J: Naming, W: Work, R: Wait>(
     ensures stores { IfOk result (TellsStores opened.ring opened.options.n) }
     ensures acks { IfOk result (λ closed. (tellings : List SessionPart)
         × TellsAcks tellings closed
-        × W.told (setting J opened.ring opened.options.n opened.options.r)
+        × W.told (setting J opened.ring opened.options.n opened.options.r opened.options)
         work.old work.new tellings) }
     ensures closed { IfOk result (λ closed. (tellings : List SessionPart)
         × IsClosed opened.ring opened.options.n opened.options.r tellings closed
-        × W.told (setting J opened.ring opened.options.n opened.options.r)
+        × W.told (setting J opened.ring opened.options.n opened.options.r opened.options)
         work.old work.new tellings) }
+    ensures only { IfErr result (λ fault. (fault ≡ Fault.OutOfMemory)
+        ⊎ (fault ≡ Fault.SharesMissing)
+        ⊎ W.refused (setting J opened.ring opened.options.n opened.options.r opened.options)
+        work.old work.new fault) }
 {
     let cluster = Cluster::<J>::open(alloc, opened)?;
     let mut sessions = Vec::new(alloc);
@@ -135,12 +152,12 @@ pub fn with_clients<C: Client + Sync, R: Threads + Wait + Sync>(
     ensures stores { IfOk result (TellsStores ring options.n) }
     ensures acks { IfOk result (λ closed. (tellings : List SessionPart)
         × TellsAcks tellings closed × (length tellings ≡ clients)
-        × AreTold (as_fact (C.told (setting BrandParts ring options.n options.r) client.now))
-        tellings) }
+        × AreTold (as_fact (C.told (setting BrandParts ring options.n options.r options)
+        client.now)) tellings) }
     ensures closed { IfOk result (λ closed. (tellings : List SessionPart)
         × IsClosed ring options.n options.r tellings closed × (length tellings ≡ clients)
-        × AreTold (as_fact (C.told (setting BrandParts ring options.n options.r) client.now))
-        tellings) }
+        × AreTold (as_fact (C.told (setting BrandParts ring options.n options.r options)
+        client.now)) tellings) }
     ensures too_many { ¬ (AreLimits options) → IsErrOf result Fault.TooMany }
     ensures bad_quorum { IsErrOf result Fault.BadQuorum
         ↔ (AreLimits options × ¬ (IsQuorum options ring.nodes)) }

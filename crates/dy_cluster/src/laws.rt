@@ -19,13 +19,15 @@ ghost use Rattle.dy_coord.specs.Gets.{IsGot};
 ghost use Rattle.dy_coord.specs.Sure.{IsSureOf, ack_of, get_of};
 ghost use Rattle.dy_coord.specs.declared.get_dones.GetDone.{GetDone};
 ghost use Rattle.dy_coord.specs.declared.put_results.PutDone.{PutDone};
+ghost use Rattle.dy_cluster.specs.Carrying.{IsAmong};
 ghost use Rattle.dy_cluster.specs.Ends.{AtRest, IsClosed, IsEndOf};
 ghost use Rattle.dy_cluster.specs.Guarantees.{GivesNothingDeleted, IsRead, NeverGoesBack};
 ghost use Rattle.dy_cluster.specs.Guarantees.{ReadsOwnWrites, ReadsWritesOf};
 ghost use Rattle.dy_cluster.specs.Lists.{list_of};
-ghost use Rattle.dy_cluster.specs.PresentValues.{KeepsVersion, versions_held};
+ghost use Rattle.dy_cluster.specs.PresentValues.{ArePresent, KeepsVersion, versions_held};
 ghost use Rattle.dy_cluster.specs.Stores.{AreCovering, IsKept};
 ghost use Rattle.dy_cluster.specs.declared.restings.Closed.{Closed};
+ghost use Rattle.dy_cluster.specs.declared.values.PresentValue.{PresentValue as PresentParts};
 
 use dy_shares::Naming;
 
@@ -53,6 +55,17 @@ pub fn what_is_held_is_kept()
     ensures one { (ring : Tokens) (n r : ℕ) (tellings : List SessionPart) (closed : Closed) →
         IsClosed ring n r tellings closed → (key : List ℕ) →
         AreOneByDot (versions_held closed.audit.held.items key) }
+{}
+
+/// Of a closed cluster, and of the values that were present in it, which `carry_over` puts again.
+/// For each put in a session's list, they have its value, or that of a version that causally
+/// follows it. They have neither where such a version is a deletion.
+pub fn what_was_acknowledged_is_present()
+    ensures { (ring : Tokens) (n r : ℕ) (tellings : List SessionPart) (closed : Closed) →
+        IsClosed ring n r tellings closed →
+        (xs : List PresentParts) → ArePresent closed.audit.held.items xs →
+        (x : Acked) → IsTold tellings x →
+        IsAmong closed.audit.held.items xs x.key x.dot }
 {}
 
 /// What the sessions of a closed cluster were sure to read, where homes themselves answered

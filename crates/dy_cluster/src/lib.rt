@@ -1,6 +1,7 @@
 //! The store as a program uses it: nodes and a book, each under a lock of its own.
 #![tactic(auto)]
 
+mod books;
 mod calls;
 mod carrying;
 mod clusters;
@@ -28,7 +29,7 @@ pub use embedding::{Client, Work, with_clients, with_cluster};
 pub use handovers::Handover;
 pub use laws::{
     gets_give_what_homes_took, session_guarantees, stores_cover_acks, what_is_held_is_kept,
-    what_is_seen_is_there,
+    what_is_seen_is_there, what_was_acknowledged_is_present,
 };
 pub use openings::Opened;
 pub use operators::{Operator, with_operator};

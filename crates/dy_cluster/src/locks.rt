@@ -1,6 +1,7 @@
 // How nodes go into their locks, and out of them.
 ghost use Rattle.std.specs.Prelude.{◌≡◌, ◌≤◌, ◌<◌, ◌+◌, [], length, vec_len, vec_capacity};
-ghost use Rattle.dy_cluster.specs.Ends.{GoTogether};
+ghost use Rattle.dy_node.specs.Nodes.{first_state};
+ghost use Rattle.dy_cluster.specs.Ends.{GoTogether, GoesWith};
 ghost use Rattle.dy_cluster.specs.Firsts.{AreFirstFrom};
 
 use dy_node::{Node, Rest};
@@ -34,7 +35,15 @@ fn lock_next<J: Naming>(alloc: Global, share: NodeShare<J>, locks: &mut Vec<Mute
     ensures count { vec_len locks.new ≡ vec_len locks.old + 1 }
     ensures memory { vec_capacity locks.new ≡ vec_capacity locks.old }
 {
-    locks.push_reserved(Mutex::new(Node::new(alloc, share)));
+    locks.push_reserved(Mutex::new(first_node(alloc, share)));
+}
+
+// The node of a share without a step: it is up, and keeps nothing.
+fn first_node<J: Naming>(alloc: Global, share: NodeShare<J>) -> Node<J>
+    requires fresh { share.steps ≡ [] }
+    ensures { result ≡ first_state share }
+{
+    Node::new(alloc, share)
 }
 
 // Takes the nodes out of their locks, the last first. The list keeps its memory.
@@ -55,10 +64,22 @@ pub(crate) fn retire_all<J: Naming>(
     ensures rests_memory { vec_capacity rests.new ≡ vec_capacity rests.old }
 {
     while let Some(lock) = locks.pop() {
-        let (share, rest) = lock.into_inner().retire();
+        let (share, rest) = retire_one(lock.into_inner());
         shares.push_reserved(share);
         rests.push_reserved(rest);
     }
+}
+
+// Takes the node's share out of it. What is left is as it was.
+fn retire_one<J: Naming>(node: Node<J>) -> (NodeShare<J>, Rest)
+    ensures share { result.0 ≡ node.part }
+    ensures rooms { result.1.stored.rooms ≡ node.rooms }
+    ensures is_up { result.1.is_up ≡ node.is_up }
+    ensures mode { result.1.mode ≡ node.mode }
+    ensures waiting { result.1.waiting ≡ node.waiting }
+    ensures together { GoesWith J.ring J.n result.0 result.1 }
+{
+    node.retire()
 }
 
 // Puts the nodes back, each into a lock.
@@ -79,6 +100,18 @@ pub(crate) fn rejoin_all<J: Naming>(
         let Some(rest) = rests.pop() else {
             unreachable!()
         };
-        locks.push_reserved(Mutex::new(Node::rejoin(share, rest)));
+        locks.push_reserved(Mutex::new(rejoin_one(share, rest)));
     }
+}
+
+// Puts a node together again, as it was.
+fn rejoin_one<J: Naming>(share: NodeShare<J>, rest: Rest) -> Node<J>
+    requires together { GoesWith J.ring J.n share rest }
+    ensures share { result.part ≡ share }
+    ensures rooms { result.rooms ≡ rest.stored.rooms }
+    ensures is_up { result.is_up ≡ rest.is_up }
+    ensures mode { result.mode ≡ rest.mode }
+    ensures waiting { result.waiting ≡ rest.waiting }
+{
+    Node::rejoin(share, rest)
 }

@@ -75,12 +75,12 @@ pub fn with_operator<
     ensures stores { IfOk result (TellsStores ring options.n) }
     ensures acks { IfOk result (λ closed. (tellings : List SessionPart)
         × TellsAcks tellings closed × (length tellings ≡ clients)
-        × AreTold (as_fact (C.told (setting BrandParts ring options.n options.r) client.now))
-        tellings) }
+        × AreTold (as_fact (C.told (setting BrandParts ring options.n options.r options)
+        client.now)) tellings) }
     ensures closed { IfOk result (λ closed. (tellings : List SessionPart)
         × IsClosed ring options.n options.r tellings closed × (length tellings ≡ clients)
-        × AreTold (as_fact (C.told (setting BrandParts ring options.n options.r) client.now))
-        tellings) }
+        × AreTold (as_fact (C.told (setting BrandParts ring options.n options.r options)
+        client.now)) tellings) }
     ensures too_many { ¬ (AreLimits options) → IsErrOf result Fault.TooMany }
     ensures bad_quorum { IsErrOf result Fault.BadQuorum
         ↔ (AreLimits options × ¬ (IsQuorum options ring.nodes)) }

@@ -42,6 +42,7 @@ impl<J: Naming> Model for Resting<J> {
     ghost coded = { at_rest_code };
 
     ghost view = { λ c. record {
+      options = c.options;
       book = c.book;
       parts = c.shares.items;
       rests = c.rests.items;

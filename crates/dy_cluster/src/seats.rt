@@ -1,6 +1,6 @@
 // Seats: the clients' numbers and sessions.
-ghost use Rattle.std.specs.Prelude.{◌≡◌, ◌≤◌, ◌<◌, ℕ, [], length, vec_len, vec_capacity, IsTrue};
-ghost use Rattle.std.specs.Prelude.{true, false, IsSome};
+ghost use Rattle.std.specs.Prelude.{◌≡◌, ◌≤◌, ◌<◌, ◌+◌, ℕ, [], length, vec_len, vec_capacity};
+ghost use Rattle.std.specs.Prelude.{true, false, IsTrue, IsSome};
 ghost use Rattle.std.specs.List.{All};
 ghost use Rattle.std.specs.Option.{ForSome};
 ghost use Rattle.dy_dots.specs.declared.nodes.TheConstants.{MAX_NODES};
@@ -57,7 +57,8 @@ pub(crate) trait Place<J: Naming> {
         post: &mut Option<Post<J>>,
     )
         requires tells { (number : ℕ) (telling : SessionPart) →
-            C.told (setting J J.ring J.n J.r) client.now number telling → told number telling };
+            C.told (setting J J.ring J.n J.r cluster.now.options) client.now number telling →
+            told number telling };
 }
 
 impl<J: Naming, T: Telling> Place<J> for Seat<J, T> {
@@ -102,10 +103,10 @@ impl<J: Naming, T: Telling> Seat<J, T> {
         requires room { MAX_NODES ≤ (M.told transport).room }
         requires fresh { self.old.has_run ≡ false }
         requires tells { (number : ℕ) (telling : SessionPart) →
-            C.told (setting J J.ring J.n J.r) client.now number telling →
+            C.told (setting J J.ring J.n J.r cluster.now.options) client.now number telling →
             T.told number telling }
         ensures told { self.new.has_run ≡ true → ForSome self.new.session
-            (C.told (setting J J.ring J.n J.r) client.now self.new.number) }
+            (C.told (setting J J.ring J.n J.r cluster.now.options) client.now self.new.number) }
     {
         let Some(session) = self.session.take() else {
             return;
@@ -133,14 +134,32 @@ pub(crate) fn seat_all<J: Naming, T: Telling>(
     ensures memory { vec_capacity sessions.new ≡ vec_capacity sessions.old }
     ensures count { vec_len seats.new ≡ length sessions.old.items }
 {
+    let count = sessions.len();
     while let Some(session) = sessions.pop() {
-        seats.push_reserved(Mutex::new(Seat {
-            number: sessions.len(),
-            session: Some(session),
-            has_run: false,
-            telling: PhantomData,
-        }));
+        seat_next(count, sessions.len(), session, seats);
     }
+}
+
+// Of this many clients, whose last are seated, the one of this number takes the next seat.
+fn seat_next<J: Naming, T: Telling>(
+    count: usize,
+    number: usize,
+    session: SessionShare<J>,
+    seats: &mut Vec<Mutex<Seat<J, T>>>,
+)
+    requires few { number < 255 }
+    requires number { vec_len seats.old + number + 1 ≡ count }
+    requires untold { IsUntold session }
+    requires room { vec_len seats.old < vec_capacity seats.old }
+    ensures count { vec_len seats.new ≡ vec_len seats.old + 1 }
+    ensures memory { vec_capacity seats.new ≡ vec_capacity seats.old }
+{
+    seats.push_reserved(Mutex::new(Seat {
+        number,
+        session: Some(session),
+        has_run: false,
+        telling: PhantomData,
+    }));
 }
 
 // Each session leaves its seat, number 0 first. Gives whether each client has run, and had the

@@ -46,12 +46,12 @@ pub fn with_workers<C: Client + Sync, G: Gate + Sync, R: Threads + Wait + Sync>(
     ensures stores { IfOk result (TellsStores ring options.n) }
     ensures acks { IfOk result (λ closed. (tellings : List SessionPart)
         × TellsAcks tellings closed × (length tellings ≡ clients)
-        × AreTold (as_fact (C.told (setting BrandParts ring options.n options.r) client.now))
-        tellings) }
+        × AreTold (as_fact (C.told (setting BrandParts ring options.n options.r options)
+        client.now)) tellings) }
     ensures closed { IfOk result (λ closed. (tellings : List SessionPart)
         × IsClosed ring options.n options.r tellings closed × (length tellings ≡ clients)
-        × AreTold (as_fact (C.told (setting BrandParts ring options.n options.r) client.now))
-        tellings) }
+        × AreTold (as_fact (C.told (setting BrandParts ring options.n options.r options)
+        client.now)) tellings) }
     ensures too_many { ¬ (AreLimits options) → IsErrOf result Fault.TooMany }
     ensures bad_quorum { IsErrOf result Fault.BadQuorum
         ↔ (AreLimits options × ¬ (IsQuorum options ring.nodes)) }
@@ -83,13 +83,13 @@ pub(crate) fn run_clients<
     ensures stores { IfOk result (TellsStores opened.ring opened.options.n) }
     ensures acks { IfOk result (λ closed. (tellings : List SessionPart)
         × TellsAcks tellings closed × (length tellings ≡ clients)
-        × AreTold (as_fact (C.told (setting J opened.ring opened.options.n opened.options.r)
-        client.now)) tellings) }
+        × AreTold (as_fact (C.told (setting J opened.ring opened.options.n opened.options.r
+        opened.options) client.now)) tellings) }
     ensures closed { IfOk result (λ closed. (tellings : List SessionPart)
         × IsClosed opened.ring opened.options.n opened.options.r tellings closed
         × (length tellings ≡ clients)
-        × AreTold (as_fact (C.told (setting J opened.ring opened.options.n opened.options.r)
-        client.now)) tellings) }
+        × AreTold (as_fact (C.told (setting J opened.ring opened.options.n opened.options.r
+        opened.options) client.now)) tellings) }
     ensures only { IfErr result IsRunRefusal }
 {
     let cluster = Cluster::<J>::open(alloc, opened)?;
@@ -133,7 +133,8 @@ fn run_seated<
 ) -> Result<(), Fault>
     requires none { sessions.old.items ≡ [] }
     requires tells { (number : ℕ) (telling : SessionPart) →
-        C.told (setting J J.ring J.n J.r) client.now number telling → T.told number telling }
+        C.told (setting J J.ring J.n J.r cluster.now.options) client.now number telling →
+        T.told number telling }
     ensures ok { IfOk result (λ _. length sessions.new.items ≡ clients) }
     ensures told { IfOk result (λ _. AreTold (as_fact T.told) sessions.new.items) }
     ensures only { IfErr result IsRunRefusal }

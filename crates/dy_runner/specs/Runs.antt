@@ -170,7 +170,8 @@ pub record IsRun (s : ScriptParts) (with_steps : Bool) (wrote : List ℕ) : Type
   pub quorum : IsQuorum (options_for s) ring.nodes
   pub outcomes : List Outcome
   pub sessions : Seated
-  pub done : DoAll (setting Brand ring s.n s.r) s.w s.run outcomes none_seated sessions
+  pub done : DoAll (setting Brand ring s.n s.r (options_for s)) s.w s.run outcomes none_seated
+      sessions
   pub closed : Closed
   pub ended : IsClosed ring s.n s.r sessions.tellings closed
   pub wrote_is : IsPrinted with_steps s ring outcomes sessions.numbers closed.audit wrote

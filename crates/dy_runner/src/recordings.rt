@@ -82,8 +82,8 @@ fn record_all<J: Naming, R: Wait>(
 ) -> Result<Recorded, Fault>
     requires room { direct.room ≡ MAX_NODES }
     requires none { sessions.old.items ≡ [] }
-    ensures { IfOk result (HasPlayed (setting J J.ring J.n J.r) (script_parts script.now)
-        sessions.new.items) }
+    ensures { IfOk result (HasPlayed (setting J J.ring J.n J.r cluster.now.options)
+        (script_parts script.now) sessions.new.items) }
 {
     let mut seats = Seats::new(alloc);
     let mut plays = Vec::new(alloc);

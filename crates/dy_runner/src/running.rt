@@ -68,8 +68,8 @@ fn run_all<J: Naming, O: Write, R: Wait>(
 ) -> io::Result<()>
     requires room { direct.room ≡ MAX_NODES }
     requires none { sessions.old.items ≡ [] }
-    ensures { OnOk result (HasRun (setting J J.ring J.n J.r) (script_parts script.now)
-        sessions.new.items (O.contents out.old) (O.contents out.new)) }
+    ensures { OnOk result (HasRun (setting J J.ring J.n J.r cluster.now.options)
+        (script_parts script.now) sessions.new.items (O.contents out.old) (O.contents out.new)) }
 {
     let mut seats = Seats::new(alloc);
     for (index, command) in script.run.iter().enumerate() {
@@ -107,7 +107,8 @@ pub(crate) fn run_command<J: Naming, R: Wait>(
     requires together { length seats.old.numbers.items ≡ length sessions.old.items }
     ensures room { direct.new.room ≡ MAX_NODES }
     ensures together { length seats.new.numbers.items ≡ length sessions.new.items }
-    ensures done { Does (setting J J.ring J.n J.r) w (command_parts command.now) result
+    ensures done { Does (setting J J.ring J.n J.r cluster.now.options) w
+        (command_parts command.now) result
         (seated seats.old sessions.old.items) (seated seats.new sessions.new.items) }
 {
     match command {

@@ -129,7 +129,7 @@ pub fn run_script<O: Write, R: Wait>(
 ) -> Result<Closed, Stopped>
     ensures { IfOk result (λ closed. (tellings : List SessionPart)
         × IsClosed ring options.n options.r tellings closed
-        × HasRun (setting Brand ring options.n options.r) (script_parts script.now) tellings
+        × HasRun (setting Brand ring options.n options.r options) (script_parts script.now) tellings
         (O.contents out.old) (O.contents out.new)) }
 {
     let mut run = Run {

@@ -6,6 +6,7 @@ use Rattle.dy_book.specs.Audits.{count_acks, count_gets}
 use Rattle.dy_cluster.specs.Ends.{IsClosed}
 use Rattle.dy_cluster.specs.Settings.{setting}
 use Rattle.dy_cluster.specs.Tellings.{AreTold, as_fact}
+use Rattle.dy_storm.specs.Clusters.{storm_options}
 use Rattle.dy_storm.specs.Seeds.{generator_of}
 use Rattle.dy_storm.specs.Turns.{AreTurns}
 use Rattle.dy_storm.specs.declared.counts.Counts.{Counts}
@@ -29,7 +30,7 @@ pub record IsStormed (book : Type 0) (ring : Tokens) (n r : ℕ) (plan : Storm) 
   pub tellings : List SessionPart
   pub closed : IsClosed ring n r tellings done.closed
   pub sessions : length tellings ≡ plan.threads
-  pub turns : AreTold (as_fact (λ number telling. AreTurns (setting book ring n r)
+  pub turns : AreTold (as_fact (λ number telling. AreTurns (setting book ring n r storm_options)
       (generator_of ((plan.seed + number) % 2 ^ 64)) number plan.puts telling)) tellings
   pub told : CountsTold done.counts tellings
   pub all : CountsAll plan.threads plan.puts done.counts

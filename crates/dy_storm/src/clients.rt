@@ -45,7 +45,7 @@ impl Clients {
     )
         requires none { player.old.turns ≡ 0 }
         requires untold { IsUntold connection.old.session }
-        ensures told { AreTurns (setting J J.ring J.n J.r)
+        ensures told { AreTurns (setting J J.ring J.n J.r connection.old.cluster.now.options)
             (generator_of ((self.now.plan.seed + player.old.client) % 2 ^ 64)) player.old.client
             self.now.plan.puts connection.new.session }
         ensures turns { player.new.turns ≡ self.now.plan.puts }

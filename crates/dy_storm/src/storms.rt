@@ -7,7 +7,7 @@ ghost use Rattle.dy_cluster.specs.Ends.{IsClosed};
 ghost use Rattle.dy_cluster.specs.Refusals.{IsRunRefusal};
 ghost use Rattle.dy_cluster.specs.Settings.{setting};
 ghost use Rattle.dy_cluster.specs.Tellings.{AreTold, as_fact};
-ghost use Rattle.dy_storm.specs.Clusters.{five_tokens};
+ghost use Rattle.dy_storm.specs.Clusters.{five_tokens, storm_options};
 ghost use Rattle.dy_storm.specs.Ends.{IsStormed};
 ghost use Rattle.dy_storm.specs.Seeds.{generator_of};
 ghost use Rattle.dy_storm.specs.Turns.{AreTurns};
@@ -79,7 +79,7 @@ fn run<R: Threads + Wait + Sync>(
     requires nodes { IsRingOf five_tokens ring }
     ensures closed { IfOk result (λ closed. (tellings : List SessionPart)
         × IsClosed ring 3 2 tellings closed × (length tellings ≡ clients.now.plan.threads)
-        × AreTold (as_fact (λ number telling. AreTurns (setting BrandParts ring 3 2)
+        × AreTold (as_fact (λ number telling. AreTurns (setting BrandParts ring 3 2 storm_options)
         (generator_of ((clients.now.plan.seed + number) % 2 ^ 64)) number clients.now.plan.puts
         telling)) tellings) }
     ensures only { IfErr result IsRunRefusal }

@@ -1,5 +1,6 @@
 // What a client does in one turn.
 ghost use Rattle.std.specs.Prelude.{◌≡◌, ◌<◌, ◌+◌, ◌-◌, ◌^◌};
+ghost use Rattle.dy_book.specs.declared.options.Options.{Options as OptionsParts};
 ghost use Rattle.dy_cluster.specs.Lists.{list_of};
 ghost use Rattle.dy_cluster.specs.Settings.{setting};
 ghost use Rattle.dy_storm.specs.Turns.{IsGetOf, IsTurnOf};
@@ -39,8 +40,8 @@ impl Player {
         number: u32,
     )
         requires few { self.old.turns < 2 ^ 32 - 1 }
-        ensures turn { IsTurnOf (setting J J.ring J.n J.r) (key_text number)
-            (value_text self.old.client self.old.turns)
+        ensures turn { (options : OptionsParts) → IsTurnOf (setting J J.ring J.n J.r options)
+            (key_text number) (value_text self.old.client self.old.turns)
             connection.old.session connection.new.session connection.new.is_mended }
         ensures client { self.new.client ≡ self.old.client }
         ensures turns { self.new.turns ≡ self.old.turns + 1 }
@@ -65,8 +66,8 @@ fn play_with<J: Naming, T: Transport<J>, R: Wait>(
     key: &Key,
     value: Value,
 )
-    ensures { IsTurnOf (setting J J.ring J.n J.r) key.now value
-        connection.old.session connection.new.session connection.new.is_mended }
+    ensures { (options : OptionsParts) → IsTurnOf (setting J J.ring J.n J.r options)
+        key.now value connection.old.session connection.new.session connection.new.is_mended }
 {
     let got = get_one(rt, connection, key);
     let context = got.unwrap_or(Context::new(alloc));

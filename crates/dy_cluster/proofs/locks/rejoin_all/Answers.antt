@@ -15,19 +15,12 @@ loop-share-init g c = (
 )
 
 -- the last share and the last rest go together
-pub rejoin-requires-clause-shown : goal.rejoin-requires-clause-shown
-rejoin-requires-clause-shown g c =
+pub rejoin_one-requires-clause-together : goal.rejoin_one-requires-clause-together
+rejoin_one-requires-clause-together g c =
     (together_popped (GoesWith g.J.Naming.ring g.J.Naming.n) c.loop-share.shares.items
     c.pop.new.self.items c.loop-share.rests.items c.pop-in-Some.new.self.items c.in-Some.share
     c.in-Some-pop.rest c.in-Some.ensures.items c.in-Some-pop.ensures.items
-    c.loop-share.invariant.5).1.0
-
-pub rejoin-requires-clause-deferred : goal.rejoin-requires-clause-deferred
-rejoin-requires-clause-deferred g c =
-    (together_popped (GoesWith g.J.Naming.ring g.J.Naming.n) c.loop-share.shares.items
-    c.pop.new.self.items c.loop-share.rests.items c.pop-in-Some.new.self.items c.in-Some.share
-    c.in-Some-pop.rest c.in-Some.ensures.items c.in-Some-pop.ensures.items
-    c.loop-share.invariant.5).1.1
+    c.loop-share.invariant.5).1
 
 -- and so do those before them
 pub loop-share-preserved : goal.loop-share-preserved

@@ -8,12 +8,12 @@ pub loop-lock-preserved : goal.loop-lock-preserved
 loop-lock-preserved g c =
     let before = c.loop-lock.invariant in
     let shares = ap length c.push_reserved.ensures.items
-    ∙ length-append c.loop-lock.shares.items (c.retire-share.result.0 ∷ []) in
+    ∙ length-append c.loop-lock.shares.items (c.retire_one-share.result.0 ∷ []) in
     let all = together_pushed (GoesWith g.J.Naming.ring g.J.Naming.n) c.loop-lock.shares.items
     c.push_reserved.new.self.items c.loop-lock.rests.items
-    c.push_reserved-in-Some.new.self.items c.retire-share.result.0 c.retire-share.result.1
+    c.push_reserved-in-Some.new.self.items c.retire_one-share.result.0 c.retire_one-share.result.1
     c.push_reserved.ensures.items c.push_reserved-in-Some.ensures.items before.5
-    (c.retire-share.ensures.shown, c.retire-share.ensures.deferred) in (
+    c.retire_one-share.ensures.together in (
       omega (arith, before.0, c.pop.ensures.capacity),
       omega (arith, before.1, c.push_reserved.ensures.capacity),
       omega (arith, before.2, c.push_reserved-in-Some.ensures.capacity),

@@ -5,5 +5,7 @@ use Rattle.dy_cluster.proofs.staffing.run_clients.Given as goal
 abbrev pub ghosts-run_seated : goal.ghosts-run_seated
 ghosts-run_seated g a = record {
   told = λ number telling. g.C.Client.told
-      (setting g.row.J.Denot g.J.Naming.ring g.J.Naming.n g.J.Naming.r) a.client.now number telling;
+      (setting g.row.J.Denot g.J.Naming.ring g.J.Naming.n g.J.Naming.r
+      a.cluster.now.options)
+      a.client.now number telling;
 }

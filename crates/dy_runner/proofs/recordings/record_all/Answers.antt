@@ -18,7 +18,8 @@ loop-command-preserved g c =
     let command = c.command-item.result in
     let index = c.loop-command.command-index in
     let script = c.args.script.now in
-    let s = setting g.row.J.Denot g.J.Naming.ring g.J.Naming.n g.J.Naming.r in
+    let s = setting g.row.J.Denot g.J.Naming.ring g.J.Naming.n g.J.Naming.r
+    c.args.cluster.now.options in
     let last = seated after.seats after.sessions.items in
     let same = c.as_slice-command-items.ensures.value in
     let within = subst (λ (cs : List Command). index < length cs) same c.loop-command-test.true in

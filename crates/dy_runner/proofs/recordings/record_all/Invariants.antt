@@ -12,7 +12,7 @@ invariant-loop-command g l =
     record {
       room : l.direct.room ≡ MAX_NODES;
       together : length l.seats.numbers.items ≡ length l.sessions.items;
-      so_far : DoAll (setting g.row.J.Denot g.J.Naming.ring g.J.Naming.n g.J.Naming.r)
-          l.script.w (map command_parts (take l.command-index l.script.run.items))
-          (outcomes_in l.plays.items) none_seated (seated l.seats l.sessions.items);
+      so_far : DoAll (setting g.row.J.Denot g.J.Naming.ring g.J.Naming.n g.J.Naming.r
+          l.cluster.options) l.script.w
+          (map command_parts (take l.command-index l.script.run.items)) (outcomes_in l.plays.items) none_seated (seated l.seats l.sessions.items);
     }

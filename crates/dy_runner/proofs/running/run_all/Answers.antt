@@ -19,8 +19,8 @@ loop-index-preserved g c =
     let within = subst (λ (cs : List Command). index < length cs) same c.loop-index-test.true in
     let here = subst (λ (cs : List Command). command ≡ slice_index_or cs index command) same
     c.command-item.is in
-    let next = done_next (setting g.row.J.Denot g.J.Naming.ring g.J.Naming.n g.J.Naming.r)
-    script.w script.run.items index so_far.0 command outcome none_seated
+    let next = done_next (setting g.row.J.Denot g.J.Naming.ring g.J.Naming.n g.J.Naming.r
+    c.args.cluster.now.options) script.w script.run.items index so_far.0 command outcome none_seated
     (seated c.loop-index.seats c.loop-index.sessions.items)
     (seated after.seats after.sessions.items) within here so_far.1
     c.run_command-outcome.ensures.done in

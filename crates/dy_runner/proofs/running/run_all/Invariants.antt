@@ -15,8 +15,9 @@ invariant-loop-index g l =
       room : l.direct.room ≡ MAX_NODES;
       together : length l.seats.numbers.items ≡ length l.sessions.items;
       so_far : (outcomes : List Outcome)
-          × DoAll (setting g.row.J.Denot g.J.Naming.ring g.J.Naming.n g.J.Naming.r) l.script.w
-          (map command_parts (take l.index l.script.run.items)) outcomes none_seated
+          × DoAll (setting g.row.J.Denot g.J.Naming.ring g.J.Naming.n g.J.Naming.r
+          l.cluster.options) l.script.w (map command_parts (take l.index l.script.run.items))
+          outcomes none_seated
           (seated l.seats l.sessions.items)
           × Appends (g.O.Write.contents l.initial.out) (g.O.Write.contents l.out)
           (lines_from 1 outcomes);

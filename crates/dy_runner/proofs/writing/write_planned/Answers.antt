@@ -34,7 +34,7 @@ returns g c =
         quorum = plan.quorum;
         outcomes = run.outcomes;
         sessions = sessions;
-        done = subst (λ (o : Options). DoAll (setting Brand ring o.n o.r) script.w script.run
+        done = subst (λ (o : Options). DoAll (setting Brand ring o.n o.r o) script.w script.run
             run.outcomes none_seated sessions) asked run.done;
         closed = closed;
         ended = subst (λ (o : Options). IsClosed ring o.n o.r told.0 closed) asked told.1;

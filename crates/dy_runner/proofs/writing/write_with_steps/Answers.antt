@@ -39,7 +39,7 @@ returns g c =
         quorum = plan.quorum;
         outcomes = outcomes;
         sessions = seated recorded.seats told.0;
-        done = subst (λ (o : Options). DoAll (setting Brand ring o.n o.r) script.w script.run
+        done = subst (λ (o : Options). DoAll (setting Brand ring o.n o.r o) script.w script.run
             outcomes none_seated (seated recorded.seats told.0)) plan.options told.2;
         closed = closed;
         ended = subst (λ (o : Options). IsClosed ring o.n o.r told.0 closed) plan.options

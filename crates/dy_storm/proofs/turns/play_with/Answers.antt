@@ -20,7 +20,7 @@ returns g c =
     let mending = g.T.Transport.told got.new.connection.transport in
     let empty : c.unwrap_or-context.result ≡ unwrap_or got.result set.empty =
     rw c.unwrap_or-context.ensures (rw c.new.ensures refl) in
-    record {
+    λ options. record {
       context = got.result;
       between = between;
       mending = mending;

@@ -10,6 +10,7 @@ invariant-loop g l = record {
   drawn : l.generator ≡ after_draws l.initial.generator l.counter;
   client : l.player.client ≡ l.initial.player.client;
   turns : l.player.turns ≡ l.counter;
-  told : AreTurns (setting g.row.J.Denot g.J.Naming.ring g.J.Naming.n g.J.Naming.r)
-      l.initial.generator l.initial.player.client l.counter l.connection.session;
+  told : AreTurns (setting g.row.J.Denot g.J.Naming.ring g.J.Naming.n g.J.Naming.r
+      l.initial.connection.cluster.now.options) l.initial.generator l.initial.player.client
+      l.counter l.connection.session;
 }

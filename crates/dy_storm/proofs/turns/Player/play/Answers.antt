@@ -18,8 +18,8 @@ calls_nothing s key value session is_mended = record {
 
 -- of a key
 pub returns-in_default-clause-turn : goal.returns-in_default-clause-turn
-returns-in_default-clause-turn g c = calls_nothing _ _ _ _ _
+returns-in_default-clause-turn g c = λ options. calls_nothing _ _ _ _ _
 
 -- of a value
 pub returns-in_default-value_of-clause-turn : goal.returns-in_default-value_of-clause-turn
-returns-in_default-value_of-clause-turn g c = calls_nothing _ _ _ _ _
+returns-in_default-value_of-clause-turn g c = λ options. calls_nothing _ _ _ _ _
