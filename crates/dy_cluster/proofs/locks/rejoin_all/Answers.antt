@@ -15,12 +15,15 @@ loop-share-init g c = (
 )
 
 -- the last share and the last rest go together
-pub rejoin_one-requires-clause-together : goal.rejoin_one-requires-clause-together
-rejoin_one-requires-clause-together g c =
-    (together_popped (GoesWith g.J.Naming.ring g.J.Naming.n) c.loop-share.shares.items
-    c.pop.new.self.items c.loop-share.rests.items c.pop-in-Some.new.self.items c.in-Some.share
-    c.in-Some-pop.rest c.in-Some.ensures.items c.in-Some-pop.ensures.items
-    c.loop-share.invariant.5).1
+pub rejoin_one-requires : goal.rejoin_one-requires
+rejoin_one-requires g c =
+    record {
+      together =
+          (together_popped (GoesWith g.J.Naming.ring g.J.Naming.n) c.loop-share.shares.items
+          c.pop.new.self.items c.loop-share.rests.items c.pop-in-Some.new.self.items c.in-Some.share
+          c.in-Some-pop.rest c.in-Some.ensures.items c.in-Some-pop.ensures.items
+          c.loop-share.invariant.5).1;
+    }
 
 -- and so do those before them
 pub loop-share-preserved : goal.loop-share-preserved
