@@ -1,5 +1,5 @@
 -- What a job writes, and the status that it ends with.
-use Rattle.std.specs.Prelude.{◌≡◌, ◌⊎◌, ℕ, Bool, true, false, IsTrue, List, Option, Ok, IfSome}
+use Rattle.std.specs.Prelude.{◌≡◌, ◌⊎◌, ℕ, Bool, true, false, IsTrue, List, Option, Ok}
 use Rattle.std.specs.declared.marker.Brand.{Brand}
 use Rattle.dy_dots.specs.declared.faults.Fault.{Fault}
 use Rattle.dy_dots.specs.declared.faults.Fault.TheVariants.{OutOfMemory, SharesMissing}
@@ -10,6 +10,8 @@ use Rattle.dy_lines.specs.declared.stops.Stopped.{Stopped}
 use Rattle.dy_lines.specs.declared.stops.Stopped.TheVariants.{Refused, Output}
 use Rattle.dy_runner.specs.RingLines.{IsLaidOut, ring_lines}
 use Rattle.dy_runner.specs.Runs.{IsRun}
+use Rattle.dy_serve.specs.InputLines.{IsAllOf}
+use Rattle.dy_serve.specs.Served.{IsServed}
 use Rattle.dy_storm.specs.Clusters.{five_tokens}
 use Rattle.dy_storm.specs.Ends.{IsStormed}
 use Rattle.dy_storm.specs.Lines.{storm_lines}
@@ -30,6 +32,13 @@ HasFailed f = (f ≡ OutOfMemory) ⊎ (f ≡ SharesMissing)
 abbrev pub IsRunOf : List ℕ → Bool → List ℕ → Type 0
 IsRunOf bytes with_steps wrote = (s : ScriptParts) × IsSpelt bytes s × IsRun s with_steps wrote
 
+-- the answers of a service of the script that these bytes spell, to all lines that were given,
+-- where those are known
+abbrev pub IsServiceOf : Option (List ℕ) → List ℕ → Bool → List ℕ → Type 0
+IsServiceOf given bytes with_steps wrote =
+    (s : ScriptParts) × IsSpelt bytes s
+    × ((text : List ℕ) × IsAllOf given text × IsServed s with_steps text wrote)
+
 -- the lines of the ring of the script that these bytes spell
 abbrev pub IsRingOfText : List ℕ → List ℕ → Type 0
 IsRingOfText bytes wrote =
@@ -43,21 +52,24 @@ IsStormLines plan wrote =
     × ((done : StormDone) × ((stormed : IsStormed Brand ring 3 2 plan done)
     × (wrote ≡ storm_lines plan.steps ring.tokens stormed.tellings done)))
 
--- what the job writes, of a script that these bytes spell, where it has one
-abbrev pub IsWritten : Job → List ℕ → List ℕ → Type 0
-IsWritten (Job.Run file with_steps) bytes wrote = IsRunOf bytes with_steps wrote
-IsWritten (Job.Ring file) bytes wrote = IsRingOfText bytes wrote
-IsWritten (Job.Storm plan) bytes wrote = IsStormLines plan wrote
+-- what the job writes, of a script that these bytes spell, where it has one; a service answers the
+-- lines that were given
+abbrev pub IsWritten : Job → Option (List ℕ) → List ℕ → List ℕ → Type 0
+IsWritten (Job.Run file with_steps) given bytes wrote = IsRunOf bytes with_steps wrote
+IsWritten (Job.Serve file with_steps) given bytes wrote = IsServiceOf given bytes with_steps wrote
+IsWritten (Job.Ring file) given bytes wrote = IsRingOfText bytes wrote
+IsWritten (Job.Storm plan) given bytes wrote = IsStormLines plan wrote
 
 -- whether the job reads a script
 abbrev pub has_script : Job → Bool
 has_script (Job.Run file with_steps) = true
+has_script (Job.Serve file with_steps) = true
 has_script (Job.Ring file) = true
 has_script (Job.Storm plan) = false
 
 -- of a job that reads a script the bytes are all that the input gives, where that is known
 abbrev pub AreRead : Job → Option (List ℕ) → List ℕ → Type 0
-AreRead job given bytes = IsTrue (has_script job) → IfSome given (λ all. bytes ≡ all)
+AreRead job given bytes = IsTrue (has_script job) → IsAllOf given bytes
 
 -- a job that stopped ends with 1 where memory or the output failed, and with 2 for any other cause
 abbrev pub IsStatusOf : Stopped → ℕ → Type 0

@@ -35,9 +35,10 @@ pub record IsStormOf (words : List (List ℕ)) (storm : Storm) : Type 0 where
   pub faults : IsTrue storm.faults ↔ HasFlag words (codes "--faults")
   pub steps : IsTrue storm.steps ↔ HasFlag words (codes "--steps")
 
--- the words say this job, as far as that is known: a run with the steps where they have this flag,
--- and a storm
+-- the words say this job, as far as that is known: a run or a service with the steps where they
+-- have this flag, and a storm
 abbrev pub IsJobOf : List (List ℕ) → Job → Type 0
 IsJobOf words (job.Run file with_steps) = IsTrue with_steps ↔ HasFlag words (codes "--steps")
+IsJobOf words (job.Serve file with_steps) = IsTrue with_steps ↔ HasFlag words (codes "--steps")
 IsJobOf words (job.Ring file) = Unit {0}
 IsJobOf words (job.Storm storm) = IsStormOf words storm

@@ -18,6 +18,7 @@ Examples:
   dynamo run examples/scripts/put_then_get.json
   dynamo ring examples/scripts/ring_wraps.json
   dynamo run - < script.json
+  dynamo serve examples/scripts/put_then_get.json
   dynamo storm 1 8 100 --faults
   dynamo run --steps examples/scripts/put_then_get.json | tools/replay
 
@@ -60,7 +61,12 @@ fn status_of(error: &Error) -> u8
 /// Prints how to use the program, where the words ask for it or ask for no job.
 pub fn explain<R: Print + Eprint>(rt: &R, alloc: Global, words: &[String]) -> io::Result<()> {
     match matches_of(alloc, words) {
-        Ok(_) => eprintln!(rt; "error: SEED, THREADS and PUTS are words of digits alone"),
+        Ok(matches) => match matches.subcommand_name() {
+            Some("serve") => eprintln!(rt;
+                "error: serve reads lines from standard input: name a file"
+            ),
+            _ => eprintln!(rt; "error: SEED, THREADS and PUTS are words of digits alone"),
+        },
         Err(error) => error.print(rt),
     }
 }
@@ -74,6 +80,7 @@ fn job_of(alloc: Global, words: &[String], matches: &ArgMatches) -> Result<Optio
     };
     Ok(match name {
         "run" => run_of(words, file_of(alloc, inner)?),
+        "serve" => serve_of(words, file_of(alloc, inner)?),
         "ring" => file_of(alloc, inner)?.map(|file| Job::Ring(file)),
         "storm" => storm_of(words).map(|plan| Job::Storm(plan)),
         _ => None,
@@ -86,6 +93,21 @@ fn run_of(words: &[String], file: Option<String>) -> Option<Job>
 {
     match file {
         Some(file) => Some(Job::Run {
+            file,
+            with_steps: has_flag(words, "--steps"),
+        }),
+        None => None,
+    }
+}
+
+/// The service of this file, with the steps where the words have their flag. There is none of
+/// standard input, from which a service reads its lines.
+fn serve_of(words: &[String], file: Option<String>) -> Option<Job>
+    ensures { IfSome result (IsJobOf (map string_bytes words.now)) }
+{
+    match file {
+        Some(file) if file.as_str() == "-" => None,
+        Some(file) => Some(Job::Serve {
             file,
             with_steps: has_flag(words, "--steps"),
         }),
@@ -110,6 +132,10 @@ fn matches_of<'a>(alloc: Global, words: &'a [String]) -> Result<ArgMatches<'a>, 
     let ring = Command::new(alloc, "ring")
         .about("Prints the ring of a script, and the preference lists of its keys")
         .arg(file_arg(alloc))?;
+    let serve = Command::new(alloc, "serve")
+        .about("Does a script, and then each line of standard input as a command, and answers each")
+        .arg(file_arg(alloc))?
+        .arg(steps_arg(alloc))?;
     let storm = storm_command(alloc)?;
     let dynamo = Command::new(alloc, "dynamo")
         .bin_name("dynamo")?
@@ -119,6 +145,7 @@ fn matches_of<'a>(alloc: Global, words: &'a [String]) -> Result<ArgMatches<'a>, 
         .no_binary_name(true)
         .subcommand_required(true)
         .subcommand(run)?
+        .subcommand(serve)?
         .subcommand(ring)?
         .subcommand(storm)?;
     dynamo.try_get_matches_from(words)

@@ -8,6 +8,9 @@ use dy_storm::Storm;
 pub enum Job {
     /// To run the script of this file, and to tell each step where that is wanted.
     Run { file: String, with_steps: bool },
+    /// To serve the lines of standard input in the cluster of the script of this file, and to tell
+    /// each step where that is wanted.
+    Serve { file: String, with_steps: bool },
     /// To print the ring of the script of this file, and the preference lists of its keys.
     Ring(String),
     /// To play this storm.
@@ -21,6 +24,7 @@ impl Job {
     {
         match self {
             Job::Run { file, .. } => Some(file.as_str()),
+            Job::Serve { file, .. } => Some(file.as_str()),
             Job::Ring(file) => Some(file.as_str()),
             Job::Storm(_) => None,
         }

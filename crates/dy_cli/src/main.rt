@@ -13,7 +13,7 @@ use std::alloc::Global;
 use std::env::Env;
 use std::fs::File;
 use std::io;
-use std::io::Read;
+use std::io::{BufRead, Read};
 use std::process::ExitCode;
 use std::sync::Wait;
 use std::thread::Threads;
@@ -59,17 +59,36 @@ fn status_of_job<R: Threads + Wait + Sync>(rt: &HostRuntime, leave: &R, job: &Jo
     }
 }
 
-/// Does the job over this input, and gives the status.
+/// Does the job over this input, and gives the status. A service reads its lines from standard
+/// input.
 fn status_over<I: Read, R: Threads + Wait + Sync>(
     rt: &HostRuntime,
     leave: &R,
     job: &Job,
     input: &mut I,
 ) -> u8 {
+    if let Job::Serve { .. } = job {
+        return match io::BufReader::new(rt.alloc(), rt.stdin()) {
+            Ok(mut lines) => status_over_lines(rt, leave, job, input, &mut lines),
+            Err(_) => refusing::refuse_for_memory(&mut rt.stderr()),
+        };
+    }
+    let mut nothing: &[u8] = &[];
+    status_over_lines(rt, leave, job, input, &mut nothing)
+}
+
+/// Does the job over this input and these lines, and gives the status.
+fn status_over_lines<I: Read, L: BufRead, R: Threads + Wait + Sync>(
+    rt: &HostRuntime,
+    leave: &R,
+    job: &Job,
+    input: &mut I,
+    lines: &mut L,
+) -> u8 {
     let alloc = rt.alloc();
     let mut err = rt.stderr();
     match io::BufWriter::new(alloc, io::writer(rt)) {
-        Ok(mut out) => performing::perform(leave, alloc, job, input, &mut out, &mut err),
+        Ok(mut out) => performing::perform(leave, alloc, job, input, lines, &mut out, &mut err),
         Err(_) => refusing::refuse_for_memory(&mut err),
     }
 }

@@ -4,6 +4,7 @@ pub mod Keeping
 pub mod Outcomes
 pub mod Places
 pub mod Refusals
+pub mod Served
 pub mod Sessions
 pub mod Steps
 pub mod Stops

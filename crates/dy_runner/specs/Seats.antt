@@ -27,8 +27,8 @@ IsOpened number before after =
     (after ≡ before)
     ⊎ ((seat_of number before ≡ length before) × (after ≡ before ++ number ∷ []))
 
--- the session of this number was open or was opened, or else it was refused; and each number has its
--- session
+-- the session of this number was open or was opened, or else it was refused; and each number has
+-- its session
 pub record OpensSession (number : ℕ) (before after : Seated) : Type 0 where
   pub opened : IsOpened number before.numbers after.numbers
   pub is_open : IsOpen number after.numbers ↔ (after.refused ≡ false)

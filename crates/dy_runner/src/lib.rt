@@ -16,4 +16,8 @@ mod writes;
 mod writing;
 
 pub use options::{options_of, ring_of};
-pub use writing::{run_script, write_ring, write_run};
+pub use plans::{Plan, plan_of};
+pub use running::run_command;
+pub use seats::Seats;
+pub use telling::write_trail;
+pub use writing::{run_script, write_audit, write_ring, write_run};

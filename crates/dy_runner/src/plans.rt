@@ -16,13 +16,13 @@ use std::alloc::Global;
 
 /// What a script's cluster is opened with.
 #[derive(Drop)]
-pub(crate) struct Plan {
+pub struct Plan {
     pub ring: Ring,
     pub options: Options,
 }
 
 /// What the script's cluster is opened with, or why there is none.
-pub(crate) fn plan_of(alloc: Global, script: &Script) -> Result<Plan, Fault>
+pub fn plan_of(alloc: Global, script: &Script) -> Result<Plan, Fault>
     ensures ok { IfOk result (IsPlanOf (script_parts script.now)) }
     ensures first { (made : Result Tokens FaultParts)
         × IsRingMade (lists_of (script_parts script.now).layout) made

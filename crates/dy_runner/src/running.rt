@@ -93,7 +93,7 @@ fn run_all<J: Naming, O: Write, R: Wait>(
 }
 
 /// What comes of the command. May wait for locks.
-pub(crate) fn run_command<J: Naming, R: Wait>(
+pub fn run_command<J: Naming, R: Wait>(
     rt: &R,
     alloc: Global,
     cluster: &Cluster<J>,

@@ -11,7 +11,7 @@ use std::sync::Wait;
 
 /// Which session of the script lies where among those that the cluster opened.
 #[derive(Drop)]
-pub(crate) struct Seats {
+pub struct Seats {
     // The number of each, in the order in which they were opened.
     pub numbers: Vec<u8>,
     // Whether the session that was asked for last could not be opened.
@@ -20,7 +20,7 @@ pub(crate) struct Seats {
 
 impl Seats {
     /// No session of the script is opened yet. Takes no memory.
-    pub(crate) fn new(alloc: Global) -> Seats
+    pub fn new(alloc: Global) -> Seats
         ensures none { result.numbers.items ≡ [] }
         ensures asked { result.refused ≡ false }
     {

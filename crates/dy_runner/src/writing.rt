@@ -146,7 +146,7 @@ pub fn run_script<O: Write, R: Wait>(
 
 /// Writes what the nodes hold, what was acknowledged, which keys are settled where that is wanted,
 /// and the sums.
-fn write_audit<O: Write>(
+pub fn write_audit<O: Write>(
     alloc: Global,
     w: u8,
     is_settled: bool,

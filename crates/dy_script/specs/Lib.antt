@@ -1,5 +1,6 @@
 pub mod Members
 pub mod Orders
 pub mod Reading
+pub mod Requests
 pub mod Tokens
 pub mod inside

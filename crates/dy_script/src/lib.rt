@@ -7,10 +7,12 @@ mod members;
 mod numbers;
 mod orders;
 mod reading;
+mod requests;
 mod scripts;
 mod tokens;
 
 pub use commands::{Command, Mode, Write};
 pub use reading::read;
+pub use requests::{Request, read_request};
 pub use scripts::{Layout, Limits, MAX_COMMANDS, MAX_SCRIPT_SESSIONS, Script};
 pub use tokens::token;

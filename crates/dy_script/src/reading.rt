@@ -2,7 +2,7 @@ ghost use Rattle.std.specs.Prelude.{◌≡◌, ◌⊎◌, ◌<◌, ◌≤◌, le
 ghost use Rattle.std.specs.Prelude.{vec_items, map, ℕ};
 ghost use Rattle.dy_script.specs.Members.{allow_only, each_of, seen};
 ghost use Rattle.dy_script.specs.Orders.{command_parts};
-ghost use Rattle.dy_script.specs.Reading.{layout_parts, script_parts, script_names, node_count};
+ghost use Rattle.dy_script.specs.Reading.{layout_parts, script_parts, script_names};
 ghost use Rattle.dy_script.specs.Reading.{token_at, token_list, tokens_at, token_lists};
 ghost use Rattle.dy_script.specs.Reading.{derived_of, tokens_given, limits_of, key_at, keys_of};
 ghost use Rattle.dy_script.specs.Reading.{command_at, commands_given, run_of};
@@ -53,7 +53,7 @@ fn script_of(alloc: Global, value: Value) -> Result<Script, Fault>
     let limits = limits_of(members)?;
     let keys = keys_of(alloc, members)?;
     let settled = members.flag("settled")?;
-    let run = run_of(alloc, value, node_count(&layout))?;
+    let run = run_of(alloc, value, layout.nodes())?;
     Ok(Script {
         n,
         r,
@@ -75,16 +75,6 @@ fn allow_script(members: Members) -> Result<(), Fault>
     members.allow_only(&[
         "n", "r", "w", "tokens", "derived", "limits", "keys", "settled", "run",
     ])
-}
-
-/// How many nodes the layout has.
-fn node_count(layout: &Layout) -> usize
-    ensures { result ≡ node_count (layout_parts layout.now) }
-{
-    match layout {
-        Layout::Tokens(lists) => lists.len(),
-        Layout::Derived { nodes, .. } => *nodes as usize,
-    }
 }
 
 /// The tokens, given or derived, of a script.

@@ -1,3 +1,6 @@
+ghost use Rattle.std.specs.Prelude.{◌≡◌};
+ghost use Rattle.dy_script.specs.Reading.{layout_parts, node_count};
+
 use crate::commands::Command;
 use dy_siblings::Key;
 
@@ -14,6 +17,18 @@ pub enum Layout {
     Tokens(Vec<Vec<u128>>),
     /// So many nodes with so many tokens each, derived from their numbers.
     Derived { nodes: u8, per_node: u8 },
+}
+
+impl Layout {
+    /// How many nodes the ring has. Takes no memory.
+    pub fn nodes(&self) -> usize
+        ensures { result ≡ node_count (layout_parts self.now) }
+    {
+        match self {
+            Layout::Tokens(lists) => lists.len(),
+            Layout::Derived { nodes, .. } => *nodes as usize,
+        }
+    }
 }
 
 /// The limits that a script sets; one that it leaves out is the greatest.

@@ -1,0 +1,4 @@
+pub mod Asking
+pub mod LineByLine
+pub mod Lines
+pub mod Stretching

@@ -1,0 +1,25 @@
+-- The commands so far are done, and their lines written.
+use Rattle.std.proofs.Common.{◌≡◌, List, ℕ, length, map, take}
+use Rattle.std.specs.Io.KnownBytes.{Appends}
+use Rattle.dy_cluster.specs.Settings.{setting}
+use Rattle.dy_script.specs.Orders.{command_parts}
+use Rattle.dy_runner.specs.Runs.{none_seated, seated}
+use Rattle.dy_serve.specs.Answers.{asked_of}
+use Rattle.dy_serve.specs.inside.Meeting.{AreAnsweredHere}
+use Rattle.dy_serve.proofs.services.run_script.Given as goal
+
+abbrev pub invariant-loop-command : goal.invariant-loop-command
+invariant-loop-command g l =
+    record {
+      together : length l.opened.seats.numbers.items ≡ length l.sessions.items;
+      cluster : l.opened.cluster.now ≡ l.initial.opened.cluster.now;
+      w : l.opened.w ≡ l.initial.opened.w;
+      nodes : l.opened.nodes ≡ l.initial.opened.nodes;
+      count : l.count ≡ l.command-index;
+      so_far : (text : List ℕ)
+          × AreAnsweredHere (setting g.row.J.Denot g.J.Naming.ring g.J.Naming.n g.J.Naming.r
+          l.initial.opened.cluster.now.options) l.initial.opened.w
+          (asked_of (map command_parts (take l.command-index l.script.run.items))) 1 none_seated
+          (seated l.opened.seats l.sessions.items) text
+          × Appends (g.O.Write.contents l.initial.out) (g.O.Write.contents l.out) text;
+    }

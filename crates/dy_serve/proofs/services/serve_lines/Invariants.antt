@@ -1,0 +1,26 @@
+-- Each line so far was answered, and none asks to renew the cluster.
+use Rattle.std.proofs.Common.{◌≡◌, List, ℕ, false, length}
+use Rattle.std.specs.Io.KnownBytes.{Appends}
+use Rattle.dy_cluster.specs.Settings.{setting}
+use Rattle.dy_runner.specs.Runs.{seated}
+use Rattle.dy_serve.specs.inside.Stretches.{ServesTo}
+use Rattle.dy_serve.proofs.services.serve_lines.Given as goal
+
+abbrev pub invariant-loop : goal.invariant-loop
+invariant-loop g l =
+    record {
+      iterator : (goal.iterator-loop g).can_next l.iterator'
+          × (goal.iterator-loop g).is_finite l.iterator';
+      together : length l.opened.seats.numbers.items ≡ length l.sessions.items;
+      cluster : l.opened.cluster.now ≡ l.initial.opened.cluster.now;
+      w : l.opened.w ≡ l.initial.opened.w;
+      nodes : l.opened.nodes ≡ l.initial.opened.nodes;
+      so_far : (bytes text : List ℕ)
+          × ServesTo (setting g.row.J.Denot g.J.Naming.ring g.J.Naming.n g.J.Naming.r
+          l.initial.opened.cluster.now.options) l.initial.opened.w l.initial.opened.nodes
+          l.fn.count l.count false false
+          (seated l.initial.opened.seats l.initial.sessions.items)
+          (seated l.opened.seats l.sessions.items)
+          (g.I.Read.remaining l.initial.input) (g.I.Read.remaining l.input) bytes text
+          × Appends (g.O.Write.contents l.initial.out) (g.O.Write.contents l.out) text;
+    }

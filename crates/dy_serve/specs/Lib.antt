@@ -1,0 +1,5 @@
+pub mod Answers
+pub mod Closings
+pub mod InputLines
+pub mod Served
+pub mod inside

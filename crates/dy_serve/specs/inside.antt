@@ -1,0 +1,3 @@
+-- What contracts of private functions alone speak of.
+pub mod Meeting
+pub mod Stretches

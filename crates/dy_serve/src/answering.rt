@@ -1,0 +1,180 @@
+// How a command and a line are answered.
+ghost use Rattle.std.specs.Prelude.{◌≡◌, ◌+◌, List, ℕ, length, IfOk, OnOk};
+ghost use Rattle.std.specs.Io.KnownBytes.{Appends};
+ghost use Rattle.dy_lines.specs.Outcomes.{command_text};
+ghost use Rattle.dy_lines.specs.Served.{refused_text};
+ghost use Rattle.dy_lines.specs.Texts.{line as text_line};
+ghost use Rattle.dy_script.specs.Orders.{command_parts};
+ghost use Rattle.dy_cluster.specs.Settings.{setting};
+ghost use Rattle.dy_runner.specs.Runs.{seated};
+ghost use Rattle.dy_serve.specs.Answers.{IsDone};
+ghost use Rattle.dy_serve.specs.inside.Meeting.{AsksSo, MeetsLine};
+ghost use Rattle.dy_serve.specs.InputLines.{IsKept};
+
+use crate::input_lines::{Line, is_blank};
+use crate::open_clusters::OpenCluster;
+use dy_cluster::Session;
+use dy_dots::Fault;
+use dy_lines::{CommandLine, Outcome, RefusedLine, Stopped};
+use dy_script::{Command, Request, read_request};
+use dy_shares::Naming;
+use std::alloc::Global;
+use std::io;
+use std::io::Write;
+use std::sync::Wait;
+
+/// What a line asks for.
+#[derive(Debug, Drop)]
+enum LineAsked {
+    /// Nothing: it is blank.
+    Nothing,
+    /// What it says, by this number.
+    Wanted { number: u32, request: Request },
+    /// What can't be read, or is no request.
+    Wrong { number: u32, fault: Fault },
+}
+
+/// The number behind this one, of which there are 4,294,967,295.
+pub(crate) fn next_number(count: u32) -> Result<u32, Fault>
+    ensures { IfOk result (λ number. number ≡ count + 1) }
+{
+    match count.checked_add(1) {
+        Some(number) => Ok(number),
+        None => Err(Fault::TooMany),
+    }
+}
+
+/// Does the command of this number, and writes its line, which reaches the reader at once. May wait
+/// for locks.
+pub(crate) fn answer_command<J: Naming, O: Write, R: Wait>(
+    rt: &R,
+    alloc: Global,
+    opened: &mut OpenCluster<'_, J>,
+    sessions: &mut Vec<Session<J>>,
+    number: u32,
+    command: &Command,
+    out: &mut O,
+) -> io::Result<()>
+    requires together { length opened.old.seats.numbers.items ≡ length sessions.old.items }
+    ensures together { length opened.new.seats.numbers.items ≡ length sessions.new.items }
+    ensures cluster { opened.new.cluster.now ≡ opened.old.cluster.now }
+    ensures w { opened.new.w ≡ opened.old.w }
+    ensures nodes { opened.new.nodes ≡ opened.old.nodes }
+    ensures done { OnOk result ((text : List ℕ)
+        × IsDone (setting J J.ring J.n J.r opened.old.cluster.now.options) opened.old.w
+        (command_parts command.now) number (seated opened.old.seats sessions.old.items)
+        (seated opened.new.seats sessions.new.items) text
+        × Appends (O.contents out.old) (O.contents out.new) text) }
+{
+    let outcome = opened.run(rt, alloc, sessions, command);
+    tell(number, &outcome, out)?;
+    Ok(())
+}
+
+/// Writes what came of the command of this number, which reaches the reader at once.
+fn tell<O: Write>(number: u32, outcome: &Outcome, out: &mut O) -> io::Result<()>
+    ensures { OnOk result (Appends (O.contents out.old) (O.contents out.new)
+        (text_line (command_text number outcome.now))) }
+{
+    let line = CommandLine {
+        number: number as usize,
+        outcome,
+    };
+    writeln!(out, "{line}")?;
+    out.flush()?;
+    Ok(())
+}
+
+/// Writes that the command of this number is refused, which reaches the reader at once.
+fn refuse<O: Write>(number: u32, fault: Fault, out: &mut O) -> io::Result<()>
+    ensures { OnOk result (Appends (O.contents out.old) (O.contents out.new)
+        (text_line (refused_text number fault))) }
+{
+    let refusal = RefusedLine { number, fault };
+    writeln!(out, "{refusal}")?;
+    out.flush()?;
+    Ok(())
+}
+
+/// What the line asks for, of a store with so many nodes, and its number, which is behind this one
+/// unless the line is blank.
+fn asked_of_line(alloc: Global, nodes: usize, count: u32, line: &Line) -> Result<LineAsked, Fault>
+    ensures { IfOk result (λ asked. (whole : List ℕ) →
+        IsKept line.now.is_long line.now.bytes.items whole →
+        AsksSo nodes count whole asked) }
+{
+    let Some(bytes) = line.bytes() else {
+        let number = next_number(count)?;
+        let fault = Fault::ScriptSyntax { command: number };
+        return Ok(LineAsked::Wrong { number, fault });
+    };
+    if is_blank(bytes) {
+        return Ok(LineAsked::Nothing);
+    }
+    let number = next_number(count)?;
+    match read_request(alloc, bytes, number, nodes) {
+        Ok(request) => Ok(LineAsked::Wanted { number, request }),
+        Err(fault) => Ok(LineAsked::Wrong { number, fault }),
+    }
+}
+
+/// What came of a line.
+#[derive(Clone, Copy, Debug, PartialEq, Eq)]
+pub(crate) struct Answered {
+    /// The number of the last command, this line's or one before it.
+    pub count: u32,
+    /// Whether it asks to renew the cluster, which is left to the caller.
+    pub renews: bool,
+}
+
+/// Answers the line, unless it asks to renew the cluster. May wait for locks.
+pub(crate) fn answer_line<J: Naming, O: Write, R: Wait>(
+    rt: &R,
+    alloc: Global,
+    opened: &mut OpenCluster<'_, J>,
+    sessions: &mut Vec<Session<J>>,
+    count: u32,
+    line: &Line,
+    out: &mut O,
+) -> Result<Answered, Stopped>
+    requires together { length opened.old.seats.numbers.items ≡ length sessions.old.items }
+    ensures together { length opened.new.seats.numbers.items ≡ length sessions.new.items }
+    ensures cluster { opened.new.cluster.now ≡ opened.old.cluster.now }
+    ensures w { opened.new.w ≡ opened.old.w }
+    ensures nodes { opened.new.nodes ≡ opened.old.nodes }
+    ensures answered { IfOk result (λ answered. (whole : List ℕ) →
+        IsKept line.now.is_long line.now.bytes.items whole →
+        (text : List ℕ)
+        × MeetsLine (setting J J.ring J.n J.r opened.old.cluster.now.options) opened.old.w
+        opened.old.nodes count whole answered
+        (seated opened.old.seats sessions.old.items)
+        (seated opened.new.seats sessions.new.items) text
+        × Appends (O.contents out.old) (O.contents out.new) text) }
+{
+    match asked_of_line(alloc, opened.nodes, count, line)? {
+        LineAsked::Nothing => Ok(Answered {
+            count,
+            renews: false,
+        }),
+        LineAsked::Wrong { number, fault } => {
+            refuse(number, fault, out)?;
+            Ok(Answered {
+                count: number,
+                renews: false,
+            })
+        }
+        LineAsked::Wanted { number, request } => match request {
+            Request::Renew => Ok(Answered {
+                count: number,
+                renews: true,
+            }),
+            Request::Do(command) => {
+                answer_command(rt, alloc, opened, sessions, number, &command, out)?;
+                Ok(Answered {
+                    count: number,
+                    renews: false,
+                })
+            }
+        },
+    }
+}

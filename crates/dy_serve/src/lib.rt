@@ -1,0 +1,13 @@
+//! Serves a cluster to another program: each line of an input is a command, and is answered by a
+//! line.
+#![tactic(auto)]
+
+mod answering;
+mod closing;
+mod input_lines;
+mod open_clusters;
+mod services;
+mod serving;
+
+pub use input_lines::MAX_LINE_BYTES;
+pub use serving::serve;

@@ -1,0 +1,213 @@
+ghost use Rattle.std.specs.Prelude.{◌≡◌, List, ℕ, Result, None, false, IfOk, OnOk};
+ghost use Rattle.std.specs.Io.KnownBytes.{Appends};
+ghost use Rattle.std.specs.declared.marker.Brand.{Brand};
+ghost use Rattle.dy_dots.specs.declared.faults.Fault.{Fault as FaultParts};
+ghost use Rattle.dy_ring.specs.Rings.{Tokens};
+ghost use Rattle.dy_script.specs.Reading.{script_parts};
+ghost use Rattle.dy_shares.specs.Shares.{SessionPart};
+ghost use Rattle.dy_cluster.specs.Ends.{IsClosed};
+ghost use Rattle.dy_cluster.specs.Settings.{setting};
+ghost use Rattle.dy_runner.specs.Openings.{IsPlanOf, options_for};
+ghost use Rattle.dy_runner.specs.Refusals.{IsFirstRefusal, IsStoppedBy};
+ghost use Rattle.dy_runner.specs.RingLines.{IsRingMade, lists_of};
+ghost use Rattle.dy_runner.specs.Runs.{seated};
+ghost use Rattle.dy_serve.specs.InputLines.{IsAllOf};
+ghost use Rattle.dy_serve.specs.Served.{IsServed, first_lines, service_of};
+ghost use Rattle.dy_serve.specs.inside.Stretches.{HasServed, HasServedSo, ServesCluster};
+
+use crate::closing::write_closing;
+use crate::input_lines::Line;
+use crate::services::{Progress, Service, Stop};
+use dy_cluster::{Closed, with_cluster};
+use dy_lines::{ClusterLine, Stopped, write_cluster};
+use dy_runner::{Plan, Seats, plan_of};
+use dy_script::Script;
+use std::alloc::Global;
+use std::io;
+use std::io::{BufRead, Write};
+use std::sync::Wait;
+
+/// Opens the cluster that the script asks for, and does its commands. Then it does the command that
+/// each line of the input says, to its end. Each is answered by a line, which reaches the reader
+/// before the next line is read. Behind the last the cluster is closed, and its audit is written.
+/// Room for the longest line is had before the first is read. May wait for locks, and for the
+/// input.
+pub fn serve<I: BufRead, O: Write, R: Wait>(
+    rt: &R,
+    alloc: Global,
+    script: &Script,
+    with_steps: bool,
+    input: &mut I,
+    out: &mut O,
+) -> Result<(), Stopped>
+    ensures refused { (made : Result Tokens FaultParts)
+        × IsRingMade (lists_of (script_parts script.now).layout) made
+        × IsStoppedBy (IsFirstRefusal made (options_for (script_parts script.now))) result
+        (O.contents out.old) (O.contents out.new) }
+    ensures served { OnOk result ((text wrote : List ℕ)
+        × IsServed (script_parts script.now) with_steps text wrote
+        × IsAllOf (I.remaining input.old) text
+        × Appends (O.contents out.old) (O.contents out.new) wrote) }
+{
+    match plan_of(alloc, script) {
+        Ok(plan) => serve_planned(rt, alloc, &plan, script, with_steps, input, out),
+        Err(fault) => Err(Stopped::Refused(fault)),
+    }
+}
+
+// Serves in clusters of this plan, one after another.
+fn serve_planned<I: BufRead, O: Write, R: Wait>(
+    rt: &R,
+    alloc: Global,
+    plan: &Plan,
+    script: &Script,
+    with_steps: bool,
+    input: &mut I,
+    out: &mut O,
+) -> Result<(), Stopped>
+    requires planned { IsPlanOf (script_parts script.now) plan.now }
+    ensures served { OnOk result ((text wrote : List ℕ)
+        × IsServed (script_parts script.now) with_steps text wrote
+        × IsAllOf (I.remaining input.old) text
+        × Appends (O.contents out.old) (O.contents out.new) wrote) }
+{
+    write_head(plan, script, with_steps, out)?;
+    let line = Line::new(alloc)?;
+    let stop = Stop {
+        count: 0,
+        renews: false,
+        is_last: false,
+    };
+    let mut progress = Progress {
+        line,
+        closed: None,
+        seats: Seats::new(alloc),
+        stop,
+    };
+    serve_clusters(
+        rt,
+        alloc,
+        plan,
+        script,
+        with_steps,
+        &mut progress,
+        input,
+        out,
+    )?;
+    Ok(())
+}
+
+// Serves in one cluster after another, until no line asks to renew it.
+fn serve_clusters<I: BufRead, O: Write, R: Wait>(
+    rt: &R,
+    alloc: Global,
+    plan: &Plan,
+    script: &Script,
+    with_steps: bool,
+    progress: &mut Progress,
+    input: &mut I,
+    out: &mut O,
+) -> Result<(), Stopped>
+    requires options { plan.now.options ≡ options_for (script_parts script.now) }
+    requires closed { progress.old.closed ≡ None }
+    requires more { progress.old.stop.is_last ≡ false }
+    ensures ended { OnOk result (progress.new.stop.renews ≡ false) }
+    ensures served { OnOk result (HasServedSo
+        (service_of (script_parts script.now) plan.now.ring with_steps)
+        progress.new.closed progress.new.stop
+        (I.remaining input.old) (I.remaining input.new)
+        (O.contents out.old) (O.contents out.new)) }
+{
+    serve_cluster(rt, alloc, plan, script, with_steps, progress, input, out)?;
+    for _ in rt.forever() {
+        if !progress.stop.renews {
+            return Ok(());
+        }
+        serve_cluster(rt, alloc, plan, script, with_steps, progress, input, out)?;
+    }
+    unreachable!()
+}
+
+// Writes the cluster's numbers and its tokens, if the steps are wanted.
+fn write_head<O: Write>(
+    plan: &Plan,
+    script: &Script,
+    with_steps: bool,
+    out: &mut O,
+) -> io::Result<()>
+    ensures { OnOk result (Appends (O.contents out.old) (O.contents out.new)
+        (first_lines (script_parts script.now) plan.now.ring with_steps)) }
+{
+    if !with_steps {
+        return Ok(());
+    }
+    let line = ClusterLine {
+        n: script.n,
+        r: script.r,
+        w: script.w,
+    };
+    write_cluster(line, plan.ring.tokens(), out)?;
+    Ok(())
+}
+
+// Opens a cluster, serves in it, closes it, and writes how it was closed.
+fn serve_cluster<I: BufRead, O: Write, R: Wait>(
+    rt: &R,
+    alloc: Global,
+    plan: &Plan,
+    script: &Script,
+    with_steps: bool,
+    progress: &mut Progress,
+    input: &mut I,
+    out: &mut O,
+) -> Result<(), Stopped>
+    ensures served { OnOk result (ServesCluster
+        (record {
+          setting = setting Brand plan.now.ring plan.now.options.n plan.now.options.r
+              plan.now.options;
+          script = script_parts script.now;
+          with_steps = with_steps;
+        })
+        progress.old.closed progress.old.stop progress.new.closed progress.new.stop
+        (I.remaining input.old) (I.remaining input.new)
+        (O.contents out.old) (O.contents out.new)) }
+{
+    let closed = close_served(rt, alloc, plan, script, progress, input, out)?;
+    let seats = &progress.seats;
+    write_closing(alloc, script, with_steps, seats, &closed.audit, out)?;
+    progress.closed = Some(closed);
+    Ok(())
+}
+
+// Opens a cluster, serves in it, and closes it.
+fn close_served<I: BufRead, O: Write, R: Wait>(
+    rt: &R,
+    alloc: Global,
+    plan: &Plan,
+    script: &Script,
+    progress: &mut Progress,
+    input: &mut I,
+    out: &mut O,
+) -> Result<Closed, Stopped>
+    ensures served { IfOk result (λ closed. (tellings : List SessionPart)
+        × IsClosed plan.now.ring plan.now.options.n plan.now.options.r tellings closed
+        × HasServed (setting Brand plan.now.ring plan.now.options.n plan.now.options.r
+        plan.now.options) (script_parts script.now) progress.old.closed progress.old.stop
+        progress.new.stop (seated progress.new.seats tellings)
+        (I.remaining input.old) (I.remaining input.new)
+        (O.contents out.old) (O.contents out.new)) }
+{
+    let ring = plan.ring.try_clone(alloc)?;
+    let mut service = Service {
+        script,
+        progress,
+        input,
+        out,
+        lost: None,
+    };
+    let ended = with_cluster(rt, alloc, ring, plan.options, &mut service);
+    if let Some(error) = service.lost {
+        return Err(Stopped::Output(error));
+    }
+    Ok(ended?)
+}
