@@ -6,8 +6,8 @@
 // that is not known. The program has neither frame pointers nor tables to unwind it, so FRAMES is
 // a file that says of each such place, of four bytes, how far above it that of the next one lies,
 // of four bytes (growing/frames.py makes it).
-// Of files READABLE bytes are read, and then reading fails by the error in ERROR; to the output
-// WRITABLE bytes are written, and then writing does.
+// Of files READABLE bytes are read, and of the input LISTENED, and then reading fails by the error
+// in ERROR; to the output WRITABLE bytes are written, and then writing does.
 #define _GNU_SOURCE
 #include <dlfcn.h>
 #include <errno.h>
@@ -31,7 +31,7 @@ struct frame {
 static atomic_long own;
 static atomic_long *made = &own;
 static atomic_long threads;
-static long refused, unmade, readable, writable, error;
+static long refused, unmade, readable, listened, writable, error;
 static const struct frame *frames;
 static size_t frames_count;
 static uintptr_t base;
@@ -89,6 +89,7 @@ __attribute__((constructor)) static void begin(void) {
     refused = number_in("REFUSED", 0);
     unmade = number_in("UNMADE", 0);
     readable = number_in("READABLE", -1);
+    listened = number_in("LISTENED", -1);
     writable = number_in("WRITABLE", -1);
     error = number_in("ERROR", EIO);
     if (getenv("TRACED")) begin_trace(getenv("TRACED"), getenv("FRAMES"));
@@ -132,9 +133,11 @@ static ssize_t passing(size_t size, long left) {
 ssize_t read(int file, void *to, size_t size) {
     static ssize_t (*real)(int, void *, size_t);
     if (!real) real = dlsym(RTLD_NEXT, "read");
-    ssize_t some = passing(size, file > STDERR_FILENO ? readable : -1);
+    long none = -1, *left = file == STDIN_FILENO ? &listened : &none;
+    if (file > STDERR_FILENO) left = &readable;
+    ssize_t some = passing(size, *left);
     ssize_t done = some < 0 ? some : real(file, to, some);
-    if (file > STDERR_FILENO && readable > 0 && done > 0) readable -= done;
+    if (*left > 0 && done > 0) *left -= done;
     return done;
 }
 

@@ -8,10 +8,10 @@ from growing.frames import Frames, stacks_in
 NO_MEMORY = "dynamo: E0 OutOfMemory\n"
 
 
-def run(words, library, **named):
-    """Runs the program with the library loaded before its own."""
+def run(words, library, given="", **named):
+    """Runs the program with the library loaded before its own, and gives it this input."""
     env = dict(os.environ, LD_PRELOAD=library, **named)
-    how = {"env": env, "stdin": subprocess.DEVNULL, "capture_output": True, "encoding": "utf-8"}
+    how = {"env": env, "input": given, "capture_output": True, "encoding": "utf-8"}
     return subprocess.run(words, timeout=120, **how)
 
 

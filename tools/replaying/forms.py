@@ -36,6 +36,7 @@ class Command(NamedTuple):
     """A command's line: its number and word, whether it is ok, and what else it says.
 
     `dots` is the context of a get or what a node shows of its own, `hints` what it shows for homes.
+    The word of a line that a service could not read is `line`.
     """
 
     number: int
@@ -100,7 +101,7 @@ def command_of(it: Words) -> Command:
     """Returns the command of a line."""
     dot, dots = it.get("dot") or it.get("after"), it.get("dots")
     return Command(
-        number=int(it["number"]), do=it["do"], is_ok=not it.get("refusal"),
+        number=int(it["number"]), do=it.get("do") or "line", is_ok=not it.get("refusal"),
         dot=read_dot(dot) if dot else None,
         answers=answers_of(it["answers"]) if it.get("answers") else [],
         dots=read_context(dots) if dots else EMPTY,
@@ -181,7 +182,10 @@ FORMS: Dict[str, List[Tuple[str, Callable[[Words], Any]]]] = {
         (f"{NUMBER} (?P<do>show) (?P<node>{COUNT}) own {DOTS}(?P<hints>"
          f"(?: for {COUNT} n[0-9n:, -]+)*)", command_of),
         (f"{NUMBER} (?P<do>put|delete) {REFUSAL} after (?P<after>{DOT})", command_of),
-        (f"{NUMBER} (?P<do>{WORD}) {REFUSAL}(?: n[0-9]+:[0-9]+)?", command_of)],
+        (f"{NUMBER} (?P<do>{WORD}) {REFUSAL}(?: n[0-9]+:[0-9]+)?", command_of),
+        (f"{NUMBER} (?P<do>renew) ok carried (?P<carried>{COUNT})", command_of),
+        (f"{NUMBER} (?P<refusal>E17 ScriptSyntax|E18 UnknownCommand) (?P=number)", command_of),
+        (f"{NUMBER} (?P<refusal>E0 OutOfMemory)", command_of)],
 }
 COMPILED = {name: [(re.compile(pattern), make) for pattern, make in forms]
             for name, forms in FORMS.items()}

@@ -6,6 +6,7 @@ from replaying.commands import Group, check
 from replaying.dots import BadText
 from replaying.forms import Acked, Cluster, Command, End, Held, Settled, Token, read_line
 from replaying.rings import Setting
+from replaying.served import Served
 from replaying.sessions import Sessions
 from replaying.steps import Ack, Fault, Fetch, Hold, Issue, Release, Told
 from replaying.worlds import World
@@ -15,12 +16,20 @@ ORDER = {Cluster: 0, Token: 1, Command: 2, Issue: 2, Hold: 2, Release: 2, Fetch:
          Held: 3, Acked: 4, Settled: 5, End: 6}
 AUDIT = {Held: "held", Acked: "acked", Settled: "settled"}
 ORDER_RULE, NUMBERS = "order of lines", "numbers in order"
+# What a service alone prints: a renewal, and of a line that it could not read.
+OF_SERVICE = ("renew", "line")
 
 
 def lines_of(text: str) -> List[str]:
     """Returns the lines of an output; a last one without its line feed counts."""
     lines = text.split("\n")
     return lines if lines[-1] else lines[:-1]
+
+
+def are_apart(lines: List[str]) -> bool:
+    """Tells whether no command stands right below a step, as in the output of a service."""
+    return not any(line[:1].isdigit() and above.startswith(("step ", "told "))
+                   for above, line in zip(lines, lines[1:]))
 
 
 class Replay:
@@ -30,6 +39,7 @@ class Replay:
         self.lines = lines
         # A storm is told by its end, wherever that stands.
         self.is_storm = any(line.startswith("end acked ") for line in lines[-50:])
+        self.is_served = not self.is_storm and are_apart(lines)
         self.found: List[Tuple[int, Fault]] = []
         self.steps = self.acks = self.gets = self.commands = 0
         self.at = self.order = 0
@@ -39,6 +49,9 @@ class Replay:
         self.group: Optional[Group] = None
         self.world: Optional[World] = None
         self.sessions: Optional[Sessions] = None
+        self.served: Optional[Served] = None
+        # The sums of the clusters that were closed before.
+        self.sums = [0, 0, 0]
 
     def complain(self, rule: str, text: str) -> None:
         self.found.append((self.at, Fault(rule, text)))
@@ -54,6 +67,7 @@ class Replay:
                 continue
             self.put_in_order(last)
             self.play_line(last, line)
+        self.end_cluster()
         if not isinstance(last, End):
             self.complain(ORDER_RULE, "the last line is no end")
         self.found.sort(key=lambda it: it[0])
@@ -61,11 +75,25 @@ class Replay:
     def put_in_order(self, it: Any) -> None:
         """Says where a line comes too late, or more than once."""
         order = ORDER[type(it)]
+        if self.is_renewal(it):
+            self.order = order if self.order == ORDER[End] else ORDER[End]
         is_after_told = self.is_storm and self.gets and order == 2 and not isinstance(it, Told)
         is_twice = order == self.order and isinstance(it, (Cluster, End)) and self.at > 1
         if order < self.order or is_after_told or is_twice or (self.at == 1 and order):
             self.complain(ORDER_RULE, f"a line '{self.lines[self.at - 1][:40]}' has no place here")
         self.order = max(order, self.order)
+
+    def is_renewal(self, it: Any) -> bool:
+        return self.is_served and isinstance(it, Command) and it.do == "renew"
+
+    def renew(self) -> None:
+        """Begins the next cluster of a service, behind the audit of the one before."""
+        self.sums = [sum(it) for it in zip(self.sums, (self.steps, self.acks, self.gets))]
+        self.steps = self.acks = self.gets = 0
+        self.audit = {name: [] for name in AUDIT.values()}
+        before, self.world = self.world, World(self.world.setting)
+        self.sessions = Sessions(self.world, self.is_storm)
+        self.served = Served(self.world, before)
 
     def begin(self) -> None:
         """Makes the world, of the lines at the head."""
@@ -75,6 +103,7 @@ class Replay:
             self.complain("setting", fault)
         self.world = World(setting)
         self.sessions = Sessions(self.world, self.is_storm)
+        self.served = Served(self.world, None) if self.is_served else None
 
     def play_line(self, it: Any, line: str) -> None:
         if isinstance(it, Cluster):
@@ -86,6 +115,10 @@ class Replay:
                 self.begin()
             if isinstance(it, (Command, Held, Acked, Settled, End)):
                 self.end_group()
+            if type(it) in AUDIT or isinstance(it, End):
+                self.end_cluster()
+            if self.is_renewal(it):
+                self.renew()
             if isinstance(it, Command):
                 self.begin_group(it)
             elif isinstance(it, End):
@@ -102,7 +135,12 @@ class Replay:
         if command.number != self.commands:
             self.complain(NUMBERS, f"this is command {self.commands}")
             self.commands = command.number
-        self.group = Group(self.at, command)
+        if command.do in OF_SERVICE and not self.is_served:
+            self.complain(ORDER_RULE, "a service alone tells such a line")
+        if self.served:
+            self.served.commands.append((self.at, command))
+        else:
+            self.group = Group(self.at, command)
 
     def end_group(self) -> None:
         """Holds the command against its steps, once all of them are played."""
@@ -110,14 +148,23 @@ class Replay:
             self.found += check(self.group, self.world)
         self.group = None
 
+    def end_cluster(self) -> None:
+        """Holds the commands of a service against the steps of the cluster, once all are played."""
+        if self.served:
+            self.found += self.served.check()
+        self.served = None
+
     def play_step(self, it: Any) -> None:
         """Plays a step, or what a session is told."""
         is_told = isinstance(it, Told)
         if self.group:
             (self.group.told if is_told else self.group.steps).append((self.at, it))
-        elif not self.is_storm:
+        elif not self.is_storm and not self.served:
             self.complain(ORDER_RULE, "it stands below no command")
-        self.found += [(self.at, fault) for fault in self.faults_of(it)]
+        for one in self.served.gets_of(it) if self.served and is_told else [it]:
+            self.found += [(self.at, fault) for fault in self.faults_of(one)]
+            if self.served:
+                self.found += [(self.at, fault) for fault in self.served.add(self.at, one)]
 
     def faults_of(self, it: Any) -> Iterator[Fault]:
         if isinstance(it, Told):
@@ -149,5 +196,6 @@ class Replay:
         lines = [f"line {at}: {fault.rule}: {fault.text}" for at, fault in self.found]
         count = len(self.found)
         told = f"{count} {'violation' if count == 1 else 'violations'}" if count else "all checked"
-        sums = f"{self.steps} steps, {self.acks} acked, {self.gets} gets"
+        steps, acks, gets = map(sum, zip(self.sums, (self.steps, self.acks, self.gets)))
+        sums = f"{steps} steps, {acks} acked, {gets} gets"
         return [*lines, f"replay: {sums}: {told}"]
