@@ -1,0 +1,148 @@
+"""The same commands as lines of `serve` and as the script of a `run`: the same lines, and steps."""
+import json
+import re
+import subprocess
+import sys
+from concurrent.futures import ThreadPoolExecutor
+from typing import Any, Dict, Iterator, List, Set, Tuple
+
+from serving.checks import SCRIPT, TOP, Run, Test, line_of
+
+SCRIPTS = TOP / "examples/scripts"
+SEEDS, COMMANDS = 10, 60
+ADDED = re.compile("(cluster|token|step|told) ")
+RENEW = {"do": "renew"}
+Script = Dict[str, Any]
+
+
+def rows() -> List[List[str]]:
+    """The rows of examples/scenes.txt: word, status, name and, where there is one, the error."""
+    text = (TOP / "examples/scenes.txt").read_text(encoding="utf-8")
+    return [line.split(" ", 3) for line in text.splitlines()]
+
+
+def scripts() -> Iterator[Tuple[str, Script]]:
+    """Each scene that runs to its end, and the seeded scripts."""
+    for word, status, name, *_ in rows():
+        if (word, status) == ("run", "0"):
+            yield name, json.loads((SCRIPTS / f"{name}.json").read_text(encoding="utf-8"))
+    for seed in range(1, SEEDS + 1):
+        words = [sys.executable, str(TOP / "tools/scripts"), str(seed), str(COMMANDS)]
+        text = subprocess.run(words, stdout=subprocess.PIPE, check=True).stdout
+        yield f"seed {seed}", json.loads(text)
+
+
+def served(test: Test, name: str, script: Script, first: int, *flags: str) -> Run:
+    """What is printed where only so many commands stand in the script, and the others are lines."""
+    commands = script.get("run", [])
+    file = test.file({**script, "run": commands[:first]}, f"{name}-{first}{''.join(flags)}.json")
+    lines = b"".join(line_of(command) + b"\n" for command in commands[first:])
+    return test.run(["serve", *flags, file], lines)
+
+
+def cut(output: bytes) -> Tuple[List[str], List[str]]:
+    """The lines that --steps adds, and the others."""
+    lines = output.decode("utf-8").splitlines()
+    return [it for it in lines if ADDED.match(it)], [it for it in lines if not ADDED.match(it)]
+
+
+def compare(test: Test, name: str, script: Script) -> None:
+    """Compares the ways in which a script can be done."""
+    file = test.file(script, f"{name}.json")
+    whole = test.run(["run", file])
+    test.same(f"{name}: the status and the error of a run", (whole.status, whole.err), (0, b""))
+    scene = SCRIPTS / f"{name}.json.stdout"
+    if scene.exists():
+        test.same(f"{name}: the scene", whole.out, scene.read_bytes())
+    count = len(script.get("run", []))
+    for first in sorted({0, 1, count // 2, count}):
+        test.same(f"{name}: served behind {first}", served(test, name, script, first), whole)
+    compare_steps(test, name, script, whole)
+
+
+def told_of(lines: List[str]) -> List[str]:
+    """The numbers of the fetches that sessions were told of."""
+    told = (line.split(" ")[1:-2] for line in lines if line.startswith("told "))
+    return [number for numbers in told for number in numbers]
+
+
+def are_told_below(lines: List[str]) -> bool:
+    """Whether each told line has its fetches in the stretch of fetches right above it."""
+    stretch: Set[str] = set()
+    was_told = False
+    for line in lines:
+        words = line.split(" ")
+        if words[0] == "told":
+            if not set(words[1:-2]) <= stretch:
+                return False
+        elif words[2] != "fetch" or was_told:
+            stretch = set()
+        if words[0] == "step" and words[2] == "fetch":
+            stretch.add(words[1])
+        was_told = words[0] == "told"
+    return True
+
+
+def compare_steps(test: Test, name: str, script: Script, whole: Run) -> None:
+    """With --steps: the ring, the answers, as many steps as the audit says, and the audit."""
+    run = test.run(["run", "--steps", test.file(script, f"{name}.json")])
+    done = served(test, name, script, 0, "--steps")
+    test.same(f"{name}: the status with steps", (done.status, done.err), (0, b""))
+    wanted, (added, others) = cut(run.out)[0], cut(done.out)
+    test.same(f"{name}: all but the steps", others, whole.out.decode("utf-8").splitlines())
+    for kind in ("cluster ", "token ", "step "):
+        test.same(f"{name}: the lines of {kind.strip()}",
+                  *([line for line in lines if line.startswith(kind)] for lines in (added, wanted)))
+    test.same(f"{name}: the fetches that were told", told_of(added), told_of(wanted))
+    test.check(f"{name}: each told line is below its fetches", are_told_below(added), added)
+    head = [it for it in added if it.startswith(("cluster ", "token "))]
+    count = len(script.get("run", []))
+    order = [*head, *others[:count], *added[len(head):], *others[count:]]
+    test.same(f"{name}: their order", done.out.decode("utf-8").splitlines(), order)
+    steps = sum(1 for it in added if it.startswith("step "))
+    test.same(f"{name}: how many they are", str(steps), others[-1].rpartition(" ")[2])
+
+
+def test_scripts(test: Test) -> None:
+    cases = list(scripts())
+    test.check("there are scenes and seeds", len(cases) > SEEDS + 20, len(cases))
+    with ThreadPoolExecutor(max_workers=2) as pool:
+        for _ in pool.map(lambda case: compare(test, *case), cases):
+            pass
+
+
+def test_refused_scripts(test: Test) -> None:
+    """A script that `run` refuses is refused by `serve`, and no line is read."""
+    for word, status, name, *error in rows():
+        if (word, status) == ("run", "2"):
+            done = test.run(["serve", str(SCRIPTS / f"{name}.json")], line_of(RENEW))
+            test.same(f"{name}: served", done, Run(2, b"", f"{error[0]}\n".encode()))
+    put = {"do": "put", "key": "a", "value": "x"}
+    for commands, number in (([RENEW], 1), ([put, RENEW], 2)):
+        file = test.file({**SCRIPT, "run": commands})
+        wanted = Run(2, b"", f"dynamo: E18 UnknownCommand {number}\n".encode())
+        for command in ("run", "serve", "ring"):
+            test.same(f"{command} with a renewal", test.run([command, file]), wanted)
+
+
+def test_steps_of_renewals(test: Test) -> None:
+    """The steps of each cluster stand before its audit, and the ring once, before all."""
+    put, get = {"do": "put", "key": "a", "value": "x"}, {"do": "get", "key": "a"}
+    data = b"\n".join(line_of(it) for it in (put, get, RENEW, get, get, RENEW))
+    lines = test.serve(data, SCRIPT, "--steps").out.decode("utf-8").splitlines()
+    words = [re.sub(r"^\d+ ", "", line).split(" ")[0] for line in lines]
+    # Below a stretch of fetches there may be several lines of what was told.
+    kinds = [word for word, before in zip(words, ["", *words]) if {word, before} != {"told"}]
+    first = ["put", "get", *["step"] * 8, "told", "held", "held", "held", "acked", "end", "renew"]
+    # The fetches of both gets are one stretch, and what was told stands below it.
+    second = ["get", "get", *["step"] * 11, "told",
+              "held", "held", "held", "acked", "end", "renew"]
+    third = [*["step"] * 5, "held", "held", "held", "acked", "end"]
+    test.same("the steps of renewals", kinds,
+              ["cluster", *["token"] * 5, *first, *second, *third])
+    sums = [line for line in lines if line.startswith("end ")]
+    counts = [int(line.split(" ")[-1]) for line in sums]
+    test.same("the steps that their ends count", counts, [8, 11, 5])
+
+
+PARTS = [test_scripts, test_refused_scripts, test_steps_of_renewals]
