@@ -119,6 +119,17 @@ def write(folder, name):
     return path
 
 
+def write_service(folder, name):
+    """Writes the script of this name without its commands, and these as lines. Returns both paths."""
+    script = json.loads(text_of(name))
+    commands = script.pop("run")
+    paths = [os.path.join(folder, f"{name}.{it}") for it in ("store", "lines")]
+    for path, values in zip(paths, ([script], commands)):
+        with open(path, "w", encoding="utf-8") as out:
+            out.writelines(json.dumps(it, separators=(",", ":")) + "\n" for it in values)
+    return paths
+
+
 def main(words):
     if not words or words[0].startswith("-"):
         print(__doc__, end="", file=sys.stderr)

@@ -2,12 +2,13 @@
 _dynamo() {
     local word=${COMP_WORDS[COMP_CWORD]}
     COMPREPLY=()
+    local jobs='run serve ring storm'
     if [ "$COMP_CWORD" = 1 ]; then
-        mapfile -t COMPREPLY < <(compgen -W 'run ring storm build help --help --version' -- "$word")
+        mapfile -t COMPREPLY < <(compgen -W "$jobs build help --help --version" -- "$word")
         return
     fi
     case ${COMP_WORDS[1]} in
-    run | ring)
+    run | serve | ring)
         local flags=
         [ "${COMP_WORDS[1]}" = ring ] || flags=--steps
         compopt -o filenames 2>/dev/null
@@ -18,7 +19,7 @@ _dynamo() {
     storm)
         [ "$COMP_CWORD" -lt 5 ] || mapfile -t COMPREPLY < <(compgen -W '--faults --steps' -- "$word")
         ;;
-    help) mapfile -t COMPREPLY < <(compgen -W 'run ring storm' -- "$word") ;;
+    help) mapfile -t COMPREPLY < <(compgen -W "$jobs" -- "$word") ;;
     esac
 }
 complete -F _dynamo dynamo ./dynamo

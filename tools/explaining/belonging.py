@@ -35,6 +35,12 @@ class Belonging:
         writes = (it for it in script.commands if it and it.word in WRITES)
         self.keys = {it.key for it in writes}
 
+    def ask(self, command: Optional[Command]) -> None:
+        """Notes a command that came behind those of the script."""
+        if command and command.word in WRITES:
+            self.keys.add(command.key)
+        self.steps.ask(command)
+
     def fault(self, form: Form) -> Optional[str]:
         """Returns why the line is none of a run of this script, or None where it may be one."""
         if isinstance(form, COMMAND_FORMS):

@@ -36,17 +36,29 @@ class Line:
 class Run:
     """The lines of a run, read one after the other."""
 
-    def __init__(self, script: Script, meanings: Dict[str, Meaning], output: str) -> None:
+    def __init__(self, script: Script, meanings: Dict[str, Meaning], output: str = "") -> None:
         self.script = script
         self.meanings = meanings
         self.belonging = Belonging(script)
         self.holdings = Holdings()
+        self.lines: List[Line] = []
         texts = output.split("\n")
-        texts = texts[:-1] if texts[-1] == "" else texts
-        self.lines = [self.read(at, text) for at, text in enumerate(texts, 1)]
+        for text in texts[:-1] if texts[-1] == "" else texts:
+            self.take(text)
         if not self.forms(End) or not self.holdings.agrees(self.forms(Held)):
             for line in self.lines:
                 line.mended = None
+
+    def ask(self, command: Optional[Command]) -> None:
+        """Adds a command behind those of the script; None is one that the program can't read."""
+        self.script.commands.append(command)
+        self.belonging.ask(command)
+
+    def take(self, text: str) -> Line:
+        """Reads the next line of the output, and returns it."""
+        line = self.read(len(self.lines) + 1, text)
+        self.lines.append(line)
+        return line
 
     def forms(self, kind: Type[AnyForm]) -> List[AnyForm]:
         """Returns the lines of this form."""

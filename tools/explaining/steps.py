@@ -20,6 +20,11 @@ class Steps:
         self.fetched: Dict[int, int] = {}
         self.keys = {it.key for it in script.commands if it and it.word in OF_KEY}
 
+    def ask(self, command: Optional[Command]) -> None:
+        """Notes a command that came behind those of the script."""
+        if command and command.word in OF_KEY:
+            self.keys.add(command.key)
+
     def fault_of_cluster(self, form: Cluster) -> Optional[str]:
         wanted = self.script[:3]
         said = "the script has n {}, r {} and w {}".format(*wanted)
