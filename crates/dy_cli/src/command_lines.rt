@@ -28,7 +28,14 @@ Status:
   2  a bad command line (help and the version, too), a file that can't be read,
      or a refused script, ring, limit or quorum
 
-Scripts and lines: docs/FORMATS.md. Refusals, and what to do: docs/REFUSALS.md.";
+Commands such as put and get stand in a script, or in the lines that serve reads.
+Scripts and lines: docs/FORMATS.md. Refusals, and what to do: docs/REFUSALS.md.
+
+Beside this program, in its repository:
+  tools/lint FILE     names each mistake of a script, and its place
+  tools/explain FILE  tells in words what a run printed; tools/picture draws it
+  tools/shell         a shell to learn the commands by
+  ./dynamo build      proves and builds the program";
 
 /// The job that the words after the program's name ask for, or the status to end with.
 pub fn words(alloc: Global, words: &[String]) -> Result<Job, u8>
