@@ -86,14 +86,6 @@ same_cause r f cause both = (
   (λ there. told_of r f (both.1 there)),
 )
 
--- another refusal is not for want of memory
-pub past_memory : (told : Option Fault) (f : Fault) (cause : Type 0) → (Some OutOfMemory ≡ Some f → ⊥) →
-    ((told ≡ Some f) ↔ cause) → (told ≡ Some f) ↔ (¬ (told ≡ Some OutOfMemory) × cause)
-past_memory told f cause apart both = (
-  (λ is. ((λ memory. apart (sym memory ∙ is)), both.0 is)),
-  (λ there. both.1 there.1),
-)
-
 -- ---- a hold
 
 -- what was checked lacks memory alone

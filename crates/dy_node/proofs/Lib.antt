@@ -9,4 +9,5 @@ pub mod SettleLemmas
 pub mod Causes
 pub mod PlanCauses
 pub mod SameCounts
+pub mod Counted
 pub mod HintLemmas

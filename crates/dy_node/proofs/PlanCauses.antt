@@ -12,18 +12,19 @@ use Rattle.dy_dots.specs.declared.faults.Fault.TheVariants.{ContextUnknown, Vers
 use Rattle.dy_dots.specs.declared.faults.Fault.TheVariants.{StepsFull, Down}
 use Rattle.dy_core.specs.Steps.{IsKnown}
 use Rattle.dy_core.specs.Listings.{IsLeastUnknown}
-use Rattle.dy_book.specs.Books.{BookParts, HasVersionsLeft, LacksRoom, world_of}
+use Rattle.dy_book.specs.Books.{BookParts, HasRoom, HasVersionsLeft, LacksRoom, world_of}
 use Rattle.dy_shares.specs.Shares.{NodePart, ReceiptParts}
 use Rattle.dy_node.specs.Stored.{Rooms}
 use Rattle.dy_node.specs.Nodes.{NodeState, HasCounterLeft, LacksCounter}
 use Rattle.dy_node.specs.Settling.{AreReleased, ReleaseRefused, SettleRefused}
+use Rattle.dy_node.specs.inside.Chosen.{AreCounted}
 use Rattle.dy_node.proofs.SameCounts.{same_count}
 use Rattle.dy_node.specs.Refusals.{BeginRefused, PlanRefused}
 use Rattle.dy_node.proofs.Causes.{counter_not_full, counter_not_unknown, counter_not_versions}
 use Rattle.dy_node.proofs.Causes.{down_not_counter, down_not_memory, down_not_steps}
 use Rattle.dy_node.proofs.Causes.{down_not_unknown, down_not_versions, memory_not_counter}
 use Rattle.dy_node.proofs.Causes.{memory_not_full, memory_not_unknown, memory_not_versions}
-use Rattle.dy_node.proofs.Causes.{no_error, none_told, one_error, past_memory, some_is, told_from}
+use Rattle.dy_node.proofs.Causes.{no_error, none_told, one_error, some_is, told_from}
 use Rattle.dy_node.proofs.Causes.{told_of}
 
 -- ---- a plan
@@ -198,11 +199,29 @@ begin_agreed b c p n key context told same share up refused =
 
 -- ---- a settle
 
-pub release_memory : (b : BookParts) (r : Rooms) (receipts : List ReceiptParts) →
-    ReleaseRefused b r receipts (Some OutOfMemory)
-release_memory b r receipts =
+-- those counted are more than the steps left
+pub release_full : (b : BookParts) (r : Rooms) (receipts : List ReceiptParts) (count : ℕ) →
+    AreCounted r receipts count → LacksRoom b count → ReleaseRefused b r receipts (Some StepsFull)
+release_full b r receipts count are lacks =
     record {
-      steps_full = ((λ is. absurd (memory_not_full is)), (λ there. absurd (there.0 refl)));
+      steps_full = (
+        (λ is. (are.released, are.are_released, subst (λ n. LacksRoom b n) are.count_is lacks)),
+        (λ there. refl),
+      );
+      only = λ f is. inl (sym (some_is StepsFull f is));
+    }
+
+-- steps are left for those counted
+pub release_memory : (b : BookParts) (r : Rooms) (receipts : List ReceiptParts) (count : ℕ) →
+    AreCounted r receipts count → HasRoom b count → ReleaseRefused b r receipts (Some OutOfMemory)
+release_memory b r receipts count are room =
+    record {
+      steps_full = (
+        (λ is. absurd (memory_not_full is)),
+        (λ there.
+            let as_many = same_count r receipts there.0 are.released there.1 are.are_released in
+            absurd (omega (arith, as_many, are.count_is, room, there.2))),
+      );
       only = λ f is. inr (sym (some_is OutOfMemory f is));
     }
 
@@ -213,15 +232,12 @@ release_told : {X : Type 0} (b : BookParts) (r : Rooms) (receipts chosen : List 
     ReleaseRefused b r receipts (result_err res)
 release_told b r receipts chosen res are full only =
     record {
-      steps_full = past_memory (result_err res) StepsFull
-          ((released : List ReceiptParts) × AreReleased r receipts released × LacksRoom b
-          (length released))
-          memory_not_full (
-            (λ is. (chosen, are, full.0 (told_from res StepsFull is))),
-            (λ there. told_of res StepsFull
-                (full.1 (subst (λ count. LacksRoom b count)
-                (same_count r receipts there.0 chosen there.1 are) there.2))),
-          );
+      steps_full = (
+        (λ is. (chosen, are, full.0 (told_from res StepsFull is))),
+        (λ there. told_of res StepsFull
+            (full.1 (subst (λ count. LacksRoom b count)
+            (same_count r receipts there.0 chosen there.1 are) there.2))),
+      );
       only = λ f is. only f (told_from res f is);
     }
 

@@ -20,7 +20,7 @@ use Rattle.dy_node.specs.Stored.{Rooms}
 use Rattle.dy_node.specs.Settling.{AreReleased, IsStanding, same_release}
 
 -- two that are told to be of one home, key and dot are so
-same_gives : (a b : ReceiptParts) → same_release a b ≡ true → AreOneDot a b
+pub same_gives : (a b : ReceiptParts) → same_release a b ≡ true → AreOneDot a b
 same_gives a b e =
     let p = and_parts (a.home == b.home) (same_key a.key b.key && same_dot a.dot b.dot) e in
     let q = and_parts (same_key a.key b.key) (same_dot a.dot b.dot) p.1 in (

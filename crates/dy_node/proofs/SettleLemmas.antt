@@ -162,14 +162,16 @@ all_behind P x xs all = λ k d lt. all (suc k) d (omega (arith, lt))
 all_front : {X : Type 0} (P : X → Type 0) (x : X) (xs : List X) → All P (x ∷ xs) → P x
 all_front P x xs all = all 0 x (omega arith)
 
-same_is : (a b : ReceiptParts) → same_release a b ≡ false → AreOneDot a b → ⊥
-same_is a b no_ same =
-    let yes_ : same_release a b ≡ true = and_from (a.home == b.home)
+-- two of one home, key and dot are told to be so
+pub same_told : (a b : ReceiptParts) → AreOneDot a b → same_release a b ≡ true
+same_told a b same = and_from (a.home == b.home)
     (same_key a.key b.key && same_dot a.dot b.dot) (eq-eqb a.home b.home same.0)
     (and_from (same_key a.key b.key) (same_dot a.dot b.dot)
     (ap (λ k. same_key k b.key) same.1 ∙ same_key_self b.key)
-    (ap (λ d. same_dot d b.dot) same.2 ∙ same_dot_self b.dot)) in
-    true≢false (sym yes_ ∙ no_)
+    (ap (λ d. same_dot d b.dot) same.2 ∙ same_dot_self b.dot))
+
+same_is : (a b : ReceiptParts) → same_release a b ≡ false → AreOneDot a b → ⊥
+same_is a b no_ same = true≢false (sym (same_told a b same) ∙ no_)
 
 none_same : (ys : List ReceiptParts) (x : ReceiptParts) →
     list_any (λ y. same_release y x) ys ≡ false → All (λ y. AreOneDot y x → ⊥) ys

@@ -49,12 +49,13 @@ pub record IsSettlement (b : BookParts) (p : NodePart) (r : Rooms) (receipts : L
   pub share : q ≡ with_steps p (release_steps p.node released)
   pub rooms : t ≡ without_all r released
 
--- when hints are not given up: where the steps left don't suffice for all of those that stand
+-- when hints are not given up: where the steps left don't suffice for all of those that stand; want
+-- of memory does not hide it
 pub record ReleaseRefused (b : BookParts) (r : Rooms) (receipts : List ReceiptParts)
     (told : Option Fault) : Type 0 where
   pub steps_full : (told ≡ Some StepsFull)
-      ↔ (¬ (told ≡ Some OutOfMemory) × ((released : List ReceiptParts)
-      × AreReleased r receipts released × LacksRoom b (length released)))
+      ↔ ((released : List ReceiptParts) × AreReleased r receipts released
+      × LacksRoom b (length released))
   pub only : (f : Fault) → told ≡ Some f → (f ≡ StepsFull) ⊎ (f ≡ OutOfMemory)
 
 -- when a node does not settle: where it is down, and else where the hints are not given up

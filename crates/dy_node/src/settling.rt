@@ -1,11 +1,13 @@
 // Hints that are given up by receipts.
-ghost use Rattle.std.specs.Prelude.{◌≡◌, ◌≢◌, ◌∷◌, [], true, IfOk, OnOk, OnErr, IsOk, IsOkUnless};
+ghost use Rattle.std.specs.Prelude.{◌≡◌, ◌≢◌, ◌<◌, ◌∷◌, [], true, false, IfOk, OnOk, OnErr, IsOk};
+ghost use Rattle.std.specs.Prelude.{IsOkUnless};
 ghost use Rattle.std.specs.Result.{result_err};
 ghost use Rattle.std.specs.List.{All, list_any};
+ghost use Rattle.dy_book.specs.Books.{HasRoom, LacksRoom};
 ghost use Rattle.dy_node.specs.Stored.{Shows};
 ghost use Rattle.dy_node.specs.Settling.{AreReleased, IsSettlement, NoneStands, ReleaseRefused};
 ghost use Rattle.dy_node.specs.Settling.{SettleRefused, same_release, without_all};
-ghost use Rattle.dy_node.specs.inside.Chosen.{taken};
+ghost use Rattle.dy_node.specs.inside.Chosen.{AreCounted, is_new, taken};
 
 use crate::nodes::Node;
 use crate::stores::Stores;
@@ -21,11 +23,41 @@ fn is_same<J: Naming>(a: &Receipt<J>, b: &Receipt<J>) -> bool
     a.home() == b.home() && (a.key() == b.key() && a.dot() == b.dot())
 }
 
-// Whether one of those chosen is of its home, key and dot.
-fn is_chosen<J: Naming>(chosen: &[Receipt<J>], receipt: &Receipt<J>) -> bool
-    ensures { result ≡ list_any (λ r. same_release r receipt.now) chosen.now }
+// Whether one of these is of its home, key and dot.
+fn is_among<J: Naming>(others: &[Receipt<J>], receipt: &Receipt<J>) -> bool
+    ensures { result ≡ list_any (λ r. same_release r receipt.now) others.now }
 {
-    chosen.iter().any(|other| is_same(other, receipt))
+    others.iter().any(|other| is_same(other, receipt))
+}
+
+// Whether the receipt's dot stands in the hint for its home, and none of the others is of it.
+fn is_new<J: Naming>(stores: &Stores, others: &[Receipt<J>], receipt: &Receipt<J>) -> bool
+    ensures { result ≡ is_new stores.now.rooms others.now receipt.now }
+{
+    let stands = stores.has_hint(receipt.home(), receipt.key(), receipt.dot());
+    stands && !is_among(others, receipt)
+}
+
+// How many dots of the receipts stand in the hint for their home, each once. Takes no memory.
+fn count_standing<J: Naming>(stores: &Stores, receipts: &[Receipt<J>]) -> usize
+    ensures { AreCounted stores.now.rooms receipts.now result }
+{
+    let mut count = 0;
+    for (at, receipt) in receipts.iter().enumerate() {
+        if is_new(stores, &receipts[..at], receipt) {
+            count += 1;
+        }
+    }
+    count
+}
+
+// Whether so many steps are wanted, and the book has fewer left. Takes no memory.
+fn lacks_steps<J: Naming>(book: &Book<J>, count: usize) -> bool
+    ensures lacks { result ≡ true → (0 < count) × LacksRoom book.now count }
+    ensures has { result ≡ false → 0 < count → HasRoom book.now count }
+{
+    let left = book.options().steps_limit.saturating_sub(book.since().at());
+    left < count
 }
 
 // Adds a copy of the receipt to those chosen, if its dot stands in the hint for its home and none
@@ -41,8 +73,7 @@ fn take_in<J: Naming>(
     ensures spared { NoneStands stores.now.rooms (receipt.now ∷ []) → IsOk result }
     ensures memory { IsOkUnless result Fault.OutOfMemory }
 {
-    let stands = stores.has_hint(receipt.home(), receipt.key(), receipt.dot());
-    if stands && !is_chosen(chosen.as_slice(), receipt) {
+    if is_new(stores, chosen.as_slice(), receipt) {
         let copy = receipt.try_clone(alloc)?;
         if chosen.push(copy).is_err() {
             return Err(Fault::OutOfMemory);
@@ -79,7 +110,8 @@ fn drop_all<J: Naming>(stores: &mut Stores, receipts: &[Receipt<J>])
     }
 }
 
-// Releases the dot of each receipt that stands in the hint for its home, all or none.
+// Releases the dot of each receipt that stands in the hint for its home, all or none. It looks
+// whether steps are wanting before it asks for memory.
 fn settle_receipts<J: Naming>(
     alloc: Global,
     stores: &mut Stores,
@@ -99,6 +131,10 @@ fn settle_receipts<J: Naming>(
     ensures refused { ReleaseRefused book.old stores.old.rooms receipts.now (result_err result) }
 {
     book.agree(share);
+    let count = count_standing(stores, receipts);
+    if lacks_steps(book, count) {
+        return Err(Fault::StepsFull);
+    }
     let chosen = match choose(alloc, stores, receipts) {
         Ok(chosen) => chosen,
         Err(_fault) => return Err(Fault::OutOfMemory),
@@ -115,8 +151,7 @@ fn settle_receipts<J: Naming>(
 
 impl<J: Naming> Node<J> {
     /// Releases each receipted dot that stands in the hint for the receipt's home, all or none, and
-    /// gives how many. Want of memory may be answered where steps are wanting too. Where nothing
-    /// stands it takes no memory.
+    /// gives how many. Where nothing stands it takes no memory.
     pub fn settle(&mut self, book: &mut Book<J>, receipts: &[Receipt<J>]) -> Result<usize, Fault>
         requires { All (λ r. r.holder ≡ r.home) receipts.now }
         ensures ok { IfOk result (λ count. IsSettlement book.old self.old.part self.old.rooms

@@ -1,14 +1,15 @@
 -- What stands in hints is held in the world, so it may be released, and leaves store and world
 -- alike.
-use Rattle.std.proofs.Common.{None, Some, sym, ap, ◌∙◌, subst, arith}
+use Rattle.std.proofs.Common.{true≢false, None, Some, sym, ap, ◌∙◌, subst, arith}
 use Rattle.std.specs.List.{All}
 use Rattle.dy_core.specs.Worlds.{layout_of}
 use Rattle.dy_shares.specs.Shares.{NodePart, with_steps}
-use Rattle.dy_book.specs.Books.{AreOfDistinctDots, BookParts, MayRelease, release_steps}
-use Rattle.dy_book.specs.Books.{with_untold, world_of}
+use Rattle.dy_book.specs.Books.{AreOfDistinctDots, BookParts, HasRoom, LacksRoom, MayRelease}
+use Rattle.dy_book.specs.Books.{release_steps, with_untold, world_of}
 use Rattle.dy_node.specs.Stored.{Shows}
 use Rattle.dy_node.specs.Settling.{AreReleased, ReleaseRefused, without_all}
-use Rattle.dy_node.proofs.PlanCauses.{release_by, release_done, release_memory}
+use Rattle.dy_node.proofs.Counted.{none_counted, some_counted}
+use Rattle.dy_node.proofs.PlanCauses.{release_by, release_done, release_full, release_memory}
 use Rattle.dy_node.proofs.Kept.{agreed_on}
 use Rattle.dy_node.proofs.SettleLemmas.{releasable, released_nothing}
 use Rattle.dy_node.proofs.SettleLemmas.{settle_shows}
@@ -70,10 +71,32 @@ returns-in-Ok-release-clause-ok g c =
           c.as_slice-in-Ok-release.ensures.value;
     }
 
--- memory was refused before the book was asked
+-- more stand than steps are left
+pub returns-then-lacks_steps-clause-refused : goal.returns-then-lacks_steps-clause-refused
+returns-then-lacks_steps-clause-refused g c =
+    let count = c.count_standing-count.result in
+    let lacks = c.lacks_steps.ensures.lacks c.if-lacks_steps.true in
+    release_full c.args.book.now c.args.stores.now.rooms c.args.receipts.now count
+    c.count_standing-count.ensures (subst (λ b. LacksRoom b count) c.agree.ensures.book lacks.1)
+
+-- then something stands
+pub returns-then-lacks_steps-clause-spared : goal.returns-then-lacks_steps-clause-spared
+returns-then-lacks_steps-clause-spared g c = λ none.
+    let lacks = c.lacks_steps.ensures.lacks c.if-lacks_steps.true in
+    absurd (none_counted c.args.stores.now.rooms c.args.receipts.now
+    c.count_standing-count.result c.count_standing-count.ensures none lacks.0)
+
+-- memory was refused where something stands, and steps are left for it
 pub returns-in-Err-clause-refused : goal.returns-in-Err-clause-refused
-returns-in-Err-clause-refused g c = release_memory c.args.book.now c.args.stores.now.rooms
-    c.args.receipts.now
+returns-in-Err-clause-refused g c =
+    let count = c.count_standing-count.result in
+    let rooms = c.args.stores.now.rooms in
+    let counted = c.count_standing-count.ensures in
+    let some = some_counted rooms c.args.receipts.now count counted
+    (λ none. true≢false (sym (c.in-Err.ensures.spared none))) in
+    release_memory c.args.book.now rooms c.args.receipts.now count counted
+    (subst (λ b. HasRoom b count) c.agree.ensures.book
+    (c.lacks_steps.ensures.has c.if-lacks_steps.false some))
 
 -- the hints were given up
 pub returns-in-Ok-release-clause-refused : goal.returns-in-Ok-release-clause-refused
