@@ -9,7 +9,6 @@ ghost use Rattle.dy_transport.specs.Snapshots.{snapshot_of};
 ghost use Rattle.dy_transport.specs.Told.{Told};
 ghost use Rattle.dy_transport.specs.declared.asked.What.TheVariants as what;
 ghost use Rattle.dy_quorum.specs.Tallies.{DoAgree};
-ghost use Rattle.dy_quorum.specs.declared.tallies.TheConstants.{MAX_RECEIPTS};
 ghost use Rattle.dy_reads.specs.Rules.{HasRead, IsReadOut, MayStandIn, as_read, nodes_asked};
 ghost use Rattle.dy_reads.specs.declared.requests.Request.TheVariants as request;
 ghost use Rattle.dy_coord.specs.Puts.{receipts_read};
@@ -82,7 +81,7 @@ pub(crate) fn read_put<J: Naming, T: Transport<J>, R: Wait>(
     requires answers_room { length answers.old.items
         + 2 * (length (T.told transport.old).asks + length assign.old) ≤ answers.old.capacity }
     requires tally_room { 1 + 2 * (length (T.told transport.old).asks + length assign.old)
-        ≤ MAX_RECEIPTS }
+        ≤ tally.old.room }
     requires dot { IsTrue (has_dot row.now.versions dot) }
     requires one_key { All (λ v. v.key ≡ row.now.key) row.now.versions }
     requires own { tally.old.added ≡ receipt_parts row.now.key dot coordinator held ∷ [] }

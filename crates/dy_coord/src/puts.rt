@@ -36,11 +36,12 @@ fn prepare<J: Naming>(
     w: u8,
 ) -> Result<(AnswerVec, Tally<J>), Fault>
     ensures ok { IfOk result (λ p. (p.0.items ≡ []) × (2 * length list.now.nodes ≤ p.0.capacity)
-        × (p.1 ≡ record { w = w; added = [] })) }
+        × (p.1 ≡ record { w = w; room = 2 * length list.now.nodes; added = [] })) }
     ensures memory { IsOkUnless result Fault.OutOfMemory }
 {
-    let answers = AnswerVec::with_capacity(alloc, most_answers(list))?;
-    let tally = Tally::new(alloc, w as usize)?;
+    let most = most_answers(list);
+    let answers = AnswerVec::with_capacity(alloc, most)?;
+    let tally = Tally::with_room(alloc, w as usize, most)?;
     Ok((answers, tally))
 }
 
@@ -68,6 +69,7 @@ fn spread<J: Naming, T: Transport<J>, R: Wait>(
     requires none { tally.old.added ≡ [] }
     requires no_answers { answers.old.items ≡ [] }
     requires answers_room { 2 * length list.now.nodes ≤ answers.old.capacity }
+    requires tally_room { 2 * length list.now.nodes ≤ tally.old.room }
     ensures spreads { Spreads list.now row.now dot coordinator
         (T.told transport.new) tally.new.added answers.new.items }
     ensures tries { (T.told transport.new).tries ≡ (T.told transport.old).tries }

@@ -3,9 +3,11 @@ use Rattle.std.specs.Prelude.{◌≡◌, List, ℕ, length, map, nat_eq}
 use Rattle.std.specs.List.{All, Contains, IsDistinct}
 use Rattle.dy_shares.specs.Shares.{ReceiptParts}
 
--- what a tally is seen as: how many homes its put needs, and the receipts added, in order
+-- what a tally is seen as: how many homes its put needs, for how many receipts there is room, and
+-- the receipts added, in order
 pub record Counted : Type 0 where
   pub w : ℕ
+  pub room : ℕ
   pub added : List ReceiptParts
 
 -- one key and one dot, and one home where the holder is one

@@ -22,6 +22,7 @@ type Homes = ArrayVec<NodeId, 32>;
 #[derive(Drop)]
 pub struct Tally<J: Naming> {
     w: usize,
+    room: usize,
     added: Vec<Receipt<J>>,
     homes: Homes,
     chosen: Vec<Receipt<J>>,
@@ -37,15 +38,15 @@ impl<J: Naming> Model for Tally<J> {
 
     ghost Value = { Counted };
 
-    ghost view = { λ t. record { w = t.w; added = t.added.items } };
+    ghost view = { λ t. record { w = t.w; room = t.room; added = t.added.items } };
 
     ghost invariant = { λ t.
         (t.homes.items ≡ map (λ r. r.home) (firsts t.added.items))
         × IsCount t.added.items (firsts t.added.items)
-        × (length t.added.items ≤ MAX_RECEIPTS)
-        × (MAX_RECEIPTS ≤ vec_capacity t.added)
+        × (length t.added.items ≤ t.room)
+        × (t.room ≤ vec_capacity t.added)
         × All (λ r. r.home < MAX_NODES) t.added.items
-        × (MAX_NODES ≤ vec_capacity t.chosen)
+        × (t.room ≤ vec_capacity t.chosen)
         × (t.chosen.items ≡ [])
         × DoAgree t.added.items };
 }
@@ -71,7 +72,7 @@ fn all_agree<J: Naming>(list: &[Receipt<J>], receipt: &Receipt<J>) -> bool
 
 // The first receipt of each home, in their order.
 fn first_of_each<J: Naming>(added: Vec<Receipt<J>>, mut chosen: Vec<Receipt<J>>) -> Vec<Receipt<J>>
-    requires chosen { MAX_NODES ≤ vec_capacity chosen }
+    requires chosen { length added.items ≤ vec_capacity chosen }
     requires empty { chosen.items ≡ [] }
     ensures { result.items ≡ firsts added.items }
 {
@@ -92,12 +93,21 @@ impl<J: Naming> Tally<J> {
     /// No receipts yet, of a put that needs w homes, and room for 64 of them and for the choice.
     pub fn new(alloc: Global, w: usize) -> Result<Tally<J>, Fault>
         ensures memory { IsOkUnless result Fault.OutOfMemory }
-        ensures value { IfOk result (λ t. t ≡ record { w = w; added = [] }) }
+        ensures value { IfOk result (λ t. t ≡ record { w = w; room = MAX_RECEIPTS; added = [] }) }
     {
-        let added = Vec::with_capacity(alloc, MAX_RECEIPTS)?;
-        let chosen = Vec::with_capacity(alloc, MAX_NODES as usize)?;
+        Tally::with_room(alloc, w, MAX_RECEIPTS)
+    }
+
+    /// The same, with room for so many of them and for the choice.
+    pub fn with_room(alloc: Global, w: usize, room: usize) -> Result<Tally<J>, Fault>
+        ensures memory { IsOkUnless result Fault.OutOfMemory }
+        ensures value { IfOk result (λ t. t ≡ record { w = w; room = room; added = [] }) }
+    {
+        let added = Vec::with_capacity(alloc, room)?;
+        let chosen = Vec::with_capacity(alloc, room)?;
         Ok(Tally {
             w,
+            room,
             added,
             homes: Homes::new(),
             chosen,
@@ -115,17 +125,18 @@ impl<J: Naming> Tally<J> {
     /// Whether there is no room for one more. Takes no memory.
     pub fn is_full(&self) -> bool
         ensures { MatchBool result
-            (length self.now.added ≡ MAX_RECEIPTS) (length self.now.added < MAX_RECEIPTS) }
+            (length self.now.added ≡ self.now.room) (length self.now.added < self.now.room) }
     {
-        self.added.len() == MAX_RECEIPTS
+        self.added.len() == self.room
     }
 
     /// Adds the receipt. Takes no memory.
     pub fn add(&mut self, receipt: Receipt<J>)
         requires fits { FitsAll self.old.added receipt }
-        requires room { length self.old.added < MAX_RECEIPTS }
+        requires room { length self.old.added < self.old.room }
         ensures value { self.new ≡ record {
           w = self.old.w;
+          room = self.old.room;
           added = self.old.added ++ receipt ∷ [];
         } }
         ensures agree { DoAgree self.new.added }
@@ -158,6 +169,7 @@ impl<J: Naming> Tally<J> {
     {
         let Tally {
             w,
+            room: _,
             added,
             homes: _,
             chosen,

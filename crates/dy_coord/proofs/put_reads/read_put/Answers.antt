@@ -49,6 +49,7 @@ add-requires-clause-room g c =
     told.asks
     told.replies c.reading.assign inv.reading in
     let room = c.requires.tally_room in
+    let same = inv.tally_room in
     let count = inv.count in
     let q = c.in-Some-read_next.ensures.some.1 in
     let within = q.within in
@@ -100,6 +101,7 @@ reading-preserved-in-Some-receipt_in g c =
       agree = c.add.ensures.agree;
       count = count_more told.replies new.replies r _ _ _ inv.count now q.replies;
       w = ap (λ t. t.w) c.add.ensures.value ∙ inv.w;
+      tally_room = ap (λ t. t.room) c.add.ensures.value ∙ inv.tally_room;
       answers = listed_more _ _ _ told.replies new.replies r _ c.in-Some-read_next.ensures.listed
           refl inv.answers q.replies;
       answers_len = len_more told.replies new.replies r _ _ _ c.in-Some-read_next.ensures.count
@@ -131,6 +133,7 @@ reading-preserved g c =
       agree = inv.agree;
       count = count_same told.replies new.replies r _ inv.count q.replies;
       w = inv.w;
+      tally_room = inv.tally_room;
       answers = listed_more _ _ _ told.replies new.replies r _ c.in-Some-read_next.ensures.listed
           refl inv.answers q.replies;
       answers_len = len_more told.replies new.replies r _ _ _ c.in-Some-read_next.ensures.count

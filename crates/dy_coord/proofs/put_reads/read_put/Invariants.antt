@@ -23,6 +23,7 @@ invariant-reading g l =
       agree : DoAgree l.tally.added;
       count : length l.tally.added ≤ 1 + length told.replies;
       w : l.tally.w ≡ l.initial.tally.w;
+      tally_room : l.tally.room ≡ l.initial.tally.room;
       answers : l.answers.items ≡ l.initial.answers.items ++ map as_read told.replies;
       answers_len : length l.answers.items ≡ length l.initial.answers.items + length told.replies;
       answers_room : l.answers.capacity ≡ l.initial.answers.capacity;

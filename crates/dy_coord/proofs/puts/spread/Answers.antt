@@ -59,7 +59,8 @@ pub read_put-requires-clause-tally_room : goal.read_put-requires-clause-tally_ro
 read_put-requires-clause-tally_room g c =
     let asked = few_asked c.args.list.now (Store (snapshot_of c.args.row.now)) c.args.coordinator
     c.requires.valid in
-    let few = c.requires.valid.few in
+    let room = c.requires.tally_room in
+    let same = ap (λ t. t.room) c.add.ensures.value in
     rw (
       c.ask_homes.ensures.asks,
       c.requires.fresh_asks,

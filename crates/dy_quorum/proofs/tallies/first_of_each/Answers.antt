@@ -1,6 +1,7 @@
-use Rattle.std.proofs.Common.{◌≡◌, ◌<◌, List, ℕ, false, length, arith, sym, ◌∙◌, ap}
+use Rattle.std.proofs.Common.{◌≡◌, ◌<◌, List, ℕ, false, length, arith, rules, sym, ◌∙◌, ap}
 use Rattle.std.specs.List.{All}
-use Rattle.std.proofs.lemmas.List.{length-map}
+use Rattle.std.proofs.lemmas.Iterator.Adapters.{YieldsList-from_vec}
+use Rattle.std.proofs.lemmas.Iterator.Consumers.{YieldsList-turn}
 use Rattle.std.proofs.lemmas.List.Elements.{All-push}
 use Rattle.dy_dots.specs.declared.nodes.TheConstants.{MAX_NODES}
 use Rattle.dy_shares.specs.Shares.{ReceiptParts}
@@ -54,15 +55,13 @@ push-requires g c =
     inv.below node (sym tested ∙ c.if-not-contains.true) in
     (omega arith, lt)
 
--- and so is there room for its receipt among those chosen
+-- and so is there room for its receipt among those chosen: they are fewer than those that came
 pub push_reserved-requires : goal.push_reserved-requires
 push_reserved-requires g c =
     let inv = c.loop-receipt.invariant in
-    let tested = rw (c.deref.ensures.0, c.home-home.ensures) at c.contains.ensures.value in
-    let node : c.in-Some.receipt.home < MAX_NODES = omega (arith, c.home-home.ensures, c.number-number.ensures.value, c.number-number.ensures.small) in
-    let lt = few c.loop-receipt.yielded c.in-Some.receipt c.loop-receipt.homes.items inv.homes
-    inv.below node (sym tested ∙ c.if-not-contains.true) in
-    let count = ap length inv.homes ∙ length-map (firsts c.loop-receipt.yielded) (λ (r : ReceiptParts). r.home) in
+    let turn = YieldsList-turn (YieldsList-from_vec {s = c.into_iter-receipt-iterator.result} c.args.added.items (search rules) (search rules))
+    c.loop-receipt.yielded c.loop-receipt.receipt-iterator c.loop-receipt.yielded_by c.next.result c.next.new.self c.in-Some.receipt c.in-Some.is c.next.ensures.steps in
+    let few = (are_firsts (λ (r : ReceiptParts). r.home) c.loop-receipt.yielded).few in
     let same = ap length inv.chosen in
     let room = inv.chosen_room in
-    omega arith
+    omega (arith, turn.0)

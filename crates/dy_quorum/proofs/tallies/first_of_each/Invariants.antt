@@ -1,4 +1,4 @@
-use Rattle.std.proofs.Common.{◌≡◌, ◌<◌, ◌≤◌, vec_capacity}
+use Rattle.std.proofs.Common.{◌≡◌, ◌<◌, ◌≤◌, length, vec_capacity}
 use Rattle.std.specs.List.{All}
 use Rattle.dy_dots.specs.declared.nodes.TheConstants.{MAX_NODES}
 use Rattle.dy_quorum.specs.inside.Counting.{firsts, receipt_homes}
@@ -9,5 +9,5 @@ invariant-loop-receipt g l = record {
   chosen : l.chosen.items ≡ firsts l.yielded;
   homes : l.homes.items ≡ receipt_homes (firsts l.yielded);
   below : All (λ r. r.home < MAX_NODES) l.yielded;
-  chosen_room : MAX_NODES ≤ vec_capacity l.chosen;
+  chosen_room : length l.fn.added.items ≤ vec_capacity l.chosen;
 }

@@ -27,8 +27,8 @@ push-requires g c =
 pub invariant_of-self : goal.invariant_of-self
 invariant_of-self g c =
     let inv = c.self.invariant in
-    let P : Counted → Type 0 = λ t. length t.added < MAX_RECEIPTS in
-    let room : length c.self.inside.added.items < MAX_RECEIPTS = subst P (sym c.self.view_is) c.requires.room in
+    let P : Counted → Type 0 = λ t. length t.added < t.room in
+    let room : length c.self.inside.added.items < c.self.inside.room = subst P (sym c.self.view_is) c.requires.room in
     let Q : Counted → Type 0 = λ t. FitsAll t.added c.args.receipt in
     let fits : FitsAll c.self.inside.added.items c.args.receipt = subst Q (sym c.self.view_is) c.requires.fits in
     let tested = rw (c.deref.ensures.0, c.home-home.ensures) at c.contains.ensures.value in
