@@ -95,11 +95,15 @@ impl<T: Drop> Receiver<T> {
         None
     }
 
+    /// The next message, where one lies there. Takes no memory.
+    pub fn take<R: Wait>(&mut self, rt: &R) -> Option<T> {
+        self.end.try_recv_as::<Free, R>(rt, &mut self.pass).ok()
+    }
+
     /// Takes out what lies there. Takes no memory.
     pub fn drain<R: Wait>(&mut self, rt: &R) {
         for _ in rt.forever() {
-            let next = self.end.try_recv_as::<Free, R>(rt, &mut self.pass);
-            if next.is_err() {
+            if self.take(rt).is_none() {
                 break;
             }
         }

@@ -60,6 +60,13 @@ impl<J: Naming> Inbox<J> {
     {
         self.asks.receive(rt)
     }
+
+    /// The next ask, where one lies there. Takes no memory.
+    pub(crate) fn take<R: Wait>(&mut self, rt: &R) -> Option<Posted<J>>
+        ensures same { self.new ≡ self.old }
+    {
+        self.asks.take(rt)
+    }
 }
 
 impl<J: Naming> Post<J> {

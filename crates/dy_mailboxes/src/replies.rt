@@ -11,18 +11,20 @@ use crossbeam_channel::protocol::Free;
 use crossbeam_channel::{Pass, RuledSender};
 use crossbeam_utils::sync::Unparker;
 use dy_dots::Fault;
+use dy_node::Answer;
 use dy_shares::Naming;
 use std::alloc::Global;
 use std::marker::Model;
-use std::sync::atomic::{AtomicU64, Ordering};
+use std::sync::atomic::{AtomicI64, AtomicU64, Ordering};
 use std::sync::{Arc, Wait};
 
 // What a client shares with those who answer it: the end of its channel that sends, the number of
-// its present call, and what wakes it.
+// its present call, how many asks of it are still to be answered, and what wakes it.
 #[derive(Drop)]
 struct Line<J: Naming> {
     end: RuledSender<Answered<J>, (), Free>,
     present: AtomicU64,
+    awaited: AtomicI64,
     client: Unparker,
 }
 
@@ -63,6 +65,13 @@ pub struct ReplyTo<J: Naming> {
     ghost here: { IsSeatAt (sends_on (arc_value line).end) pass },
 }
 
+// Whether the client may have to act once it has this answer, whatever else is to come: a get may
+// have enough rows, and what was not done may call for a stand-in. Who asks nodes to store reads
+// every answer.
+fn is_urgent<J: Naming>(answer: &Answer<J>) -> bool {
+    !matches!(answer, Answer::Stored(_))
+}
+
 // The next answer to the call of this number; one to another is dropped.
 fn next_to<J: Naming, R: Wait>(
     rt: &R,
@@ -96,6 +105,7 @@ impl<J: Naming> Replies<J> {
             Line {
                 end,
                 present: AtomicU64::new(0),
+                awaited: AtomicI64::new(0),
                 client,
             },
         )?;
@@ -134,6 +144,12 @@ impl<J: Naming> Replies<J> {
         })
     }
 
+    /// One more ask of the present call is on its way. It is counted once it was sent, so never are
+    /// more counted than are still to be answered. Takes no memory.
+    pub fn count_sent(&self) {
+        let _before = self.line.awaited.fetch_add(1, Ordering::SeqCst);
+    }
+
     /// The next answer to the present call; one to an earlier call is dropped. May wait for it.
     /// Takes no memory.
     pub fn receive<R: Wait>(&mut self, rt: &R) -> Option<Answered<J>>
@@ -161,28 +177,36 @@ impl<J: Naming> Replies<J> {
         // The number first: so of each worker no more comes too late than what it had compared
         // before.
         self.line.present.store(self.call, Ordering::SeqCst);
+        self.line.awaited.store(0, Ordering::SeqCst);
         self.answers.drain(rt);
     }
 }
 
 impl<J: Naming> ReplyTo<J> {
     // Sends an answer to the call of that number, which is the client's present one, and wakes the
-    // client. The channel has room for two answers to each ask of a call and for two of each
-    // worker that comes late, so it is never full; and under a rule it says so only where it is.
+    // client where it has to act. The channel has room for two answers to each ask of a call and
+    // for two of each worker that comes late, so it is never full; and under a rule it says so only
+    // where it is.
     fn send_present<R: Wait>(&mut self, rt: &R, present: u64, answered: Answered<J>)
         requires { answered.call ≡ present }
     {
         let _ = present;
+        let is_last = answered.is_last;
+        let is_urgent = is_urgent(&answered.answer);
         let _is_sent = self
             .line
             .end
             .try_send_as::<Free, R>(rt, &mut self.pass, answered)
             .is_ok();
-        self.line.client.unpark();
+        // It is sent before it is counted: so whoever counts the last one finds all of them sent.
+        let is_all = is_last && self.line.awaited.fetch_sub(1, Ordering::SeqCst) <= 1;
+        if is_all || is_urgent {
+            self.line.client.unpark();
+        }
     }
 
-    /// Sends an answer, and wakes the client; one to an earlier call is dropped, since nobody reads
-    /// it. Takes no memory.
+    /// Sends an answer, and wakes the client where nothing more is to come, or where it may have to
+    /// act before. An answer to an earlier call is dropped, since nobody reads it. Takes no memory.
     pub fn send<R: Wait>(&mut self, rt: &R, answered: Answered<J>) {
         let present = self.line.present.load(Ordering::SeqCst);
         if answered.call == present {

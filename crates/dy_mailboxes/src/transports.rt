@@ -110,6 +110,9 @@ fn post_ask<J: Naming, R: Wait>(
             reply_to,
         },
     );
+    if is_posted {
+        replies.count_sent();
+    }
     Ok((kept, is_posted))
 }
 

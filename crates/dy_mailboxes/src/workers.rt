@@ -6,16 +6,28 @@ ghost use Rattle.dy_mailboxes.specs.inside.Calls.{messages_of};
 use crate::gates::Gate;
 use crate::parcels::{Answered, Posted};
 use crate::posts::Inbox;
+use crate::replies::ReplyTo;
 use dy_book::Book;
 use dy_dots::NodeId;
 use dy_node::{Answer, Ask, Node, answer};
 use dy_shares::Naming;
 use std::sync::{Mutex, Wait};
 
+// How many asks a worker answers under one hold of its locks, at most.
+const ROUND: usize = 8;
+
+// What came of an ask: where its answers go, and what carries them.
+#[derive(Drop)]
+struct Replied<J: Naming> {
+    reply_to: ReplyTo<J>,
+    first: Answered<J>,
+    second: Option<Answered<J>>,
+}
+
 /// A worker: answers what comes to the mailbox of its node, the one of these whose place is its
-/// number, until the mailbox is closed and empty. Each ask passes the gate, then locks the node,
-/// then the book. Where no node lies at that place nothing is answered. May wait for an ask, and
-/// for locks.
+/// number, until the mailbox is closed and empty. Each ask passes the gate. Those that lie there
+/// together are answered under one hold of the node's lock, and then the book's. Where no node lies
+/// at that place nothing is answered. May wait for an ask, and for locks.
 pub fn serve<J: Naming, G: Gate, R: Wait>(
     rt: &R,
     nodes: &[Mutex<Node<J>>],
@@ -27,33 +39,96 @@ pub fn serve<J: Naming, G: Gate, R: Wait>(
         return;
     };
     for _ in rt.forever() {
-        let Some(posted) = inbox.receive(rt) else {
+        let Some(first) = inbox.receive(rt) else {
             break;
         };
-        serve_one(rt, node, book, posted, gate);
+        let asks = with_more(rt, &mut inbox, first, gate);
+        serve_round(rt, node, book, asks);
     }
 }
 
-// Answers an ask, and sends the answers.
-fn serve_one<J: Naming, G: Gate, R: Wait>(
+// The ask, and those that lie in the mailbox behind it, as far as they fit into a round. Each has
+// passed the gate before the next is taken.
+fn with_more<J: Naming, G: Gate, R: Wait>(
+    rt: &R,
+    inbox: &mut Inbox<J>,
+    first: Posted<J>,
+    gate: &G,
+) -> [Option<Posted<J>>; ROUND] {
+    gate.pass(first.to, &first.parcel.ask());
+    let mut asks = [Some(first), None, None, None, None, None, None, None];
+    for place in 1..ROUND {
+        let Some(posted) = inbox.take(rt) else {
+            break;
+        };
+        gate.pass(posted.to, &posted.parcel.ask());
+        asks[place] = Some(posted);
+    }
+    asks
+}
+
+// Answers the asks, and sends the answers once the locks are free.
+fn serve_round<J: Naming, R: Wait>(
     rt: &R,
     node: &Mutex<Node<J>>,
     book: &Mutex<Book<J>>,
-    posted: Posted<J>,
-    gate: &G,
+    asks: [Option<Posted<J>>; ROUND],
 ) {
-    let Posted {
-        to,
-        parcel,
+    let mut replies = answer_round(rt, node, book, asks);
+    for replied in replies.iter_mut() {
+        let Some(replied) = replied.take() else {
+            break;
+        };
+        send_all(rt, replied);
+    }
+}
+
+// Sends the answers to an ask.
+fn send_all<J: Naming, R: Wait>(rt: &R, replied: Replied<J>) {
+    let Replied {
         mut reply_to,
-    } = posted;
-    let ask = parcel.ask();
-    gate.pass(to, &ask);
-    let (answer, later) = answer_locked(rt, node, book, to, &ask);
-    let (first, second) = messages(reply_to.call, reply_to.number, answer, later);
+        first,
+        second,
+    } = replied;
     reply_to.send(rt, first);
     if let Some(second) = second {
         reply_to.send(rt, second);
+    }
+}
+
+// Answers each of the asks, under one hold of both locks.
+fn answer_round<J: Naming, R: Wait>(
+    rt: &R,
+    node: &Mutex<Node<J>>,
+    book: &Mutex<Book<J>>,
+    mut asks: [Option<Posted<J>>; ROUND],
+) -> [Option<Replied<J>>; ROUND] {
+    let mut replies = [None, None, None, None, None, None, None, None];
+    let mut held = node.lock(rt);
+    let mut open = book.lock(rt);
+    for (place, posted) in asks.iter_mut().enumerate() {
+        let Some(posted) = posted.take() else {
+            break;
+        };
+        replies[place] = Some(reply_of(&mut held, &mut open, posted));
+    }
+    replies
+}
+
+// What came of an ask.
+fn reply_of<J: Naming>(held: &mut Node<J>, book: &mut Book<J>, posted: Posted<J>) -> Replied<J> {
+    let Posted {
+        to,
+        parcel,
+        reply_to,
+    } = posted;
+    let ask = parcel.ask();
+    let (answer, later) = answer_held(held, book, to, &ask);
+    let (first, second) = messages(reply_to.call, reply_to.number, answer, later);
+    Replied {
+        reply_to,
+        first,
+        second,
     }
 }
 
@@ -84,23 +159,24 @@ fn messages<J: Naming>(
     (first, second)
 }
 
-// The node's answers, under its lock and the book's. What a lock holds is known by its type alone,
-// so a node that has another number than the one asked answers nothing.
-fn answer_locked<J: Naming, R: Wait>(
-    rt: &R,
-    node: &Mutex<Node<J>>,
-    book: &Mutex<Book<J>>,
+// The node's answers. What a lock holds is known by its type alone, so a node that has another
+// number than the one asked answers nothing.
+fn answer_held<J: Naming>(
+    held: &mut Node<J>,
+    book: &mut Book<J>,
     to: NodeId,
     ask: &Ask<'_, J>,
 ) -> (Answer<J>, Option<Answer<J>>)
     requires { MayAsk J.ring J.n to ask.now }
+    ensures down { held.old.part.node ≡ to → held.old.is_up ≡ false →
+        IsDown result.0 × (result.1 ≡ None) × (held.new ≡ held.old) × (book.new ≡ book.old) }
+    ensures up { held.old.part.node ≡ to → held.old.is_up ≡ true → AnsweredBy held.old.mode ask.now
+        held.old book.old held.new book.new result.0 result.1 }
 {
-    let mut held = node.lock(rt);
     if held.number() != to {
         return (Answer::NoAnswer, None);
     }
-    let mut open = book.lock(rt);
-    answer_by(&mut held, &mut open, to, ask)
+    answer_by(held, book, to, ask)
 }
 
 // What this node, which has this number, answers at first and later.
