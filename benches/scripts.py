@@ -7,6 +7,12 @@ A name says what the script does, and ends with how often:
 
 mixed-KEYS-COMMANDS    gets and puts by turns, of k0, k1 and so on in turn; a put has the context that
                        the get before it is given
+longkeys-KEYS-COMMANDS the same with keys of 40 bytes, of which the first 24 are alike
+values-BYTES-COMMANDS  the same over 16 keys, with values of so many bytes
+outages-KEYS-COMMANDS  as mixed; of each 200 of its gets and puts a node is down for the first 100, each
+                       node in turn, and then the other four hand over what they kept for it
+siblings-KEYS-ROUNDS   in each round 99 puts of each key without a context, and then a get of each key
+                       and a put with its context: from the second round on it reconciles 100 siblings
 gets-KEYS-COMMANDS     a put of each key, and then gets of the keys in turn
 blind-KEYS-PUTS        puts of the keys in turn, all without a context: each stands beside all others
 handoff-HINTS          puts of so many keys while a home is down, which is back for the one pass at the end
@@ -14,6 +20,7 @@ delayed-MESSAGES       puts over 5,000 keys of which two homes keep the messages
 puts-KEYS-PUTS         puts of the keys in turn, each with the context of all those before
 """
 import hashlib
+import itertools
 import json
 import os
 import sys
@@ -23,6 +30,8 @@ TOKENS = ["20", "60", "a0", "d0", "f0"]
 # 0 makes its versions; nodes 3 and 4 stand in.
 LOW_TOKENS = ["00" * 15 + f"{it:02x}" for it in (1, 2, 3, 4, 5)]
 NAMES = [f"mixed-{keys}-{commands}" for keys in (1, 16, 5000, 50000) for commands in (1000, 10000, 100000)]
+NAMES += ["longkeys-16-10000", "longkeys-5000-10000", "values-1000-10000", "values-4096-10000"]
+NAMES += ["outages-16-20000", "siblings-16-10"]
 NAMES += ["gets-16-100000"]
 NAMES += [f"blind-1-{puts}" for puts in (1000, 2000, 4000, 10000)]
 NAMES += ["blind-1000-20000", "blind-1000-100000", "handoff-10000", "delayed-100000"]
@@ -33,36 +42,83 @@ def get(key):
     return {"do": "get", "key": key}
 
 
-def coordinator(key):
-    """Returns the first node of the key's list: that of the next token of the ring."""
-    first = hashlib.md5(key.encode()).digest()[0]
-    return next((at for at, token in enumerate(TOKENS) if int(token, 16) > first), 0)
+def order_of(name):
+    """Returns the nodes in the order in which the key prefers them: from the next token of the ring."""
+    first = hashlib.md5(name.encode()).digest()[0]
+    at = next((at for at, token in enumerate(TOKENS) if int(token, 16) > first), 0)
+    return [(at + more) % len(TOKENS) for more in range(len(TOKENS))]
+
+
+def short_name(at):
+    return f"k{at}"
+
+
+def long_name(at):
+    return "session/2026-11-28/user-" + hashlib.md5(str(at).encode()).hexdigest()[:16]
 
 
 class Keys:
-    """Keys k0, k1 and so on, and how many versions were made of each."""
+    """Keys, and how many versions each node made of each."""
 
-    def __init__(self, count, node_of=coordinator):
-        self.names = [f"k{at}" for at in range(count)]
-        self.nodes = [node_of(name) for name in self.names]
-        self.made = [0] * count
+    def __init__(self, count, name_of=short_name, order_of=order_of):
+        self.names = [name_of(at) for at in range(count)]
+        self.orders = [order_of(name) for name in self.names]
+        self.made = [{} for _ in range(count)]
 
-    def put(self, at, knows=True):
-        """Returns the put of this number, behind those of its key before it where it knows them."""
+    def put(self, at, knows=True, down=None, size=0):
+        """Returns the put of this number, behind those of its key before it where it knows them. Its value
+        has as many bytes as size says, or a few."""
         number = at % len(self.names)
         put = {"do": "put", "key": self.names[number], "value": f"v{at}"}
-        node, last = self.nodes[number], self.made[number]
-        if knows and last:
-            put["context"] = f"n{node}:1" if last == 1 else f"n{node}:1-{last}"
-        self.made[number] += 1
+        made = self.made[number]
+        if size:
+            put["value"] = f"v{at} ".ljust(size, "x")
+        if knows and made:
+            runs = [f"n{node}:1-{last}" if last > 1 else f"n{node}:1" for node, last in sorted(made.items())]
+            put["context"] = " ".join(runs)
+        node = next(it for it in self.orders[number] if it != down)
+        made[node] = made.get(node, 0) + 1
         return put
 
 
-def mixed(keys, commands):
-    keys, run = Keys(keys), []
-    for at in range(commands // 2):
-        put = keys.put(at)
+def turns(keys, numbers, **of_put):
+    """Returns a get and a put for each number."""
+    run = []
+    for at in numbers:
+        put = keys.put(at, **of_put)
         run += [get(put["key"]), put]
+    return run
+
+
+def mixed(keys, commands):
+    return TOKENS, turns(Keys(keys), range(commands // 2))
+
+
+def longkeys(keys, commands):
+    return TOKENS, turns(Keys(keys, long_name), range(commands // 2))
+
+
+def values(size, commands):
+    return TOKENS, turns(Keys(16), range(commands // 2), size=size)
+
+
+def outages(keys, commands):
+    keys, run = Keys(keys), []
+    for begin in range(0, commands // 2, 100):
+        node = begin // 100 % len(TOKENS)
+        others = [it for it in range(len(TOKENS)) if it != node]
+        run += [{"do": "down", "node": node}, *turns(keys, range(begin, begin + 50), down=node)]
+        run += [{"do": "up", "node": node}, *({"do": "handoff", "node": it} for it in others)]
+        run += turns(keys, range(begin + 50, begin + 100))
+    return TOKENS, run
+
+
+def siblings(keys, rounds):
+    keys, run, more = Keys(keys), [], itertools.count()
+    count = len(keys.names)
+    for _ in range(rounds):
+        run += [keys.put(at, knows=False) for at in itertools.islice(more, 99 * count)]
+        run += turns(keys, itertools.islice(more, count))
     return TOKENS, run
 
 
@@ -84,13 +140,13 @@ def puts(keys, count):
 
 
 def handoff(hints):
-    keys = Keys(hints, lambda name: 0)
+    keys = Keys(hints, order_of=lambda name: [0])
     run = [{"do": "down", "node": 1}] + [keys.put(at) for at in range(hints)]
     return LOW_TOKENS, run + [{"do": "up", "node": 1}, {"do": "handoff", "node": 3}]
 
 
 def delayed(messages):
-    keys, nodes = Keys(5000, lambda name: 0), (1, 2)
+    keys, nodes = Keys(5000, order_of=lambda name: [0]), (1, 2)
 
     def at_both(word, **members):
         return [{"do": word, "node": node, **members} for node in nodes]
@@ -101,12 +157,14 @@ def delayed(messages):
     return LOW_TOKENS, run + at_both("fault", mode="none") + at_both("deliver")
 
 
+MAKERS = {it.__name__: it for it in (mixed, longkeys, values, outages, siblings, gets, blind, puts,
+                                     handoff, delayed)}
+
+
 def text_of(name):
     """Returns the script of this name."""
     word, *numbers = name.split("-")
-    makers = {"mixed": mixed, "gets": gets, "blind": blind, "handoff": handoff, "delayed": delayed,
-              "puts": puts}
-    tokens, run = makers[word](*map(int, numbers))
+    tokens, run = MAKERS[word](*map(int, numbers))
     script = {"n": 3, "r": 2, "w": 2, "tokens": [[it] for it in tokens], "run": run}
     return json.dumps(script, separators=(",", ":")) + "\n"
 
