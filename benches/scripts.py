@@ -2,6 +2,8 @@
 """Writes the scripts that benches/all has programs run.
 
 usage: benches/scripts.py FOLDER [NAME ..]    without names all of them; each is FOLDER/NAME.json
+       benches/scripts.py --service SCRIPT    of a script, SCRIPT.store for `dynamo serve`, which has no
+                                              commands, and SCRIPT.lines, which has them as its input
 
 A name says what the script does, and ends with how often:
 
@@ -177,11 +179,12 @@ def write(folder, name):
     return path
 
 
-def write_service(folder, name):
-    """Writes the script of this name without its commands, and these as lines. Returns both paths."""
-    script = json.loads(text_of(name))
-    commands = script.pop("run")
-    paths = [os.path.join(folder, f"{name}.{it}") for it in ("store", "lines")]
+def write_service(path):
+    """Writes the script without its commands, and these as lines. Returns both paths."""
+    with open(path, encoding="utf-8") as it:
+        script = json.load(it)
+    commands = script.pop("run", [])
+    paths = [f"{path}.{it}" for it in ("store", "lines")]
     for path, values in zip(paths, ([script], commands)):
         with open(path, "w", encoding="utf-8") as out:
             out.writelines(json.dumps(it, separators=(",", ":")) + "\n" for it in values)
@@ -189,6 +192,9 @@ def write_service(folder, name):
 
 
 def main(words):
+    if len(words) == 2 and words[0] == "--service":
+        write_service(words[1])
+        return 0
     if not words or words[0].startswith("-"):
         print(__doc__, end="", file=sys.stderr)
         return 2

@@ -13,6 +13,7 @@ mod ring;
 mod rows;
 mod runner;
 mod script;
+mod service;
 mod storm;
 
 use runner::Stopped;
@@ -29,6 +30,15 @@ fn run(path: &str) -> Result<(), Stopped> {
     let script = script::read(&bytes)?;
     let mut out = BufWriter::new(io::stdout().lock());
     runner::run(&script, &mut out)?;
+    out.flush()?;
+    Ok(())
+}
+
+fn serve(path: &str) -> Result<(), Stopped> {
+    let bytes = fs::read(path)?;
+    let script = script::read(&bytes)?;
+    let mut out = BufWriter::new(io::stdout().lock());
+    service::serve(&script, &mut io::stdin().lock(), &mut out)?;
     out.flush()?;
     Ok(())
 }
@@ -64,6 +74,7 @@ fn main() -> ExitCode {
     let words: Vec<&str> = words.iter().map(String::as_str).collect();
     let done = match words[..] {
         ["run", path] => run(path),
+        ["serve", path] => serve(path),
         ["storm", seed, threads, puts, ref rest @ ..] if matches!(rest, [] | ["--faults"]) => {
             match plan(seed, threads, puts, !rest.is_empty()) {
                 Some(plan) => storm(&plan),
@@ -86,6 +97,8 @@ fn main() -> ExitCode {
 }
 
 fn usage() -> ExitCode {
-    eprintln!("usage: plain run FILE | plain storm SEED THREADS PUTS [--faults]");
+    eprintln!(
+        "usage: plain run FILE | plain serve FILE | plain storm SEED THREADS PUTS [--faults]"
+    );
     ExitCode::from(2)
 }

@@ -59,23 +59,71 @@ fn options(script: &Script) -> Options {
     }
 }
 
-pub fn run(script: &Script, out: &mut impl Write) -> Result<(), Stopped> {
+/// The cluster of a script, before its commands.
+pub fn open(script: &Script) -> Result<Cluster, Fault> {
     let ring = match &script.layout {
         Layout::Tokens(lists) => Ring::new(lists)?,
         Layout::Derived { nodes, per_node } => {
             Ring::derived(usize::from(*nodes), usize::from(*per_node))?
         }
     };
-    let cluster = Cluster::new(ring, options(script))?;
-    let mut direct = Direct::new(&cluster);
-    let mut sessions = Sessions::default();
-    for (at, command) in script.run.iter().enumerate() {
-        write!(out, "{} ", at + 1)?;
-        perform(&cluster, &mut direct, &mut sessions, script.w, command, out)?;
+    Cluster::new(ring, options(script))
+}
+
+pub fn run(script: &Script, out: &mut impl Write) -> Result<(), Stopped> {
+    let cluster = open(script)?;
+    let mut player = Player::new(&cluster, script);
+    for command in &script.run {
+        player.perform(command, out)?;
     }
-    let gets = sessions.0.iter().map(|(_, session)| session.gets).sum();
-    write_audit(out, &cluster.book().audit(), script.w, gets, script.settled)?;
-    Ok(())
+    Ok(player.audit(out)?)
+}
+
+/// Does commands one by one, each with its line.
+pub struct Player<'a> {
+    cluster: &'a Cluster,
+    direct: Direct<'a>,
+    sessions: Sessions,
+    w: u8,
+    is_settled_wanted: bool,
+    done: usize,
+}
+
+impl<'a> Player<'a> {
+    pub fn new(cluster: &'a Cluster, script: &Script) -> Self {
+        Player {
+            cluster,
+            direct: Direct::new(cluster),
+            sessions: Sessions::default(),
+            w: script.w,
+            is_settled_wanted: script.settled,
+            done: 0,
+        }
+    }
+
+    /// The number of the next command.
+    pub fn next(&self) -> usize {
+        self.done + 1
+    }
+
+    pub fn perform(&mut self, command: &Command, out: &mut impl Write) -> io::Result<()> {
+        self.done += 1;
+        write!(out, "{} ", self.done)?;
+        let (direct, sessions) = (&mut self.direct, &mut self.sessions);
+        perform(self.cluster, direct, sessions, self.w, command, out)
+    }
+
+    /// Says that the next command can't be read.
+    pub fn refuse(&mut self, fault: Fault, out: &mut impl Write) -> io::Result<()> {
+        self.done += 1;
+        writeln!(out, "{} {fault}", self.done)
+    }
+
+    pub fn audit(&self, out: &mut impl Write) -> io::Result<()> {
+        let gets = self.sessions.0.iter().map(|(_, it)| it.gets).sum();
+        let book = self.cluster.book();
+        write_audit(out, &book.audit(), self.w, gets, self.is_settled_wanted)
+    }
 }
 
 fn perform(

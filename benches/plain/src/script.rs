@@ -156,10 +156,7 @@ pub fn read(bytes: &[u8]) -> Result<Script<'_>, Fault> {
     if list.len() > MAX_COMMANDS {
         return Err(wrong);
     }
-    let nodes = match &layout {
-        Layout::Tokens(lists) => lists.len() as u64,
-        Layout::Derived { nodes, .. } => u64::from(*nodes),
-    };
+    let nodes = nodes(&layout);
     let commands = list
         .iter()
         .enumerate()
@@ -176,6 +173,26 @@ pub fn read(bytes: &[u8]) -> Result<Script<'_>, Fault> {
         settled,
         run,
     })
+}
+
+impl Script<'_> {
+    /// How many nodes the ring has.
+    pub fn nodes(&self) -> u64 {
+        nodes(&self.layout)
+    }
+}
+
+fn nodes(layout: &Layout) -> u64 {
+    match layout {
+        Layout::Tokens(lists) => lists.len() as u64,
+        Layout::Derived { nodes, .. } => u64::from(*nodes),
+    }
+}
+
+/// The command that a line of a service's input spells.
+pub fn read_command(line: &[u8], number: usize, nodes: u64) -> Result<Command<'_>, Fault> {
+    let value = std::str::from_utf8(line).ok().and_then(json::read);
+    command(&value.ok_or(Fault::ScriptSyntax(number))?, number, nodes)
 }
 
 /// The command that the value says, on a ring of so many nodes.
