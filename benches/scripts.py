@@ -9,8 +9,8 @@ A name says what the script does, and ends with how often:
 
 mixed-KEYS-COMMANDS    gets and puts by turns, of k0, k1 and so on in turn; a put has the context that
                        the get before it is given
-longkeys-KEYS-COMMANDS the same with keys of 40 bytes, of which the first 24 are alike
-values-BYTES-COMMANDS  the same over 16 keys, with values of so many bytes
+longkeys-KEYS-COMMANDS as mixed, with keys of 40 bytes, of which the first 24 are alike
+values-BYTES-COMMANDS  as mixed, over 16 keys, with values of so many bytes
 outages-KEYS-COMMANDS  as mixed; of each 200 of its gets and puts a node is down for the first 100, each
                        node in turn, and then the other four hand over what they kept for it
 siblings-KEYS-ROUNDS   in each round 99 puts of each key without a context, and then a get of each key
