@@ -6,7 +6,7 @@ import re
 from typing import Dict, Iterator, List, Optional, Tuple
 
 from json_places import Lines, Number, Value, shown
-from reading.rules import AT_NODE, LIMITS, MAX_KEY_BYTES, MAX_NODE_TOKENS, MAX_NODES
+from reading.rules import AT_NODE, LIMITS, MAX_KEY_BYTES, MAX_NODES, MAX_TOKENS_PER_NODE
 from script_schema import DIGITS, Finding, below, number_of
 
 TOKEN = re.compile(r"([0-9a-fA-F]{2}){1,16}")
@@ -98,8 +98,8 @@ class Ring:
         if not tokens.data:
             said = f"node {node} has no token; give it one"
             self.tell(tokens, path, said, f"E5 NodeWithoutToken {node}")
-        if len(tokens.data) > MAX_NODE_TOKENS:
-            said = f"node {node} has {len(tokens.data)} tokens; write {MAX_NODE_TOKENS} at most"
+        if len(tokens.data) > MAX_TOKENS_PER_NODE:
+            said = f"node {node} has {len(tokens.data)} tokens; write {MAX_TOKENS_PER_NODE} at most"
             self.tell(tokens, path, said, "E6 TooMany")
         for number, token in enumerate(tokens.data):
             digits = text(token)
@@ -120,7 +120,7 @@ class Ring:
         self.nodes = small(nodes)
         for value, most, path, none in (
             (nodes, MAX_NODES, "derived/nodes", "the ring has no node"),
-            (per_node, MAX_NODE_TOKENS, "derived/per_node", "no node has a token"),
+            (per_node, MAX_TOKENS_PER_NODE, "derived/per_node", "no node has a token"),
         ):
             number = small(value)
             if number == 0:
@@ -132,7 +132,7 @@ class Ring:
 
 def limit_mistakes(script: Value) -> Iterator[Finding]:
     """A mistake for each limit that is no whole number of its range."""
-    for name, most in LIMITS.items():
+    for name, (most, _) in LIMITS.items():
         value = member(member(script, "limits"), name)
         number = whole(value)
         if value is None or (number is not None and 1 <= number <= most):

@@ -9,7 +9,7 @@ from typing import Dict, Iterator, Optional, Set
 
 from json_places import Value, shown
 from reading.rules import (
-    MAX_CONTEXT_DOTS, MAX_COUNTER, MAX_KEY_BYTES, MAX_VALUE_BYTES, OF_SESSION, WRITES,
+    AT_UP, MAX_CONTEXT_DOTS, MAX_COUNTER, MAX_KEY_BYTES, MAX_VALUE_BYTES, OF_SESSION, WRITES,
 )
 from script_rules import items, member, size_slip, small, text, whole
 from script_schema import Finding
@@ -80,7 +80,7 @@ class Run:
             self.down.add(node)
         elif word == "up":
             self.down.discard(node)
-        elif word in ("deliver", "handoff") and node in self.down:
+        elif word in AT_UP and node in self.down:
             said = f"node {node} is down here; write an up before"
             yield warning(at, f"{path}/do", said, "E13 Down")
         elif word in OF_SESSION and len(self.down) == self.nodes:

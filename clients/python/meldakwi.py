@@ -158,7 +158,7 @@ class Store:
         self.call("up", node=node)
 
     def fault(self, node: int, mode: str) -> None:
-        """Sets a node's mode: none, mute, late, repeat or delay. Raises Refused: E17 for others."""
+        """Sets a node's mode, one of docs/FORMATS.md. Raises Refused: E17 for others."""
         self.call("fault", node=node, mode=mode)
 
     def deliver(self, node: int) -> int:

@@ -2,10 +2,10 @@
 from typing import Any, Dict, Iterable, List, Optional, Sequence
 
 from reading.lines import (
-    COMMAND_FORMS, STEP_FORMS, Ack, Acked, Answer, Cluster, Delivered, End, Form, Got, Held, Issue,
-    Passed, Place, Refusal, Refused, Said, Settled, Shown, StepForm, Token, Told, Written,
+    COMMAND_FORMS, STEP_FORMS, Ack, Acked, Answer, Cluster, End, Form, Got, Held, Issue, Place,
+    Refusal, Refused, Said, Settled, Shown, StepForm, Token, Told, Written,
 )
-from reading.rules import AT_NODE, OF_KEY, OF_SESSION, WRITES
+from reading.rules import AT_NODE, OF_KEY, OF_MODE, OF_SESSION, WRITES
 from reading.scripts import Command
 from reading.texts import count_of, text_of
 
@@ -65,7 +65,7 @@ def command_in(command: Command) -> Object:
         found["node"] = command.node
     if command.word in WRITES:
         found.update({**bytes_in("value", command.value), "follows": command.context})
-    if command.word == "fault":
+    if command.word in OF_MODE:
         found["mode"] = command.mode
     return found
 
@@ -77,10 +77,6 @@ def outcome_in(line: Line, run: Run) -> Object:
         return {"dot": form.dot, "wanted": wanted_by(line, run), **answers_in(form.answers)}
     if isinstance(form, Got):
         return got_in(form, line, run)
-    if isinstance(form, Delivered):
-        return {"stored": form.stored}
-    if isinstance(form, Passed):
-        return {"offers": form.offers, "stored": form.stored, "released": form.released}
     if isinstance(form, Shown):
         hints = [{"home": home, "dots": dots} for home, dots in form.hints]
         return {"own": form.own, "hints": hints}
@@ -88,7 +84,7 @@ def outcome_in(line: Line, run: Run) -> Object:
         answers = answers_in(form.answers) if form.answers else {}
         wanted = {"wanted": wanted_by(line, run)} if form.answers else {}
         return {**refusal_in(form.refusal, run), "dot": form.dot, **wanted, **answers}
-    return {}
+    return {name: it for name, it in form._asdict().items() if name not in ("number", "word")}
 
 
 def got_in(form: Got, line: Line, run: Run) -> Object:

@@ -5,7 +5,7 @@ from reading.lines import (
     STEP_FORMS, Acked, Answer, Cluster, Delivered, Done, End, Got, Held, Listed, Passed, Refusal,
     Refused, Said, Settled, Shown, Token, Told, Written,
 )
-from reading.rules import MODES
+from reading.rules import COMMANDS
 from reading.texts import counted, listed, named, shown
 
 from .refusals import meaning_of, name_of
@@ -85,14 +85,7 @@ def say_got(form: Got, line: Line, run: Run) -> List[str]:
 
 
 def say_done(form: Done, line: Line, run: Run) -> List[str]:
-    node = line.command.node
-    if form.word == "down":
-        return [f"Node {node} is down: whoever asks it is told so."]
-    if form.word == "up":
-        return [f"Node {node} is up, with what it held before."]
-    mode = line.command.mode
-    does = MODES[mode].does if mode in MODES else mode
-    return [f"From now on node {node} {does}."]
+    return [line.command.told(COMMANDS[form.word].done)]
 
 
 def say_delivered(form: Delivered, line: Line, run: Run) -> List[str]:

@@ -4,7 +4,7 @@ import re
 from dataclasses import dataclass
 from typing import Any, Dict, List, Tuple
 
-from reading.rules import MAX_KEY_BYTES, MAX_NODE_TOKENS, MAX_NODES
+from reading.rules import MAX_KEY_BYTES, MAX_NODES, MAX_TOKENS_PER_NODE
 from reading.scripts import BadInput, listed, member, text, whole
 
 SPAN = 1 << 128
@@ -77,8 +77,8 @@ def ring_of(script: Dict[str, Any]) -> Ring:
     if ("tokens" in script) == ("derived" in script):
         raise BadInput("E17 ScriptSyntax: exactly one of `tokens` and `derived` must be there")
     lists = _given(script) if "tokens" in script else _derived(script)
-    if len(lists) > MAX_NODES or any(len(tokens) > MAX_NODE_TOKENS for tokens in lists):
-        raise BadInput(f"E6 TooMany: a ring has at most {MAX_NODES} nodes, and {MAX_NODE_TOKENS}"
+    if len(lists) > MAX_NODES or any(len(tokens) > MAX_TOKENS_PER_NODE for tokens in lists):
+        raise BadInput(f"E6 TooMany: a ring has at most {MAX_NODES} nodes, and {MAX_TOKENS_PER_NODE}"
                        " tokens of a node")
     for node, tokens in enumerate(lists or [[]]):
         if not tokens:

@@ -2,7 +2,7 @@
 from typing import Callable, Dict, Tuple
 
 from reading.lines import COMMAND_FORMS, Delivered, Got, Passed, Refused, Shown, Written
-from reading.rules import AT_NODE, MODES, OF_KEY, WRITES
+from reading.rules import AT_NODE, COMMANDS, OF_KEY, WRITES
 from reading.scripts import Command
 
 from .runs import Event, Run
@@ -11,7 +11,8 @@ from .svg import counted, shown
 
 def words_of(event: Event) -> Tuple[str, str]:
     """What the command asks, and what came of it."""
-    asked = OWN.get(event.command.word, _asked)(event.command)
+    drawn = COMMANDS[event.command.word].drawn
+    asked = event.command.told(drawn) if drawn else _asked(event.command)
     return asked, CAME[type(event.form)](event)
 
 
@@ -56,11 +57,6 @@ def _refused(event: Event) -> str:
     return event.refusal + (f", {event.form.dot} stands" if event.form.dot else "")
 
 
-OWN: Dict[str, Callable[[Command], str]] = {
-    "down": lambda command: f"node {command.node} goes down",
-    "up": lambda command: f"node {command.node} is up",
-    "fault": lambda command: f"node {command.node} {MODES[command.mode].drawn}",
-}
 CAME: Dict[type, Callable[[Event], str]] = {
     **dict.fromkeys(COMMAND_FORMS, lambda event: ""),
     Written: _written,

@@ -10,7 +10,7 @@ from reading.lines import (
     COMMAND_FORMS, STEP_FORMS, Answer, Cluster, CommandForm, End, Form, Got, Held, Place, Refused,
     Token, Told, places_in, read_line,
 )
-from reading.rules import AT_NODE, MAX_CONTEXT_DOTS, MAX_NODES, MODES
+from reading.rules import AT_NODE, MAX_CONTEXT_DOTS, MAX_NODES, MODES, NUMBERS, OF_MODE
 from reading.scripts import BadInput, Command, listed, nodes_in, read_command, whole
 from reading.texts import count_of, dots_of
 from reading.worlds import Followed, Row, World
@@ -61,11 +61,11 @@ def command_of(raw: Any, number: int, nodes: int) -> Command:
     """A command of the script, with numbers that a run takes."""
     name = f"command {number}"
     command = read_command(raw, name)
-    whole(command.session, f"the session of {name}", 31)
-    whole(command.w or 0, f"`w` of {name}")
+    whole(command.session, f"the session of {name}", NUMBERS["session"])
+    whole(command.w or 0, f"`w` of {name}", NUMBERS["small"])
     if command.word in AT_NODE:
         whole(command.node, f"the node of {name}", nodes - 1)
-    if command.word == "fault" and command.mode not in MODES:
+    if command.word in OF_MODE and command.mode not in MODES:
         raise BadInput(f"E17 ScriptSyntax: {name} has no mode of a node")
     return command
 

@@ -17,6 +17,7 @@ KEY = "(?:[0-9a-f]{2})+"
 VALUE = f"{DOT}=(?:[0-9a-f]{{2}})*"
 REFUSAL = rf"(E({COUNT}) ([A-Za-z]+)(?: (?!after |answers )([^ ]+))?)"
 WROTE, OTHERS = "|".join(WRITES), "|".join(word for word in COMMANDS if word not in WRITES)
+DONE = "|".join(word for word, rule in COMMANDS.items() if rule.done)
 
 
 class Place(NamedTuple):
@@ -62,7 +63,7 @@ class Got(NamedTuple):
 
 
 class Done(NamedTuple):
-    """A node went down or up, or got a mode."""
+    """A command was done whose line says no more, as that a node is down, is up or has a mode."""
 
     number: int
     word: str
@@ -313,7 +314,7 @@ FORMS: List[Tuple[str, Callable[[Match[str]], Form]]] = [
         f"({COUNT}) get ok context ({CONTEXT}) from((?: {PLACE})+) values((?: {VALUE})+| none)",
         lambda m: Got(int(m[1]), "get", m[2], places_of(m[3]), values_of(m[4])),
     ),
-    (f"({COUNT}) (down|up|fault) ok", lambda m: Done(int(m[1]), m[2])),
+    (f"({COUNT}) ({DONE}) ok", lambda m: Done(int(m[1]), m[2])),
     (f"({COUNT}) deliver ok ({COUNT})", lambda m: Delivered(int(m[1]), "deliver", int(m[2]))),
     (
         f"({COUNT}) handoff ok offers ({COUNT}) stored ({COUNT}) released ({COUNT})",

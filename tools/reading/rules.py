@@ -1,17 +1,35 @@
-"""The one table of what a script may have: its commands, a node's modes, and how great all may be.
+"""The one table of what a script may have: its commands, their members, a node's modes, and how
+great all may be; and what is said of each.
 
-docs/script.schema.json has the same commands, members and modes; tools/schema_test compares them,
-and looks whether each tool knows them.
+`tools/schema_test --write` writes docs/script.schema.json from it. Without that word it looks
+whether the tools, the client, the pages and the programs have each of its rows and numbers.
 """
 from typing import Dict, NamedTuple, Tuple
 
 
 class CommandRule(NamedTuple):
-    """The members that a command needs and may have; how many of 36 commands of a seed it is."""
+    """The members that a command needs and may have; how many of 36 commands of a seed it is; what
+    it does; and whether its node must be up. Where its line says no more than ok: what explain says
+    of that line, and what a picture has beside it.
+    """
 
     needs: Tuple[str, ...]
     may: Tuple[str, ...]
     often: int
+    does: str
+    wants_up: bool = False
+    done: str = ""
+    drawn: str = ""
+
+
+class Member(NamedTuple):
+    """What a member of a command is: `text`, `digits`, `mode`, or a number of NUMBERS. One that a
+    command may have is typed into the shell behind a word, with a text in this place.
+    """
+
+    kind: str
+    typed: str = ""
+    place: str = ""
 
 
 class Mode(NamedTuple):
@@ -27,23 +45,56 @@ class Mode(NamedTuple):
     often: int
 
 
-MAX_NODES, MAX_NODE_TOKENS = 32, 64
+class Limit(NamedTuple):
+    """The greatest number that a script's limit may be, and what it limits."""
+
+    most: int
+    does: str
+
+
+MAX_NODES, MAX_TOKENS_PER_NODE, MAX_COMMANDS = 32, 64, 100_000
 MAX_KEY_BYTES, MAX_VALUE_BYTES = 64, 4096
 MAX_COUNTER, MAX_CONTEXT_DOTS = 1_000_000, 100_000
-LIMITS = {"counter": MAX_COUNTER, "versions": 100_000, "steps": 1_000_000}
-
+MAX_VERSIONS, MAX_STEPS = 100_000, 1_000_000
+LIMITS: Dict[str, Limit] = {
+    "counter": Limit(MAX_COUNTER, "The greatest counter of a node for a key"),
+    "versions": Limit(MAX_VERSIONS, "How many versions are made at most"),
+    "steps": Limit(MAX_STEPS, "How many steps are made at most"),
+}
+# The greatest number of each kind, before the ring and the quorum are known.
+NUMBERS = {"small": 255, "session": 31, "node": 254}
 
 # The seeds of tools/scripts name their scripts by the order of these rows, too.
 COMMANDS: Dict[str, CommandRule] = {
-    "put": CommandRule(("key",), ("value", "valuehex", "context", "session", "w"), 8),
-    "get": CommandRule(("key",), ("session",), 12),
-    "delete": CommandRule(("key",), ("context", "session", "w"), 1),
-    "down": CommandRule(("node",), (), 3),
-    "up": CommandRule(("node",), (), 4),
-    "fault": CommandRule(("node", "mode"), (), 3),
-    "deliver": CommandRule(("node",), (), 1),
-    "handoff": CommandRule(("node",), (), 3),
-    "show": CommandRule(("node", "key"), (), 1),
+    "put": CommandRule(("key",), ("value", "valuehex", "context", "session", "w"), 8,
+                       "writes a value"),
+    "get": CommandRule(("key",), ("session",), 12,
+                       "reads the versions of a key, and repairs homes that are stale"),
+    "delete": CommandRule(("key",), ("context", "session", "w"), 1, "writes a deletion"),
+    "down": CommandRule(("node",), (), 3, "takes a node down; it keeps what it holds",
+                        done="Node {node} is down: whoever asks it is told so.",
+                        drawn="node {node} goes down"),
+    "up": CommandRule(("node",), (), 4, "brings a node up again",
+                      done="Node {node} is up, with what it held before.",
+                      drawn="node {node} is up"),
+    "fault": CommandRule(("node", "mode"), (), 3, "sets the mode of a node",
+                         done="From now on node {node} {mode.does}.",
+                         drawn="node {node} {mode.drawn}"),
+    "deliver": CommandRule(("node",), (), 1,
+                           "has a node store the messages that it kept in mode delay", True),
+    "handoff": CommandRule(("node",), (), 3, "has a node hand over its hints to their homes", True),
+    "show": CommandRule(("node", "key"), (), 1,
+                        "shows what a node holds of a key; it does so if it is down, too"),
+}
+MEMBERS: Dict[str, Member] = {
+    "key": Member("text"),
+    "value": Member("text"),
+    "valuehex": Member("digits"),
+    "context": Member("text", "behind", "CONTEXT"),
+    "w": Member("small", "w", "HOMES"),
+    "session": Member("session", "session", "NUMBER"),
+    "node": Member("node"),
+    "mode": Member("mode"),
 }
 MODES: Dict[str, Mode] = {
     "none": Mode("does what it is asked, and answers", "answers as usual", True, False, True, 4),
@@ -62,4 +113,6 @@ def having(name: str) -> Tuple[str, ...]:
     return tuple(word for word, rule in COMMANDS.items() if name in rule.needs + rule.may)
 
 
-AT_NODE, OF_KEY, OF_SESSION, WRITES = map(having, ("node", "key", "session", "context"))
+AT_NODE, OF_KEY, OF_MODE, OF_SESSION = map(having, ("node", "key", "mode", "session"))
+OF_VALUE, WRITES = map(having, ("value", "context"))
+AT_UP = tuple(word for word, rule in COMMANDS.items() if rule.wants_up)

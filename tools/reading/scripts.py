@@ -3,10 +3,8 @@ import json
 from typing import Any, Callable, Dict, List, NamedTuple, Optional
 
 from .texts import shown
-from .rules import AT_NODE, COMMANDS, OF_SESSION
+from .rules import AT_NODE, COMMANDS, MEMBERS, MODES, NUMBERS, OF_KEY, OF_VALUE, Mode
 
-TEXTS = ("key", "value", "valuehex", "context", "mode")
-NUMBERS = ("session", "w", "node")
 MAX_RAW = 200
 
 
@@ -26,6 +24,11 @@ class Command(NamedTuple):
     node: int = 0
     mode: str = ""
 
+    def told(self, text: str) -> str:
+        """Returns the text with this command's node and mode in it; an unknown mode is its name."""
+        mode = MODES.get(self.mode) or Mode(self.mode, self.mode, True, False, True, 0)
+        return text.format(node=self.node, mode=mode)
+
     def __str__(self) -> str:
         """Returns the command as the script has it, in words."""
         if self.word == "fault":
@@ -34,7 +37,7 @@ class Command(NamedTuple):
             return f"show {shown(self.key)} at node {self.node}"
         if self.word in AT_NODE:
             return f"{self.word} node {self.node}"
-        said = [f"{self.word} {shown(self.key)}"]
+        said = [f"{self.word} {shown(self.key)}" if self.word in OF_KEY else self.word]
         said[0] += "" if self.value is None else f" = {shown(self.value)}"
         said += [] if self.context == "-" else [f"context {self.context}"]
         said += [f"session {self.session}"] if self.session else []
@@ -125,7 +128,7 @@ def read_object(data: bytes) -> Dict[str, Any]:
 
 def value_in(raw: Dict[str, Any], word: str, name: str) -> Optional[bytes]:
     """Returns the value of a put, as a text or in hexadecimal digits; no other command has one."""
-    if (word == "put") != ("value" in raw or "valuehex" in raw):
+    if (word in OF_VALUE) != ("value" in raw or "valuehex" in raw):
         raise BadInput(f"E17 ScriptSyntax: {name} has no `value`, or may have none")
     if "valuehex" not in raw:
         return bytes_in(raw["value"]) if "value" in raw else None
@@ -142,8 +145,10 @@ def read_command(raw: Any, name: str) -> Command:
         raise BadInput(f"E18 UnknownCommand: {name} is none")
     for needed in COMMANDS[word].needs:
         member(raw, needed, name)
-    texts = {it: text(raw[it], f"the {it} of {name}") for it in TEXTS if it in raw}
-    numbers = {it: whole(raw[it], f"the {it} of {name}", None) for it in NUMBERS if it in raw}
+    given = {it: rule.kind for it, rule in MEMBERS.items() if it in raw}
+    texts = {it: text(raw[it], f"the {it} of {name}") for it in given if given[it] not in NUMBERS}
+    numbers = {it: whole(raw[it], f"the {it} of {name}", None)
+               for it in given if given[it] in NUMBERS}
     named = {it: texts[it] for it in ("context", "mode") if it in texts}
     key = bytes_in(texts.get("key", ""))
     return Command(word, key, value_in(raw, word, name), **named, **numbers)

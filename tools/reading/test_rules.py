@@ -1,52 +1,64 @@
-"""Checks that each tool knows each command and each mode of docs/script.schema.json."""
+"""Checks that the schema is as the table has it, and that each tool, the client, the pages and the
+plain program know each command, each mode and each number of it.
+"""
 import importlib.machinery
 import importlib.util
+import inspect
 import json
+import re
 from pathlib import Path
-from typing import Any, Dict, Iterator, List, Set, Tuple
+from typing import Any, Dict, Iterator, Tuple
 
 from explaining.refusals import read_meanings
 from explaining.tellings import tell
 from pictures.run_drawing import drawn_run
 from replaying import forms as replaying
+from replaying.dots import BadText
 
+from shelling.helps import help_of
+from shelling.words import Known, needs_of, read_words
+
+from . import rules
 from .lines import COMMAND_FORMS, Refused, read_line
-from .rules import COMMANDS, MODES
+from .rules import COMMANDS, LIMITS, MEMBERS, MODES
+from .schemas import schema_text
 from .scripts import read_script
 
-TOOLS = Path(__file__).resolve().parents[1]
-EXAMPLES = TOOLS.parent / "examples"
+TOP = Path(__file__).resolve().parents[2]
+SCHEMA = TOP / "docs/script.schema.json"
 HEAD = {"n": 1, "r": 1, "w": 1, "derived": {"nodes": 1, "per_node": 1}}
 END = "end held 0 acked 0 gets 0 steps 0\n"
 GIVEN = {"key": "a", "node": 0, "mode": "none"}
 SEED, SEEDED = 1, 1000
-Schema = Dict[str, Any]
 Check = Tuple[str, object, object]
+PLAIN = "benches/plain/src/*.rs"
+CONSTANT = r"const (MAX_[A-Z_]+): \w+ = ([0-9_]+);"
+# What pages say of the numbers, whole or with the words around it.
+SAID = {
+    "docs/FORMATS.md": [
+        "A key has 1 to {MAX_KEY_BYTES:,} bytes, and a value 0 to {MAX_VALUE_BYTES:,}.",
+        "its UTF-8 bytes are the key, 1 to {MAX_KEY_BYTES:,} of them",
+        "its UTF-8 bytes are the value, at most {MAX_VALUE_BYTES:,} of them",
+        "list of texts of 1 to {MAX_KEY_BYTES:,} bytes", "counters 1 to {MAX_COUNTER:,}.",
+        "list of at most {MAX_COMMANDS:,} commands", "A `run` of more than {MAX_COMMANDS:,} is",
+        "names more than {MAX_CONTEXT_DOTS:,} dots",
+        "over {MAX_NODES} nodes, or over {MAX_TOKENS_PER_NODE} tokens of a node",
+        "at most {MAX_VERSIONS:,} versions and {MAX_STEPS:,} steps",
+    ],
+    "docs/REFUSALS.md": [
+        "a key of no byte, or of more than {MAX_KEY_BYTES:,}", "a key of 1 to {MAX_KEY_BYTES:,}",
+        "a value of more than {MAX_VALUE_BYTES:,} bytes",
+        "over {MAX_NODES} nodes, {MAX_TOKENS_PER_NODE} tokens a node",
+    ],
+}
 
 
-def tool(name: str) -> Any:
-    """Returns a tool as a module."""
-    loader = importlib.machinery.SourceFileLoader(name, str(TOOLS / name))
+def module_of(name: str) -> Any:
+    """Returns the program in this file as a module."""
+    loader = importlib.machinery.SourceFileLoader(name, str(TOP / name))
     module = importlib.util.module_from_spec(importlib.util.spec_from_loader(name, loader))
     loader.exec_module(module)
     return module
-
-
-def words_of(schema: Schema) -> List[str]:
-    return schema["definitions"]["command"]["properties"]["do"]["enum"]
-
-
-def modes_of(schema: Schema) -> List[str]:
-    return schema["definitions"]["fault"]["properties"]["mode"]["enum"]
-
-
-def members_of(schema: Schema, word: str) -> Tuple[Set[str], Set[str]]:
-    """Returns the members that a command must have, and all that it can have."""
-    branches = schema["definitions"]["command"]["allOf"]
-    name = next(it["then"]["$ref"].split("/")[-1] for it in branches
-                if word in it["if"]["properties"]["do"]["enum"])
-    rule = schema["definitions"][name]
-    return set(rule["required"]), set(rule["properties"]) - {"do"}
 
 
 def script_of(word: str, **more: object) -> Dict[str, Any]:
@@ -62,18 +74,38 @@ def text_of(script: Dict[str, Any], output: str) -> str:
     return "\n".join([*telling.complaints, *telling.lines, drawn_run(script, output)])
 
 
-def command_checks(schema: Schema, lint: Any) -> Iterator[Check]:
-    """Checks each command of the table: its members, its lines, and what lint says of it."""
+def row_of(page: str, *cells: str) -> bool:
+    """Tells whether the page has a row of a table that begins with these cells."""
+    return f"\n| {' | '.join(cells)} |" in page
+
+
+def is_replayed(line: str) -> bool:
+    """Tells whether tools/replay reads a line."""
+    try:
+        return bool(replaying.read_line(line))
+    except BadText:
+        return False
+
+
+def command_checks(lint: Any, store: Any) -> Iterator[Check]:
+    """Checks each command of the table: what is said of its line, and what is typed and called."""
+    schema = json.loads(SCHEMA.read_text(encoding="utf-8"))
     for word, rule in COMMANDS.items():
-        needs, names = members_of(schema, word)
-        yield f"the members of {word}", (set(rule.needs), {*rule.needs, *rule.may}), (needs, names)
         refused = f"1 {word} E0 OutOfMemory"
         said = text_of(script_of(word), f"{refused}\n{END}")
-        yield f"explain and picture of {word}", said.startswith(f"1  {word} "), True
-        yield f"replay of {word}", replaying.read_line(refused).do, word
+        yield f"explain and picture of {word}", said.startswith(f"1  {word}"), True
+        yield f"replay of {word}", is_replayed(refused), True
         found = [lint.findings_of(json.dumps(script_of(word, **more)).encode("utf-8"), schema)[0]
                  for more in ({}, {"node": 1} if "node" in rule.needs else {"node": 0})]
         yield f"lint of {word}", [len(it) for it in found], [0, 1]
+        command = script_of(word)["run"][0]
+        typed = " ".join([word, *(str(command[name]) for name in needs_of(word))])
+        yield f"shell of {word}", read_words(typed, Known(1, {})).members, command
+        yield f"help of {word}", help_of(word)[1], f"   It {rule.does}."
+        method = getattr(store, word, None)
+        called = inspect.signature(method).parameters if method else ()
+        lacking = {word, *rule.needs, *rule.may} - {word if method else "", *called, "valuehex"}
+        yield f"what the client's {word} lacks", lacking, set()
 
 
 def mode_checks() -> Iterator[Check]:
@@ -84,20 +116,60 @@ def mode_checks() -> Iterator[Check]:
         yield f"explain and picture of the mode {name}", is_told, True
 
 
-def rule_checks(schema: Schema) -> Iterator[Check]:
-    """Checks that the table, the seeded scripts, the examples and the reader's cases have all."""
-    words, modes = set(words_of(schema)), set(modes_of(schema))
-    yield "the commands of the table", set(COMMANDS), words
-    yield "the modes of the table", set(MODES), modes
-    seeded = json.loads(tool("scripts").text_of(SEED, SEEDED))["run"]
-    yield "the commands of a seeded script", {it["do"] for it in seeded}, words
-    yield "the modes of a seeded script", {it.get("mode", "none") for it in seeded}, modes
-    lines = [read_line(line) for path in EXAMPLES.glob("**/*.stdout")
+def page_checks() -> Iterator[Check]:
+    """Checks that pages have each row of the table, and each of its numbers."""
+    formats = (TOP / "docs/FORMATS.md").read_text(encoding="utf-8")
+    _, commands, _ = re.split(r"^### Commands$|^### Rings of a script$", formats, flags=re.M)
+    told = set(re.findall(r"`(\w+)`", "".join(re.findall(r"^\| (.*?) \|", commands, re.M))))
+    others = told ^ {"do", *COMMANDS, *MEMBERS}
+    yield "the commands and members that docs/FORMATS.md has otherwise", others, set()
+    for name in MODES:
+        yield f"the mode {name} in docs/FORMATS.md", row_of(formats, f"`{name}`"), True
+    for name, limit in LIMITS.items():
+        yield f"the limit {name}", row_of(formats, f"`{name}`", f"1 to {limit.most:,}"), True
+    client = (TOP / "clients/python/README.md").read_text(encoding="utf-8")
+    for word in COMMANDS:
+        yield f"{word} in clients/python/README.md", f"`{word}(" in client, True
+    for name, texts in SAID.items():
+        page = (TOP / name).read_text(encoding="utf-8")
+        for text in texts:
+            wanted = text.format(**vars(rules))
+            yield f"'{wanted}' in {name}", wanted in page, True
+
+
+def text_in(files: str) -> str:
+    """Returns what these files have, one behind the other."""
+    return "".join(path.read_text(encoding="utf-8") for path in sorted(TOP.glob(files)))
+
+
+def program_checks() -> Iterator[Check]:
+    """Checks the sources of the program and of the plain one: their limits and their words."""
+    limits = {name: most for name, most in vars(rules).items() if name.startswith("MAX_")}
+    for files, readers in ("crates/*/src/*.rt", "crates/dy_script/src/*.rt"), (PLAIN, PLAIN):
+        found = {name: int(most) for name, most in re.findall(CONSTANT, text_in(files))}
+        others = {name for name, most in limits.items() if found.get(name) != most}
+        yield f"the limits that {files} has otherwise", others, set()
+        text = text_in(readers)
+        lacking = {it for it in (*COMMANDS, *MEMBERS, *MODES) if f'"{it}"' not in text}
+        yield f"the words that {readers} lacks", lacking, set()
+
+
+def rule_checks() -> Iterator[Check]:
+    """Checks that the schema, the seeded scripts, the examples and all programs know the table."""
+    words, modes, schema = set(COMMANDS), set(MODES), SCHEMA.read_text(encoding="utf-8")
+    yield "the schema is what --write makes of the table", schema_text(schema) == schema, True
+    seeded = json.loads(module_of("tools/scripts").text_of(SEED, SEEDED))["run"]
+    yield "the commands that no seed has", words - {it["do"] for it in seeded}, set()
+    yield "the modes that no seed has", modes - {it.get("mode") for it in seeded}, set()
+    lines = [read_line(line) for path in (TOP / "examples").glob("**/*.stdout")
              for line in path.read_text(encoding="utf-8").splitlines()]
     told = [it for it in lines if isinstance(it, COMMAND_FORMS) and not isinstance(it, Refused)]
-    yield "the commands that examples have done", {it.word for it in told}, words
-    scripts = [read_script(path.read_bytes()) for path in EXAMPLES.glob("scripts/*.json")]
+    yield "the commands that no scene has done", words - {it.word for it in told}, set()
+    scripts = [read_script(path.read_bytes()) for path in (TOP / "examples/scripts").glob("*.json")]
     set_modes = {it.mode for script in scripts for it in script.commands if it and it.mode}
-    yield "the modes that examples set", set_modes & modes, modes
-    yield from command_checks(schema, tool("lint"))
+    yield "the modes that no scene sets", modes - set_modes, set()
+    client = module_of("clients/python/meldakwi.py")
+    yield from command_checks(module_of("tools/lint"), client.Store)
     yield from mode_checks()
+    yield from page_checks()
+    yield from program_checks()

@@ -66,7 +66,7 @@ class World:
             self.modes[command.node] = command.mode
         elif command.word == "up":
             self.down.discard(command.node)
-        else:
+        elif command.word == "down":
             self.down.add(command.node)
 
     def mode(self, node: int) -> Mode:

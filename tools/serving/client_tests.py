@@ -7,14 +7,16 @@ from typing import Any, List
 
 from meldakwi import Answer, Ended, Got, Passed, Place, Put, Refused, Shown, Store
 
+from reading.rules import MAX_KEY_BYTES, MAX_VALUE_BYTES, MODES
 from serving.checks import TOKENS, Test
 
 STORED = [Answer(0, 0, "stored"), Answer(1, 1, "stored"), Answer(2, 2, "stored")]
 FIRST_TWO = [Place(0, 0), Place(1, 1)]
 THREADS, TURNS = 8, 20
-TEXTS = ["ключ", "é" * 32, "😀", "\0", "\"\\/\n\r\t\b\f", "\u2028\x7f", "a" * 64, " "]
-VALUES = [b"", b"\xff\0\n\r", bytes(range(256)), b"\xff" * 4096, b"none", b"n0:1=78"]
-VALUE_TEXTS = ["", "\0", "é" * 2048, "x" * 4096, "\"\\\n\u2028"]
+TEXTS = ["ключ", "é" * (MAX_KEY_BYTES // 2), "😀", "\0", "\"\\/\n\r\t\b\f", "\u2028\x7f",
+         "a" * MAX_KEY_BYTES, " "]
+VALUES = [b"", b"\xff\0\n\r", bytes(range(256)), b"\xff" * MAX_VALUE_BYTES, b"none", b"n0:1=78"]
+VALUE_TEXTS = ["", "\0", "é" * (MAX_VALUE_BYTES // 2), "x" * MAX_VALUE_BYTES, "\"\\\n\u2028"]
 
 
 def store_of(test: Test, **words: Any) -> Store:
@@ -71,7 +73,7 @@ def test_outages(test: Test) -> None:
 
 def test_modes(test: Test) -> None:
     with store_of(test) as store:
-        for mode in ("none", "mute", "late", "repeat", "delay"):
+        for mode in MODES:
             test.same(f"the mode {mode}", store.fault(1, mode), None)
         answers = [Answer(0, 0, "stored"), Answer(1, 1, "noanswer"), Answer(2, 2, "stored"),
                    Answer(3, 1, "stored")]

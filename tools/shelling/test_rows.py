@@ -1,6 +1,8 @@
 """What is typed into tools/shell, and what it prints, by hand from docs/FORMATS.md."""
 from typing import List, Tuple
 
+from reading.rules import MODES
+
 # A line that is typed, and all lines that come of it. The key a has the homes 0, 1 and 2 of five.
 Row = Tuple[str, List[str]]
 
@@ -192,7 +194,7 @@ MISTAKES = [
                            + '".. (5,000 bytes).'),
     ("down 1 2", '"2" is too much; type down NODE.'),
     ("fault 1", "a fault needs a mode; type fault NODE MODE."),
-    ("fault 1 lat", 'there is no mode "lat"; there are none, mute, late, repeat, delay.'),
+    ("fault 1 lat", f'there is no mode "lat"; there are {", ".join(MODES)}.'),
     ("show a 3", 'a node is a number from 0 to 4, and not "a".'),
     ("show 3", "a show needs a key; type show NODE KEY."),
     ("renew now", '"now" is too much; type renew.'),

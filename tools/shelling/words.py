@@ -2,15 +2,14 @@
 import shlex
 from typing import Any, Dict, List, Mapping, NamedTuple, Optional, Tuple
 
-from reading.rules import COMMANDS, MODES
+from reading.rules import COMMANDS, MEMBERS, MODES, NUMBERS
 from reading.texts import shown
 
 # How a typed line names the members that may stand behind those that a command needs.
-OPTIONS = {"context": "behind", "w": "w", "session": "session"}
+OPTIONS = {name: rule.typed for name, rule in MEMBERS.items() if rule.typed}
 # The commands that have no words behind them; the store does the first.
 PLAIN = ("renew", "audit", "new", "quit")
 WORDS = (*COMMANDS, *PLAIN, "help")
-MAX_NUMBERS = {"session": 31, "w": 255}
 DIGITS = "0123456789abcdefABCDEF"
 
 
@@ -49,9 +48,9 @@ def usage_of(word: str) -> str:
         return "help [COMMAND]"
     if word not in COMMANDS:
         return word
-    shapes = {"behind": "[behind CONTEXT]", "w": "[w HOMES]", "session": "[session NUMBER]"}
     needed = [name.upper() for name in needs_of(word)]
-    return " ".join([word, *needed, *(shapes[option] for option in options_of(word))])
+    may = [rule for name, rule in MEMBERS.items() if rule.typed and name in COMMANDS[word].may]
+    return " ".join([word, *needed, *(f"[{rule.typed} {rule.place}]" for rule in may)])
 
 
 def typed(word: str) -> str:
@@ -160,7 +159,7 @@ def optional_in(word: str, words: List[str], key: str, known: Known) -> Dict[str
         if name == "context":
             members[name] = context_of(words, key, known)
         else:
-            members[name] = number_of(words.pop(0), name, MAX_NUMBERS[name])
+            members[name] = number_of(words.pop(0), name, NUMBERS[MEMBERS[name].kind])
     return members
 
 

@@ -4,7 +4,7 @@ use std::fmt;
 
 pub const MAX_NODES: usize = 32;
 pub const MAX_COUNTER: u32 = 1_000_000;
-const MAX_TEXT_DOTS: u64 = 100_000;
+const MAX_CONTEXT_DOTS: u64 = 100_000;
 
 /// The name of one version of a key: the node that made it, and its counter there, from 1.
 #[derive(Clone, Copy, Debug, PartialEq, Eq, PartialOrd, Ord)]
@@ -152,7 +152,7 @@ impl Context {
             .iter()
             .map(|run| u64::from(run.last - run.first) + 1)
             .sum();
-        if dots > MAX_TEXT_DOTS {
+        if dots > MAX_CONTEXT_DOTS {
             return Err(Fault::ContextSyntax);
         }
         Ok(Context { runs })

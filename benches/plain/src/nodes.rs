@@ -15,6 +15,20 @@ pub enum Mode {
     Delay,
 }
 
+impl Mode {
+    /// The mode that a script calls by this word.
+    pub fn of(word: &str) -> Option<Mode> {
+        Some(match word {
+            "none" => Mode::Plain,
+            "mute" => Mode::Mute,
+            "late" => Mode::Late,
+            "repeat" => Mode::Repeat,
+            "delay" => Mode::Delay,
+            _ => return None,
+        })
+    }
+}
+
 /// What is asked of a node.
 #[derive(Clone, Copy)]
 pub enum Ask<'a> {

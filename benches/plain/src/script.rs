@@ -227,7 +227,7 @@ fn command<'a>(value: &Json<'a>, number: usize, nodes: u64) -> Result<Command<'a
         },
         "fault" => Command::SetMode {
             node: node()?,
-            mode: members.get("mode", mode)?,
+            mode: members.get("mode", |value| Mode::of(value.as_text()?))?,
         },
         "show" => Command::Show {
             node: node()?,
@@ -273,15 +273,4 @@ fn value_of<'a>(members: &Members<'_, 'a>) -> Result<Cow<'a, [u8]>, Fault> {
         (None, Some(bytes)) => Ok(Cow::Owned(bytes)),
         _ => Err(members.fault),
     }
-}
-
-fn mode(value: &Json) -> Option<Mode> {
-    Some(match &**value.as_text()? {
-        "none" => Mode::Plain,
-        "mute" => Mode::Mute,
-        "late" => Mode::Late,
-        "repeat" => Mode::Repeat,
-        "delay" => Mode::Delay,
-        _ => return None,
-    })
 }
