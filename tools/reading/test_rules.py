@@ -1,12 +1,9 @@
 """Checks that the schema is as the table has it, and that each tool, the client, the pages and the
 plain program know each command, each mode and each number of it.
 """
-import importlib.machinery
-import importlib.util
 import inspect
 import json
 import re
-from pathlib import Path
 from typing import Any, Dict, Iterator, Tuple
 
 from explaining.refusals import read_meanings
@@ -17,6 +14,7 @@ from replaying.dots import BadText
 
 from shelling.helps import help_of
 from shelling.words import Known, needs_of, read_words
+from testing import TOP, module_of
 
 from . import rules
 from .lines import COMMAND_FORMS, Refused, read_line
@@ -24,7 +22,6 @@ from .rules import COMMANDS, LIMITS, MEMBERS, MODES
 from .schemas import schema_text
 from .scripts import read_script
 
-TOP = Path(__file__).resolve().parents[2]
 SCHEMA = TOP / "docs/script.schema.json"
 HEAD = {"n": 1, "r": 1, "w": 1, "derived": {"nodes": 1, "per_node": 1}}
 END = "end held 0 acked 0 gets 0 steps 0\n"
@@ -51,14 +48,6 @@ SAID = {
         "over {MAX_NODES} nodes, {MAX_TOKENS_PER_NODE} tokens a node",
     ],
 }
-
-
-def module_of(name: str) -> Any:
-    """Returns the program in this file as a module."""
-    loader = importlib.machinery.SourceFileLoader(name, str(TOP / name))
-    module = importlib.util.module_from_spec(importlib.util.spec_from_loader(name, loader))
-    loader.exec_module(module)
-    return module
 
 
 def script_of(word: str, **more: object) -> Dict[str, Any]:
