@@ -23,13 +23,14 @@ class CommandRule(NamedTuple):
 
 
 class Member(NamedTuple):
-    """What a member of a command is: `text`, `digits`, `mode`, or a number of NUMBERS. One that a
-    command may have is typed into the shell behind a word, with a text in this place.
+    """What a member of a command is: `text`, `digits`, `mode`, or a number of NUMBERS. Where it is
+    typed into the shell behind a word: that word, what its place is called, and what help says.
     """
 
     kind: str
     typed: str = ""
     place: str = ""
+    help: Tuple[str, ...] = ()
 
 
 class Mode(NamedTuple):
@@ -90,9 +91,13 @@ MEMBERS: Dict[str, Member] = {
     "key": Member("text"),
     "value": Member("text"),
     "valuehex": Member("digits"),
-    "context": Member("text", "behind", "CONTEXT"),
-    "w": Member("small", "w", "HOMES"),
-    "session": Member("session", "session", "NUMBER"),
+    "context": Member("text", "behind", "CONTEXT", (
+        "behind names the versions that it replaces: a context that a get printed, as n0:1, or",
+        "the word it, the context of the last get of that key. Other versions stay beside it.")),
+    "w": Member("small", "w", "HOMES", (
+        "w is how many homes must have it, in place of the script's number.",)),
+    "session": Member("session", "session", "NUMBER", (
+        "session is the client that asks, 0 to 31; without it, it is 0.",)),
     "node": Member("node"),
     "mode": Member("mode"),
 }

@@ -29,6 +29,7 @@ GIVEN = {"key": "a", "node": 0, "mode": "none"}
 SEED, SEEDED = 1, 1000
 Check = Tuple[str, object, object]
 PLAIN = "benches/plain/src/*.rs"
+OPTION = r'has_flag\(words, "(--[a-z]+)"\)'
 CONSTANT = r"const (MAX_[A-Z_]+): \w+ = ([0-9_]+);"
 # What pages say of the numbers, whole or with the words around it.
 SAID = {
@@ -132,7 +133,7 @@ def text_in(files: str) -> str:
 
 
 def program_checks() -> Iterator[Check]:
-    """Checks the sources of the program and of the plain one: their limits and their words."""
+    """Checks the sources of both programs: their limits and words, and the options of the first."""
     limits = {name: most for name, most in vars(rules).items() if name.startswith("MAX_")}
     for files, readers in ("crates/*/src/*.rt", "crates/dy_script/src/*.rt"), (PLAIN, PLAIN):
         found = {name: int(most) for name, most in re.findall(CONSTANT, text_in(files))}
@@ -141,6 +142,10 @@ def program_checks() -> Iterator[Check]:
         text = text_in(readers)
         lacking = {it for it in (*COMMANDS, *MEMBERS, *MODES) if f'"{it}"' not in text}
         yield f"the words that {readers} lacks", lacking, set()
+    options = set(re.findall(OPTION, text_in("crates/dy_cli/src/*.rt")))
+    for name in ("README.md", "docs/FORMATS.md", "tools/completion.bash", "tools/edges"):
+        page = text_in(name)
+        yield f"the options that {name} lacks", {it for it in options if it not in page}, set()
 
 
 def rule_checks() -> Iterator[Check]:

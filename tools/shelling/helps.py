@@ -1,19 +1,10 @@
 """What help says of each command."""
 from typing import Dict, List
 
-from reading.rules import COMMANDS, MODES
+from reading.rules import COMMANDS, MEMBERS, MODES
 
 from .words import WORDS, usage_of
 
-# What is said of the members that may stand behind.
-MEMBERS = {
-    "context": [
-        "behind names the versions that it replaces: a context that a get printed, as n0:1, or",
-        "the word it, the context of the last get of that key. Other versions stay beside it.",
-    ],
-    "w": ["w is how many homes must have it, in place of the script's number."],
-    "session": ["session is the client that asks, 0 to 31; without it, it is 0."],
-}
 # What the words do that are no commands of a script, and what else is said of a word alone.
 DO = {
     "renew": "closes the cluster, prints its audit, and opens a new one with the values",
@@ -47,8 +38,8 @@ def help_of(topic: str) -> List[str]:
     """Returns what help says of a command, or of all where none is named."""
     if topic:
         may = COMMANDS[topic].may if topic in COMMANDS else ()
-        more = sum((lines for name, lines in MEMBERS.items() if name in may), [])
-        more = [*more, *MORE.get(topic, [])]
+        more = [line for name, it in MEMBERS.items() if name in may for line in it.help]
+        more += MORE.get(topic, [])
         return [usage_of(topic), f"   It {does(topic)}.", *(f"   {line}" for line in more)]
     rows = [(usage_of(word), does(word)) for word in WORDS]
     width = max(len(usage) for usage, _ in rows if len(usage) < 30)
