@@ -116,7 +116,8 @@ def page_checks() -> Iterator[Check]:
     for name in MODES:
         yield f"the mode {name} in docs/FORMATS.md", row_of(formats, f"`{name}`"), True
     for name, limit in LIMITS.items():
-        yield f"the limit {name}", row_of(formats, f"`{name}`", f"1 to {limit.most:,}"), True
+        is_there = row_of(formats, f"`{name}`", f"1 to {limit.most:,}")
+        yield f"the limit {name} in docs/FORMATS.md", is_there, True
     client = (TOP / "clients/python/README.md").read_text(encoding="utf-8")
     for word in COMMANDS:
         yield f"{word} in clients/python/README.md", f"`{word}(" in client, True
