@@ -9,6 +9,8 @@ import time
 import traceback
 from typing import Any, Callable, Dict, List, NamedTuple, Sequence, Type
 
+from testing import Counts
+
 TOP = pathlib.Path(__file__).resolve().parent.parent.parent
 TOKENS = [["20"], ["60"], ["a0"], ["d0"], ["f0"]]
 SCRIPT: Dict[str, Any] = {"n": 3, "r": 2, "w": 2, "tokens": TOKENS}
@@ -25,26 +27,23 @@ class Run(NamedTuple):
     err: bytes
 
 
-class Test:
-    """Counts checks, and keeps the program and a folder for files."""
+class Test(Counts):
+    """Counts checks, and keeps the program and a folder for files. Threads may share it."""
 
     def __init__(self, program: str, folder: str) -> None:
+        super().__init__()
         self.program = program
         self.folder = pathlib.Path(folder)
-        self.passed = self.failed = 0
         self.lock = threading.Lock()
 
-    def check(self, name: str, is_good: bool, said: object = "") -> None:
+    def look(self, name: str, is_good: bool, said: object = "") -> None:
         """Counts a check, and says what was wrong with it."""
         with self.lock:
-            self.passed += is_good
-            self.failed += not is_good
-        if not is_good:
-            print(f"{name}: {str(said)[:LONGEST_SHOWN]}")
+            self.note(is_good, f"{name}: {str(said)[:LONGEST_SHOWN]}")
 
     def same(self, name: str, got: object, wanted: object) -> None:
         """Both must be the same."""
-        self.check(name, got == wanted, f"wanted {short(wanted)}, got {short(got)}")
+        self.look(name, got == wanted, f"wanted {short(wanted)}, got {short(got)}")
 
     def raises(self, name: str, kind: Type[Exception], call: Callable[[], object], /,
                **wanted: object) -> None:
@@ -54,16 +53,16 @@ class Test:
         except kind as error:
             self.same(name, {it: getattr(error, it) for it in wanted}, wanted)
         except Exception as error:  # pylint: disable=broad-except
-            self.check(name, False, f"wanted {kind.__name__}, got {error!r}")
+            self.look(name, False, f"wanted {kind.__name__}, got {error!r}")
         else:
-            self.check(name, False, f"wanted {kind.__name__}, got {short(got)}")
+            self.look(name, False, f"wanted {kind.__name__}, got {short(got)}")
 
     def part(self, of: Callable[["Test"], None]) -> None:
         """Makes the checks of a part; an exception that leaves it is a failure."""
         try:
             of(self)
         except Exception:  # pylint: disable=broad-except
-            self.check(of.__name__, False, traceback.format_exc()[-LONGEST_SHOWN:])
+            self.look(of.__name__, False, traceback.format_exc()[-LONGEST_SHOWN:])
 
     def file(self, script: Dict[str, Any], name: str = "script.json") -> str:
         """Writes the script to a file, and returns where it is."""

@@ -97,7 +97,7 @@ def test_words(test: Test) -> None:
         test.same("a put to one home", store.put("a", "x", w=1).context, "n0:1")
         test.same("a delete at one home", store.delete("a", "n0:1", w=1).context, "n0:2")
         line = "acked 61 n0:1 w 1 covered 0/0"
-        test.check("its own quorum in the audit", line in store.audit().lines, store.audit())
+        test.look("its own quorum in the audit", line in store.audit().lines, store.audit())
     words = {"tokens": None, "derived": (2, 2), "n": 2, "r": 1, "w": 1}
     with store_of(test, **words) as store:
         test.same("a derived ring", store.put("abc", "x").answers,
@@ -172,7 +172,7 @@ def test_steps(test: Test) -> None:
         steps = [line for line in audit.lines if line.startswith("step ")]
         test.same(f"the steps of the {name} cluster", (len(steps), audit.steps), (8, 8))
     told = "told 6 7 session 3"
-    test.check("the fetches of a get", told in new.lines, new)
+    test.look("the fetches of a get", told in new.lines, new)
     test.same("the audit behind them", new.lines[-2:],
               ["acked 61 n0:1 covered 0/0 1/1 2/2", "end held 3 acked 1 gets 1 steps 8"])
 
@@ -180,7 +180,7 @@ def test_steps(test: Test) -> None:
 def test_closing(test: Test) -> None:
     store = store_of(test)
     test.same("an audit of nothing", store.audit().lines, ["end held 0 acked 0 gets 0 steps 0"])
-    test.check("an audit once more", store.audit() is store.audit())
+    test.look("an audit once more", store.audit() is store.audit())
     test.raises("a put after the audit", Ended, lambda: store.put("a", "x"), status=0, error="")
     test.raises("a renewal after it", Ended, store.renew, status=0)
     with store_of(test) as store:
@@ -191,7 +191,7 @@ def test_closing(test: Test) -> None:
             store.put("", "x")
     except Refused as refusal:
         test.same("an exception that leaves the store", refusal.number, 2)
-    test.check("the program then", store.child.poll() is not None)
+    test.look("the program then", store.child.poll() is not None)
     test.raises("a put then", Ended, lambda: store.put("a", "x"))
 
 

@@ -118,7 +118,7 @@ def test_cart(test: Test) -> None:
     test.same("the status and the error of the cart", (done.status, done.err), (0, b""))
     lines = done.out.decode("utf-8").splitlines()
     for line in CART_LINES:
-        test.check(f"the cart prints '{line}'", line in lines, lines)
+        test.look(f"the cart prints '{line}'", line in lines, lines)
 
 
 def test_page(test: Test) -> None:

@@ -175,7 +175,7 @@ def test_command_lines(test: Test) -> None:
     for words in words_of(test):
         done = test.run(words, PUT)
         test.same(f"the words {words[:2]}", (done.status, done.out), (2, b""))
-        test.check(f"the words {words[:2]} are explained", done.err != b"", done)
+        test.look(f"the words {words[:2]} are explained", done.err != b"", done)
     told = f"dynamo: {TOP}: Is a directory (os error 21)\n".encode()
     test.same("a folder", test.run(["serve", str(TOP)], PUT), Run(2, b"", told))
     none = "/nowhere/at/all"

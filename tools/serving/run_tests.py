@@ -94,7 +94,7 @@ def compare_steps(test: Test, name: str, script: Script, whole: Run) -> None:
         test.same(f"{name}: the lines of {kind.strip()}",
                   *([line for line in lines if line.startswith(kind)] for lines in (added, wanted)))
     test.same(f"{name}: the fetches that were told", told_of(added), told_of(wanted))
-    test.check(f"{name}: each told line is below its fetches", are_told_below(added), added)
+    test.look(f"{name}: each told line is below its fetches", are_told_below(added), added)
     head = [it for it in added if it.startswith(("cluster ", "token "))]
     count = len(script.get("run", []))
     order = [*head, *others[:count], *added[len(head):], *others[count:]]
@@ -105,7 +105,7 @@ def compare_steps(test: Test, name: str, script: Script, whole: Run) -> None:
 
 def test_scripts(test: Test) -> None:
     cases = list(scripts())
-    test.check("there are scenes and seeds", len(cases) > SEEDS + 20, len(cases))
+    test.look("there are scenes and seeds", len(cases) > SEEDS + 20, len(cases))
     with ThreadPoolExecutor(max_workers=2) as pool:
         for _ in pool.map(lambda case: compare(test, *case), cases):
             pass
