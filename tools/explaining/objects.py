@@ -2,8 +2,8 @@
 from typing import Any, Dict, Iterable, List, Optional, Sequence
 
 from reading.lines import (
-    COMMAND_FORMS, STEP_FORMS, Ack, Acked, Answer, Cluster, End, Form, Got, Held, Issue, Place,
-    Refusal, Refused, Said, Settled, Shown, StepForm, Token, Told, Written,
+    COMMAND_FORMS, STEP_FORMS, Ack, Acked, Answer, Form, Got, Held, Issue, Listed, Place, Refusal,
+    Refused, Said, Shown, StepForm, Told, Written,
 )
 from reading.rules import AT_NODE, OF_KEY, OF_MODE, OF_SESSION, WRITES
 from reading.scripts import Command
@@ -54,6 +54,15 @@ def refusal_in(refusal: Optional[Refusal], run: Run) -> Object:
     return {"refusal": {**numbered, **said}}
 
 
+def values_in(form: Form) -> Object:
+    """Returns what a line says behind its number and its word, by the names of its form."""
+    found: Object = {}
+    for name, value in form._asdict().items():
+        if name not in ("number", "word"):
+            found.update(bytes_in(name, value) if isinstance(value, bytes) else {name: value})
+    return found
+
+
 def command_in(command: Command) -> Object:
     """Returns what the script has of the command."""
     found: Object = {"do": command.word}
@@ -84,7 +93,7 @@ def outcome_in(line: Line, run: Run) -> Object:
         answers = answers_in(form.answers) if form.answers else {}
         wanted = {"wanted": wanted_by(line, run)} if form.answers else {}
         return {**refusal_in(form.refusal, run), "dot": form.dot, **wanted, **answers}
-    return {name: it for name, it in form._asdict().items() if name not in ("number", "word")}
+    return values_in(form)
 
 
 def got_in(form: Got, line: Line, run: Run) -> Object:
@@ -99,7 +108,7 @@ def got_in(form: Got, line: Line, run: Run) -> Object:
 
 
 def audit_in(line: Line, run: Run) -> Object:
-    """Returns a line of the audit, of standard error, or of a ring."""
+    """Returns a line that is of no command and no step."""
     form = line.form
     if isinstance(form, Held):
         held = {**bytes_in("key", form.key), "dots": form.dots, "count": count_of(form.dots)}
@@ -109,18 +118,13 @@ def audit_in(line: Line, run: Run) -> Object:
         acked = {**bytes_in("key", form.key), "dot": form.dot, "command": maker}
         w = run.script.w if form.w is None else form.w
         return {"kind": "acked", **acked, "wanted": w, "places": places_in(form.places)}
-    if isinstance(form, Settled):
-        return {"kind": "settled", **bytes_in("key", form.key)}
-    if isinstance(form, End):
-        sums = {"held": form.held, "acked": form.acked, "gets": form.gets, "steps": form.steps}
-        return {"kind": "end", **sums}
     if isinstance(form, Said):
         return {"kind": "said", "text": form.text, **refusal_in(form.refusal, run)}
-    if isinstance(form, Token):
-        return {"kind": "token", "position": form.position, "node": form.node}
-    n = run.script.n or 0
-    nodes = {"homes": form.nodes[:n], "stand_ins": form.nodes[n:]}
-    return {"kind": "key", **bytes_in("key", form.key), "position": form.position, **nodes}
+    if isinstance(form, Listed):
+        n = run.script.n or 0
+        nodes = {"homes": form.nodes[:n], "stand_ins": form.nodes[n:]}
+        return {"kind": "key", **bytes_in("key", form.key), "position": form.position, **nodes}
+    return {"kind": type(form).__name__.lower(), **values_in(form)}
 
 
 def step_in(form: StepForm, number: int) -> Object:
@@ -139,14 +143,12 @@ def step_in(form: StepForm, number: int) -> Object:
 
 
 def below_in(form: Form, number: int) -> Optional[Object]:
-    """Returns a line that only an output with steps has, or None where it is another."""
+    """Returns a step, or the fetches that a session is told of, or None where it is another."""
     if isinstance(form, STEP_FORMS):
         return step_in(form, number)
     if isinstance(form, Told):
         numbers = {"numbers": form.numbers, "session": form.session}
         return {"kind": "told", "command": number, **numbers}
-    if isinstance(form, Cluster):
-        return {"kind": "cluster", "n": form.n, "r": form.r, "w": form.w}
     return None
 
 
