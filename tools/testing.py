@@ -1,10 +1,12 @@
-"""What the tests of the tools share: counts of their checks, and tools as modules."""
+"""What the tests of the tools share: counts of checks, tools as modules, scenes, seeded scripts."""
 import importlib.machinery
 import importlib.util
 from pathlib import Path
 from types import ModuleType
+from typing import List, NamedTuple
 
 TOP = Path(__file__).resolve().parent.parent
+COMMANDS = 60
 
 
 class Counts:
@@ -36,3 +38,39 @@ def module_of(name: str) -> ModuleType:
     module = importlib.util.module_from_spec(importlib.util.spec_from_loader(loader.name, loader))
     loader.exec_module(module)
     return module
+
+
+class Scene(NamedTuple):
+    """A scene of examples/: what `dynamo` does with its script, and how that ends."""
+
+    word: str
+    status: int
+    name: str
+    error: str
+
+    @property
+    def script(self) -> Path:
+        """The file of its script."""
+        return TOP / f"examples/scripts/{self.name}.json"
+
+    @property
+    def output(self) -> str:
+        """What is printed of it."""
+        return self.script.with_name(f"{self.name}.json.stdout").read_text(encoding="utf-8")
+
+
+def scenes() -> List[Scene]:
+    """Returns the scenes of examples/scenes.txt."""
+    rows = (TOP / "examples/scenes.txt").read_text(encoding="utf-8").splitlines()
+    found = (row.split(" ", 3) for row in rows)
+    return [Scene(word, int(status), name, "".join(error)) for word, status, name, *error in found]
+
+
+def runs() -> List[Scene]:
+    """Returns the scenes that are runs and end well."""
+    return [scene for scene in scenes() if (scene.word, scene.status) == ("run", 0)]
+
+
+def seeded(seed: int) -> str:
+    """Returns the script of a seed, of so many commands as all tests have."""
+    return module_of("tools/scripts").text_of(seed, COMMANDS)

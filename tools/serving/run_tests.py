@@ -1,35 +1,25 @@
 """The same commands as lines of `serve` and as the script of a `run`: the same lines, and steps."""
 import json
 import re
-import subprocess
-import sys
 from concurrent.futures import ThreadPoolExecutor
 from typing import Any, Dict, Iterator, List, Set, Tuple
 
 from serving.checks import SCRIPT, TOP, Run, Test, line_of
+from testing import runs, scenes, seeded
 
 SCRIPTS = TOP / "examples/scripts"
-SEEDS, COMMANDS = 10, 60
+SEEDS = 10
 ADDED = re.compile("(cluster|token|step|told) ")
 RENEW = {"do": "renew"}
 Script = Dict[str, Any]
 
 
-def rows() -> List[List[str]]:
-    """The rows of examples/scenes.txt: word, status, name and, where there is one, the error."""
-    text = (TOP / "examples/scenes.txt").read_text(encoding="utf-8")
-    return [line.split(" ", 3) for line in text.splitlines()]
-
-
 def scripts() -> Iterator[Tuple[str, Script]]:
     """Each scene that runs to its end, and the seeded scripts."""
-    for word, status, name, *_ in rows():
-        if (word, status) == ("run", "0"):
-            yield name, json.loads((SCRIPTS / f"{name}.json").read_text(encoding="utf-8"))
+    for scene in runs():
+        yield scene.name, json.loads(scene.script.read_text(encoding="utf-8"))
     for seed in range(1, SEEDS + 1):
-        words = [sys.executable, str(TOP / "tools/scripts"), str(seed), str(COMMANDS)]
-        text = subprocess.run(words, stdout=subprocess.PIPE, check=True).stdout
-        yield f"seed {seed}", json.loads(text)
+        yield f"seed {seed}", json.loads(seeded(seed))
 
 
 def served(test: Test, name: str, script: Script, first: int, *flags: str) -> Run:
@@ -113,10 +103,10 @@ def test_scripts(test: Test) -> None:
 
 def test_refused_scripts(test: Test) -> None:
     """A script that `run` refuses is refused by `serve`, and no line is read."""
-    for word, status, name, *error in rows():
-        if (word, status) == ("run", "2"):
-            done = test.run(["serve", str(SCRIPTS / f"{name}.json")], line_of(RENEW))
-            test.same(f"{name}: served", done, Run(2, b"", f"{error[0]}\n".encode()))
+    for scene in scenes():
+        if (scene.word, scene.status) == ("run", 2):
+            done = test.run(["serve", str(scene.script)], line_of(RENEW))
+            test.same(f"{scene.name}: served", done, Run(2, b"", f"{scene.error}\n".encode()))
     put = {"do": "put", "key": "a", "value": "x"}
     for commands, number in (([RENEW], 1), ([put, RENEW], 2)):
         file = test.file({**SCRIPT, "run": commands})
