@@ -2,9 +2,11 @@
 import math
 from typing import Any, Dict, List, Tuple
 
+from reading.texts import counted
+
 from . import svg
 from .rings import SPAN, Key, keys_of, ring_of
-from .svg import FAINT, INK, MARGIN, RULE, WIDTH, counted
+from .svg import FAINT, INK, MARGIN, RULE, WIDTH
 
 MIDDLE, RADIUS, BAND = WIDTH / 2, 172, 24
 LABELLED_TOKENS, TRACED_KEYS, NAMED_KEYS, MOST_KEYS = 40, 6, 12, 40

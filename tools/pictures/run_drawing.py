@@ -2,11 +2,13 @@
 from dataclasses import dataclass, field
 from typing import Any, Dict, List, Tuple
 
+from reading.texts import counted
+
 from . import marks, svg
 from .marks import MARKS, Mark
 from .run_words import end_words, words_of
 from .runs import Event, Run, run_of
-from .svg import ALARM, FAINT, INK, MARGIN, WIDTH, counted
+from .svg import ALARM, FAINT, INK, MARGIN, WIDTH
 
 OUTAGE = "#c8c8c8"
 LEAST_WORDS, MOST_LANE, TOP = 222, 84, 118

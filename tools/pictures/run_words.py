@@ -4,9 +4,10 @@ from typing import Callable, Dict, Tuple
 from reading.lines import COMMAND_FORMS, Delivered, Got, Passed, Refused, Shown, Written
 from reading.rules import AT_NODE, COMMANDS, OF_KEY, WRITES
 from reading.scripts import Command
+from reading.texts import counted
 
 from .runs import Event, Run
-from .svg import counted, shown
+from .svg import shown
 
 
 def words_of(event: Event) -> Tuple[str, str]:

@@ -79,11 +79,6 @@ def shown(data: bytes) -> str:
     return words if is_plain else "0x" + data.hex()
 
 
-def counted(count: int, noun: str) -> str:
-    """The number with its noun, as `1 node` and `2 nodes`."""
-    return f"{count} {noun}" if count == 1 else f"{count:,} {noun}s"
-
-
 def figure(number: Number) -> str:
     """A coordinate with two digits behind the point at most."""
     words = f"{number:.2f}".rstrip("0").rstrip(".")
