@@ -5,7 +5,7 @@ All of it is by hand, from docs/FORMATS.md. What a refusal means is read from do
 import pathlib
 from typing import Any, Dict, List, Tuple
 
-from reading.rules import MAX_VALUE_BYTES
+from reading.rules import MAX_KEY_BYTES, MAX_VALUE_BYTES
 
 PAGE = pathlib.Path(__file__).resolve().parent.parent.parent / "docs/REFUSALS.md"
 TOKENS = [["20"], ["60"], ["a0"], ["d0"], ["f0"]]
@@ -205,7 +205,8 @@ PLAYED: List[Row] = [
     ("E1", {}, [put("x", context="n0:1,2")], ["1 put E1 ContextSyntax", NOTHING],
      [meant("E1 ContextSyntax")]),
     (
-        "E2", {}, [put("x", key=""), {"do": "get", "key": "k" * 65}, at("show", 0, key="")],
+        "E2", {},
+        [put("x", key=""), {"do": "get", "key": "k" * (MAX_KEY_BYTES + 1)}, at("show", 0, key="")],
         ["1 put E2 KeySize", "2 get E2 KeySize", "3 show E2 KeySize", NOTHING],
         [meant("E2 KeySize")] * 3,
     ),

@@ -3,11 +3,14 @@ from typing import Any, Callable, Dict, List, NamedTuple, Optional
 
 from meldakwi import Answer, Ended, Refused, Store
 
+from reading.rules import MAX_KEY_BYTES, MAX_VALUE_BYTES
 from serving.checks import TOKENS, Test
 
 DOWN = [Answer(1, 1, "down"), Answer(2, 2, "down"), Answer(3, 1, "down"), Answer(4, 2, "down")]
 ALL_BUT_HOME = [1, 2, 3, 4]
 ALL = [0, 1, 2, 3, 4]
+# More bytes than there may be, though not more characters.
+LONG_KEY, LONG_VALUE = "é" * (MAX_KEY_BYTES // 2 + 1), "é" * (MAX_VALUE_BYTES // 2 + 1)
 
 
 class Case(NamedTuple):
@@ -42,11 +45,11 @@ CASES = [
     Case(1, "ContextSyntax", lambda it: it.delete("a", "n0"), "delete E1 ContextSyntax"),
     Case(1, "ContextSyntax", lambda it: put(it, ""), "put E1 ContextSyntax"),
     Case(2, "KeySize", lambda it: it.get(""), "get E2 KeySize"),
-    Case(2, "KeySize", lambda it: it.put("é" * 33, "x"), "put E2 KeySize"),
-    Case(2, "KeySize", lambda it: it.delete(b"a" * 65), "delete E2 KeySize"),
+    Case(2, "KeySize", lambda it: it.put(LONG_KEY, "x"), "put E2 KeySize"),
+    Case(2, "KeySize", lambda it: it.delete(b"a" * (MAX_KEY_BYTES + 1)), "delete E2 KeySize"),
     Case(2, "KeySize", lambda it: it.show(0, ""), "show E2 KeySize"),
-    Case(3, "ValueSize", lambda it: it.put("a", b"\xff" * 4097), "put E3 ValueSize"),
-    Case(3, "ValueSize", lambda it: it.put("a", "é" * 2049), "put E3 ValueSize"),
+    Case(3, "ValueSize", lambda it: it.put("a", bytes(MAX_VALUE_BYTES + 1)), "put E3 ValueSize"),
+    Case(3, "ValueSize", lambda it: it.put("a", LONG_VALUE), "put E3 ValueSize"),
     Case(7, "CounterFull", put, "put E7 CounterFull", limits(counter=1), puts=1),
     Case(8, "ContextUnknown", lambda it: put(it, "n2:7-8"), "put E8 ContextUnknown n2:7"),
     Case(9, "VersionsFull", put, "put E9 VersionsFull", limits(versions=2), puts=2),
