@@ -60,10 +60,14 @@ class Scene(NamedTuple):
 
 
 def scenes() -> List[Scene]:
-    """Returns the scenes of examples/scenes.txt."""
+    """Returns the scenes; each is a run that ends well, but for those of examples/scenes.txt."""
     rows = (TOP / "examples/scenes.txt").read_text(encoding="utf-8").splitlines()
-    found = (row.split(" ", 3) for row in rows)
-    return [Scene(word, int(status), name, "".join(error)) for word, status, name, *error in found]
+    others = (row.split(" ", 3) for row in rows)
+    found = {path.stem: Scene("run", 0, path.stem, "")
+             for path in sorted((TOP / "examples/scripts").glob("*.json"))}
+    found.update((name, Scene(word, int(status), name, "".join(error)))
+                 for name, word, status, *error in others)
+    return list(found.values())
 
 
 def runs() -> List[Scene]:

@@ -14,7 +14,7 @@ from replaying.dots import BadText
 
 from shelling.helps import help_of
 from shelling.words import Known, needs_of, read_words
-from testing import TOP, module_of
+from testing import TOP, module_of, scenes
 
 from . import rules
 from .lines import COMMAND_FORMS, Refused, read_line
@@ -64,6 +64,11 @@ def text_of(script: Dict[str, Any], output: str) -> str:
     return "\n".join([*telling.complaints, *telling.lines, drawn_run(script, output)])
 
 
+def text_in(files: str) -> str:
+    """Returns what these files have, one behind the other."""
+    return "".join(path.read_text(encoding="utf-8") for path in sorted(TOP.glob(files)))
+
+
 def row_of(page: str, *cells: str) -> bool:
     """Tells whether the page has a row of a table that begins with these cells."""
     return f"\n| {' | '.join(cells)} |" in page
@@ -108,7 +113,7 @@ def mode_checks() -> Iterator[Check]:
 
 def page_checks() -> Iterator[Check]:
     """Checks that pages have each row of the table, and each of its numbers."""
-    formats = (TOP / "docs/FORMATS.md").read_text(encoding="utf-8")
+    formats, client = text_in("docs/FORMATS.md"), text_in("clients/python/README.md")
     _, commands, _ = re.split(r"^### Commands$|^### Rings of a script$", formats, flags=re.M)
     told = set(re.findall(r"`(\w+)`", "".join(re.findall(r"^\| (.*?) \|", commands, re.M))))
     others = told ^ {"do", *COMMANDS, *MEMBERS}
@@ -118,19 +123,13 @@ def page_checks() -> Iterator[Check]:
     for name, limit in LIMITS.items():
         is_there = row_of(formats, f"`{name}`", f"1 to {limit.most:,}")
         yield f"the limit {name} in docs/FORMATS.md", is_there, True
-    client = (TOP / "clients/python/README.md").read_text(encoding="utf-8")
+    told = set(re.findall(r"`(\w+)`", text_in("examples/README.md")))
+    yield "the scenes that examples/README.md lacks", {it.name for it in scenes()} - told, set()
     for word in COMMANDS:
         yield f"{word} in clients/python/README.md", f"`{word}(" in client, True
     for name, texts in SAID.items():
-        page = (TOP / name).read_text(encoding="utf-8")
-        for text in texts:
-            wanted = text.format(**vars(rules))
-            yield f"'{wanted}' in {name}", wanted in page, True
-
-
-def text_in(files: str) -> str:
-    """Returns what these files have, one behind the other."""
-    return "".join(path.read_text(encoding="utf-8") for path in sorted(TOP.glob(files)))
+        for wanted in (text.format(**vars(rules)) for text in texts):
+            yield f"'{wanted}' in {name}", wanted in text_in(name), True
 
 
 def program_checks() -> Iterator[Check]:
@@ -156,11 +155,10 @@ def rule_checks() -> Iterator[Check]:
     seeded = json.loads(module_of("tools/scripts").text_of(SEED, SEEDED))["run"]
     yield "the commands that no seed has", words - {it["do"] for it in seeded}, set()
     yield "the modes that no seed has", modes - {it.get("mode") for it in seeded}, set()
-    lines = [read_line(line) for path in (TOP / "examples").glob("**/*.stdout")
-             for line in path.read_text(encoding="utf-8").splitlines()]
+    lines = [read_line(line) for scene in scenes() for line in scene.output.splitlines()]
     told = [it for it in lines if isinstance(it, COMMAND_FORMS) and not isinstance(it, Refused)]
     yield "the commands that no scene has done", words - {it.word for it in told}, set()
-    scripts = [read_script(path.read_bytes()) for path in (TOP / "examples/scripts").glob("*.json")]
+    scripts = [read_script(scene.script.read_bytes()) for scene in scenes()]
     set_modes = {it.mode for script in scripts for it in script.commands if it and it.mode}
     yield "the modes that no scene sets", modes - set_modes, set()
     client = module_of("clients/python/meldakwi.py")
