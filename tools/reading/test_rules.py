@@ -1,5 +1,5 @@
-"""Checks that the schema is as the table has it, and that each tool, the client, the pages and the
-plain program know each command, each mode and each number of it.
+"""Checks that the schema is as the table has it, and that the tools, the client, the pages, the
+scenes and the sources of both programs know each command, member, mode, number and option.
 """
 import inspect
 import json
@@ -11,7 +11,6 @@ from explaining.tellings import tell
 from pictures.run_drawing import drawn_run
 from replaying import forms as replaying
 from replaying.dots import BadText
-
 from shelling.helps import help_of
 from shelling.words import Known, needs_of, read_words
 from testing import TOP, module_of, scenes
