@@ -1,6 +1,7 @@
 -- What the words of a command line say.
 use Rattle.std.specs.Prelude.{◌≡◌, ◌≢◌, ◌<◌, ◌↔◌, ℕ, List, [], Some, IsTrue, codes, length}
-use Rattle.std.specs.Prelude.{get_or, slice_get}
+use Rattle.std.specs.Prelude.{get_or, slice_get, string_bytes}
+use Rattle.std.specs.List.{Contains}
 use Rattle.std.specs.Str.Parse.{IsNumeral, digits_value}
 use Rattle.dy_storm.specs.declared.plans.Storm.{Storm}
 use Rattle.dy_cli.specs.declared.jobs.Job.{Job}
@@ -35,10 +36,18 @@ pub record IsStormOf (words : List (List ℕ)) (storm : Storm) : Type 0 where
   pub faults : IsTrue storm.faults ↔ HasFlag words (codes "--faults")
   pub steps : IsTrue storm.steps ↔ HasFlag words (codes "--steps")
 
--- the words say this job, as far as that is known: a run or a service with the steps where they
--- have this flag, and a storm
+-- a job of this name, and its file, are among the words
+abbrev pub AreNamed : List (List ℕ) → List ℕ → List ℕ → Type 0
+AreNamed words name file = Contains words name × Contains words file
+
+-- the words name this job, and its file or its numbers; a run and a service have the steps exactly
+-- where the words have this flag
 abbrev pub IsJobOf : List (List ℕ) → Job → Type 0
-IsJobOf words (job.Run file with_steps) = IsTrue with_steps ↔ HasFlag words (codes "--steps")
-IsJobOf words (job.Serve file with_steps) = IsTrue with_steps ↔ HasFlag words (codes "--steps")
-IsJobOf words (job.Ring file) = Unit {0}
-IsJobOf words (job.Storm storm) = IsStormOf words storm
+IsJobOf words (job.Run file with_steps) =
+    AreNamed words (codes "run") (string_bytes file)
+    × (IsTrue with_steps ↔ HasFlag words (codes "--steps"))
+IsJobOf words (job.Serve file with_steps) =
+    AreNamed words (codes "serve") (string_bytes file)
+    × (IsTrue with_steps ↔ HasFlag words (codes "--steps"))
+IsJobOf words (job.Ring file) = AreNamed words (codes "ring") (string_bytes file)
+IsJobOf words (job.Storm storm) = Contains words (codes "storm") × IsStormOf words storm

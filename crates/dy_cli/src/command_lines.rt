@@ -1,9 +1,9 @@
 ghost use Rattle.std.specs.Prelude.{◌≡◌, ◌≢◌, ◌≤◌, ◌⊎◌, IfErr, IfOk, IfSome, map, string_bytes};
 ghost use Rattle.clap.specs.Values.{kind_of};
-ghost use Rattle.dy_cli.specs.Words.{IsJobOf};
+ghost use Rattle.dy_cli.specs.Words.{AreNamed, IsJobOf};
 
 use crate::jobs::Job;
-use crate::numbers::{has_flag, storm_of};
+use crate::numbers::{has_flag, has_word, storm_of};
 use clap::error::ErrorKind;
 use clap::{Arg, ArgAction, ArgMatches, Command, Error};
 use std::alloc::{AllocError, Global};
@@ -88,17 +88,48 @@ fn job_of(alloc: Global, words: &[String], matches: &ArgMatches) -> Result<Optio
     Ok(match name {
         "run" => run_of(words, file_of(alloc, inner)?),
         "serve" => serve_of(words, file_of(alloc, inner)?),
-        "ring" => file_of(alloc, inner)?.map(|file| Job::Ring(file)),
-        "storm" => storm_of(words).map(|plan| Job::Storm(plan)),
+        "ring" => ring_of(words, file_of(alloc, inner)?),
+        "storm" => storm_job_of(words),
         _ => None,
     })
+}
+
+/// The file, where it and the name of the job are among the words.
+fn named(words: &[String], name: &str, file: Option<String>) -> Option<String>
+    ensures { IfSome result
+        (λ file. AreNamed (map string_bytes words.now) name.now (string_bytes file)) }
+{
+    match file {
+        Some(file) if has_word(words, name) && has_word(words, file.as_str()) => Some(file),
+        _ => None,
+    }
+}
+
+/// The ring of this file.
+fn ring_of(words: &[String], file: Option<String>) -> Option<Job>
+    ensures { IfSome result (IsJobOf (map string_bytes words.now)) }
+{
+    match named(words, "ring", file) {
+        Some(file) => Some(Job::Ring(file)),
+        None => None,
+    }
+}
+
+/// The storm that the words say.
+fn storm_job_of(words: &[String]) -> Option<Job>
+    ensures { IfSome result (IsJobOf (map string_bytes words.now)) }
+{
+    match storm_of(words) {
+        Some(storm) if has_word(words, "storm") => Some(Job::Storm(storm)),
+        _ => None,
+    }
 }
 
 /// The run of this file, with the steps where the words have their flag.
 fn run_of(words: &[String], file: Option<String>) -> Option<Job>
     ensures { IfSome result (IsJobOf (map string_bytes words.now)) }
 {
-    match file {
+    match named(words, "run", file) {
         Some(file) => Some(Job::Run {
             file,
             with_steps: has_flag(words, "--steps"),
@@ -112,7 +143,7 @@ fn run_of(words: &[String], file: Option<String>) -> Option<Job>
 fn serve_of(words: &[String], file: Option<String>) -> Option<Job>
     ensures { IfSome result (IsJobOf (map string_bytes words.now)) }
 {
-    match file {
+    match named(words, "serve", file) {
         Some(file) if file.as_str() == "-" => None,
         Some(file) => Some(Job::Serve {
             file,
@@ -134,11 +165,11 @@ fn file_of(alloc: Global, matches: &ArgMatches) -> Result<Option<String>, AllocE
 fn matches_of<'a>(alloc: Global, words: &'a [String]) -> Result<ArgMatches<'a>, Error> {
     let run = Command::new(alloc, "run")
         .about("Runs a script, prints a line for each command, and then the audit")
-        .arg(file_arg(alloc))?
+        .arg(script_arg(alloc))?
         .arg(steps_arg(alloc))?;
     let ring = Command::new(alloc, "ring")
         .about("Prints the ring of a script, and the preference lists of its keys")
-        .arg(file_arg(alloc))?;
+        .arg(script_arg(alloc))?;
     let serve = Command::new(alloc, "serve")
         .about("Does a script, and then each line of standard input as a command, and answers each")
         .arg(file_arg(alloc))?
@@ -163,7 +194,12 @@ fn file_arg<'a>(alloc: Global) -> Arg<'a> {
     Arg::new(alloc, "file")
         .required(true)
         .value_name("FILE")
-        .help("A script, as docs/FORMATS.md describes it; - is standard input")
+        .help("A script, as docs/FORMATS.md describes it")
+}
+
+/// The same, where the script may stand in the input.
+fn script_arg<'a>(alloc: Global) -> Arg<'a> {
+    file_arg(alloc).help("A script, as docs/FORMATS.md describes it; - is standard input")
 }
 
 /// The flag that has each step told.

@@ -1,6 +1,7 @@
 // The numbers and the flags that words of a command line say.
 ghost use Rattle.std.specs.Prelude.{◌≡◌, ◌<◌, ◌≤◌, ◌↔◌, ◌^◌, IfSome, IsSome, IsTrue, codes, map};
 ghost use Rattle.std.specs.Prelude.{string_bytes};
+ghost use Rattle.std.specs.List.{Contains};
 ghost use Rattle.std.specs.Str.Parse.{IsNumeral, digits_value};
 ghost use Rattle.dy_cli.specs.Words.{HasFlag, IsNumberWord, IsStormOf, SaysAt};
 
@@ -32,6 +33,18 @@ pub(crate) fn has_flag(words: &[String], flag: &str) -> bool
         }
         if is_dashes(word.as_str()) {
             return false;
+        }
+    }
+    false
+}
+
+/// Whether the word is one of the words.
+pub(crate) fn has_word(words: &[String], wanted: &str) -> bool
+    ensures { IsTrue result → Contains (map string_bytes words.now) wanted.now }
+{
+    for word in words {
+        if is_same(word.as_str(), wanted) {
+            return true;
         }
     }
     false
