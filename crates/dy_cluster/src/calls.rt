@@ -11,6 +11,7 @@ ghost use Rattle.dy_repair.specs.Repairs.{IsRepaired};
 ghost use Rattle.dy_cluster.specs.Lists.{list_of};
 
 use crate::clusters::Cluster;
+use crate::kept_lists::KeptLists;
 use dy_coord::{GetDone, GetFault, PutDone, PutFault};
 use dy_dots::{Context, Fault};
 use dy_preference::{Preference, preference};
@@ -74,8 +75,67 @@ impl<J: Naming> Cluster<J> {
         ensures room { (T.told transport.new).room ≡ (T.told transport.old).room }
     {
         let list = self.list(key);
+        self.put_listed(rt, transport, &list, w, session, key, context, value)
+    }
+
+    // The same, by the list that is kept of the key, or by one that is kept then.
+    pub(crate) fn put_kept<T: Transport<J>, R: Wait>(
+        &self,
+        rt: &R,
+        transport: &mut T,
+        lists: &mut KeptLists<J>,
+        w: u8,
+        session: &mut SessionShare<J>,
+        key: &Key,
+        context: &Context,
+        value: Option<Value>,
+    ) -> Result<PutDone<J>, PutFault>
+        requires fresh_tries { (T.told transport.old).tries ≡ [] }
+        requires fresh_asks { (T.told transport.old).asks ≡ [] }
+        requires fresh_replies { (T.told transport.old).replies ≡ [] }
+        requires room { MAX_NODES ≤ (T.told transport.old).room }
+        ensures ends { PutEnds {J = J} (list_of J.ring J.n key.now) w key.now context.now value
+            session.old session.new (T.told transport.old) (T.told transport.new) result }
+        ensures ok { IfOk result (IsPutDone session.old session.new key.now w) }
+        ensures err { OnErr result (session.new ≡ session.old) }
+        ensures room { (T.told transport.new).room ≡ (T.told transport.old).room }
+    {
+        match lists.find(key) {
+            Some(list) => self.put_listed(rt, transport, list, w, session, key, context, value),
+            None => {
+                let list = self.list(key);
+                let done = self.put_listed(rt, transport, &list, w, session, key, context, value);
+                lists.keep(self.alloc, key, list);
+                done
+            }
+        }
+    }
+
+    // The same, by the key's list.
+    fn put_listed<T: Transport<J>, R: Wait>(
+        &self,
+        rt: &R,
+        transport: &mut T,
+        list: &Preference,
+        w: u8,
+        session: &mut SessionShare<J>,
+        key: &Key,
+        context: &Context,
+        value: Option<Value>,
+    ) -> Result<PutDone<J>, PutFault>
+        requires list { list.now ≡ list_of J.ring J.n key.now }
+        requires fresh_tries { (T.told transport.old).tries ≡ [] }
+        requires fresh_asks { (T.told transport.old).asks ≡ [] }
+        requires fresh_replies { (T.told transport.old).replies ≡ [] }
+        requires room { MAX_NODES ≤ (T.told transport.old).room }
+        ensures ends { PutEnds {J = J} (list_of J.ring J.n key.now) w key.now context.now value
+            session.old session.new (T.told transport.old) (T.told transport.new) result }
+        ensures ok { IfOk result (IsPutDone session.old session.new key.now w) }
+        ensures err { OnErr result (session.new ≡ session.old) }
+        ensures room { (T.told transport.new).room ≡ (T.told transport.old).room }
+    {
         dy_coord::put(
-            rt, self.alloc, transport, &list, w, session, key, context, value,
+            rt, self.alloc, transport, list, w, session, key, context, value,
         )
     }
 
@@ -124,8 +184,67 @@ impl<J: Naming> Cluster<J> {
             (since_of session.old) (T.told transport.new) e) }
     {
         let list = self.list(key);
+        self.get_listed(rt, transport, &list, session, key)
+    }
+
+    // The same, by the list that is kept of the key, or by one that is kept then.
+    pub(crate) fn get_kept<T: Transport<J>, R: Wait>(
+        &self,
+        rt: &R,
+        transport: &mut T,
+        lists: &mut KeptLists<J>,
+        session: &mut SessionShare<J>,
+        key: &Key,
+    ) -> Result<GetDone<J>, GetFault>
+        requires fresh_tries { (T.told transport.old).tries ≡ [] }
+        requires fresh_asks { (T.told transport.old).asks ≡ [] }
+        requires fresh_replies { (T.told transport.old).replies ≡ [] }
+        requires room { MAX_NODES ≤ (T.told transport.old).room }
+        ensures ok { IfOk result (λ done. IsGot (list_of J.ring J.n key.now) key.now J.r
+            (since_of session.old) (T.told transport.new) done) }
+        ensures told { IfOk result (λ done. session.new ≡
+            with_get session.old (since_of session.old) (first_answers done.seen.items)) }
+        ensures err { OnErr result (session.new ≡ session.old) }
+        ensures room { (T.told transport.new).room ≡ (T.told transport.old).room }
+        ensures refused { IfErr result (λ e. IsGetRefused (list_of J.ring J.n key.now) key.now J.r
+            (since_of session.old) (T.told transport.new) e) }
+    {
+        match lists.find(key) {
+            Some(list) => self.get_listed(rt, transport, list, session, key),
+            None => {
+                let list = self.list(key);
+                let done = self.get_listed(rt, transport, &list, session, key);
+                lists.keep(self.alloc, key, list);
+                done
+            }
+        }
+    }
+
+    // The same, by the key's list.
+    fn get_listed<T: Transport<J>, R: Wait>(
+        &self,
+        rt: &R,
+        transport: &mut T,
+        list: &Preference,
+        session: &mut SessionShare<J>,
+        key: &Key,
+    ) -> Result<GetDone<J>, GetFault>
+        requires list { list.now ≡ list_of J.ring J.n key.now }
+        requires fresh_tries { (T.told transport.old).tries ≡ [] }
+        requires fresh_asks { (T.told transport.old).asks ≡ [] }
+        requires fresh_replies { (T.told transport.old).replies ≡ [] }
+        requires room { MAX_NODES ≤ (T.told transport.old).room }
+        ensures ok { IfOk result (λ done. IsGot (list_of J.ring J.n key.now) key.now J.r
+            (since_of session.old) (T.told transport.new) done) }
+        ensures told { IfOk result (λ done. session.new ≡
+            with_get session.old (since_of session.old) (first_answers done.seen.items)) }
+        ensures err { OnErr result (session.new ≡ session.old) }
+        ensures room { (T.told transport.new).room ≡ (T.told transport.old).room }
+        ensures refused { IfErr result (λ e. IsGetRefused (list_of J.ring J.n key.now) key.now J.r
+            (since_of session.old) (T.told transport.new) e) }
+    {
         let r = self.options.r;
-        dy_coord::get(rt, self.alloc, transport, &list, r, session, key)
+        dy_coord::get(rt, self.alloc, transport, list, r, session, key)
     }
 
     /// Repairs: asks each home that gave a stale answer to store this row, over a transport of this
@@ -149,5 +268,31 @@ impl<J: Naming> Cluster<J> {
     {
         let list = self.list(row.key());
         dy_repair::repair(rt, self.alloc, transport, seens, row, &list)
+    }
+
+    // The same, by the list that is kept of the key. What a get found stale is repaired behind it,
+    // so its list is mostly kept, and else none is kept.
+    pub(crate) fn repair_kept<T: Transport<J>, R: Wait>(
+        &self,
+        rt: &R,
+        transport: &mut T,
+        lists: &KeptLists<J>,
+        seens: &[Seen<J>],
+        row: &Row,
+    ) -> Result<(), Fault>
+        requires fresh_asks { (T.told transport.old).asks ≡ [] }
+        requires fresh_replies { (T.told transport.old).replies ≡ [] }
+        requires room { MAX_NODES ≤ (T.told transport.old).room }
+        ensures ok { IfOk result (λ _. IsRepaired (homes_in (list_of J.ring J.n row.now.key))
+            row.now seens.now (T.told transport.new)) }
+        ensures err { IfErr result (λ _. T.told transport.new ≡ T.told transport.old) }
+        ensures memory { IsOkUnless result Fault.OutOfMemory }
+        ensures tries { (T.told transport.new).tries ≡ (T.told transport.old).tries }
+        ensures room { (T.told transport.new).room ≡ (T.told transport.old).room }
+    {
+        match lists.find(row.key()) {
+            Some(list) => dy_repair::repair(rt, self.alloc, transport, seens, row, list),
+            None => self.repair(rt, transport, seens, row),
+        }
     }
 }

@@ -13,6 +13,7 @@ ghost use Rattle.dy_cluster.specs.Lists.{list_of};
 ghost use Rattle.dy_cluster.specs.Tellings.{IsUntold};
 
 use crate::clusters::Cluster;
+use crate::kept_lists::KeptLists;
 use dy_coord::{GetDone, GetFault, PutDone, PutFault};
 use dy_dots::{Context, Fault};
 use dy_mailboxes::{Mailboxes, Post};
@@ -31,6 +32,8 @@ pub struct Connection<'a, J: Naming, T: Transport<J>> {
     pub w: u8,
     pub is_mended: bool,
     cluster: &'a Cluster<J>,
+    // Of the keys that it named.
+    lists: KeptLists<J>,
     ghost room: { MAX_NODES ≤ (T.told transport).room },
 }
 
@@ -85,6 +88,7 @@ impl<'a, J: Naming, T: Transport<J>> Connection<'a, J, T> {
             w: cluster.options.w,
             is_mended: false,
             cluster,
+            lists: KeptLists::new(cluster.alloc),
         }
     }
 
@@ -104,6 +108,7 @@ impl<'a, J: Naming, T: Transport<J>> Connection<'a, J, T> {
             w: _,
             is_mended: _,
             cluster: _,
+            lists: _,
         } = self;
         (session, transport)
     }
@@ -189,9 +194,10 @@ impl<'a, J: Naming, T: Transport<J>> Connection<'a, J, T> {
         if let Err(fault) = self.transport.renew(rt) {
             return Err(self.cluster.put_untried(fault));
         }
-        self.cluster.put(
+        self.cluster.put_kept(
             rt,
             &mut self.transport,
+            &mut self.lists,
             w,
             &mut self.session,
             key,
@@ -239,8 +245,13 @@ impl<'a, J: Naming, T: Transport<J>> Connection<'a, J, T> {
         if let Err(fault) = self.transport.renew(rt) {
             return Err(self.cluster.get_unasked(fault));
         }
-        self.cluster
-            .get(rt, &mut self.transport, &mut self.session, key)
+        self.cluster.get_kept(
+            rt,
+            &mut self.transport,
+            &mut self.lists,
+            &mut self.session,
+            key,
+        )
     }
 
     /// Asks each home that gave the get a stale answer to store the merged row (Dynamo, section 5).
@@ -260,7 +271,12 @@ impl<'a, J: Naming, T: Transport<J>> Connection<'a, J, T> {
             return Ok(());
         }
         self.transport.renew(rt)?;
-        self.cluster
-            .repair(rt, &mut self.transport, done.seen.as_slice(), &done.row)
+        self.cluster.repair_kept(
+            rt,
+            &mut self.transport,
+            &self.lists,
+            done.seen.as_slice(),
+            &done.row,
+        )
     }
 }

@@ -12,17 +12,15 @@ ghost use Rattle.dy_runner.specs.Texts.{IsKeyJudged};
 ghost use Rattle.dy_runner.specs.Writes.{IsRead, ReadsJudged};
 
 use crate::givens::read_key;
-use crate::renewals::renew;
 use crate::seats::Seats;
 use crate::writes::refused;
-use dy_cluster::{Cluster, Session};
+use dy_cluster::{Cluster, DirectCalls, Session};
 use dy_coord::{GetDone, GetFault};
 use dy_dots::Fault;
 use dy_lines::{Outcome, Word};
 use dy_repair::are_current;
 use dy_shares::Naming;
 use dy_siblings::Key;
-use dy_transport::Direct;
 use std::alloc::Global;
 use std::sync::Wait;
 
@@ -32,7 +30,7 @@ pub(crate) fn run_get<J: Naming, R: Wait>(
     rt: &R,
     alloc: Global,
     cluster: &Cluster<J>,
-    direct: &mut Direct<'_, J>,
+    direct: &mut DirectCalls<'_, J>,
     seats: &mut Seats,
     sessions: &mut Vec<Session<J>>,
     number: u8,
@@ -65,7 +63,7 @@ pub(crate) fn run_get<J: Naming, R: Wait>(
 fn get_in<J: Naming, R: Wait>(
     rt: &R,
     cluster: &Cluster<J>,
-    direct: &mut Direct<'_, J>,
+    direct: &mut DirectCalls<'_, J>,
     session: &mut Session<J>,
     key: &Key,
 ) -> Outcome
@@ -73,8 +71,8 @@ fn get_in<J: Naming, R: Wait>(
     ensures room { direct.new.room ≡ MAX_NODES }
     ensures told { IsRead J J.ring J.n J.r key.now result session.old session.new }
 {
-    renew(rt, direct);
-    let done = match cluster.get(rt, direct, session, key) {
+    direct.renew(rt);
+    let done = match direct.get(rt, cluster, session, key) {
         Ok(done) => done,
         Err(refusal) => return read::<J>(Err(refusal)),
     };
@@ -86,7 +84,7 @@ fn get_in<J: Naming, R: Wait>(
 fn mend<J: Naming, R: Wait>(
     rt: &R,
     cluster: &Cluster<J>,
-    direct: &mut Direct<'_, J>,
+    direct: &mut DirectCalls<'_, J>,
     done: &GetDone<J>,
 ) -> Result<(), Fault>
     requires room { direct.old.room ≡ MAX_NODES }
@@ -100,8 +98,8 @@ fn mend<J: Naming, R: Wait>(
     if are_current(done.seen.as_slice(), &done.row) {
         return Ok(());
     }
-    renew(rt, direct);
-    cluster.repair(rt, direct, done.seen.as_slice(), &done.row)
+    direct.renew(rt);
+    direct.repair(rt, cluster, done.seen.as_slice(), &done.row)
 }
 
 // What came of a get, as its line tells it.

@@ -7,7 +7,6 @@ mod options;
 mod outages;
 mod plans;
 mod recordings;
-mod renewals;
 mod running;
 mod seats;
 mod telling;

@@ -7,12 +7,11 @@ ghost use Rattle.dy_runner.specs.Runs.{HasPlayed};
 
 use crate::running::run_command;
 use crate::seats::Seats;
-use dy_cluster::{Cluster, Session, Work};
+use dy_cluster::{Cluster, DirectCalls, Session, Work};
 use dy_dots::Fault;
 use dy_lines::Outcome;
 use dy_script::Script;
 use dy_shares::Naming;
-use dy_transport::Direct;
 use std::alloc::Global;
 use std::sync::Wait;
 
@@ -65,7 +64,7 @@ impl Work for Recording<'_> {
         cluster: &Cluster<J>,
         sessions: &mut Vec<Session<J>>,
     ) -> Result<(), Fault> {
-        let direct = cluster.direct()?;
+        let direct = cluster.direct_calls()?;
         self.recorded = record_all(rt, alloc, cluster, direct, sessions, self.script)?;
         Ok(())
     }
@@ -76,7 +75,7 @@ fn record_all<J: Naming, R: Wait>(
     rt: &R,
     alloc: Global,
     cluster: &Cluster<J>,
-    mut direct: Direct<'_, J>,
+    mut direct: DirectCalls<'_, J>,
     sessions: &mut Vec<Session<J>>,
     script: &Script,
 ) -> Result<Recorded, Fault>

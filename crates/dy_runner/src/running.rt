@@ -9,12 +9,11 @@ use crate::gets::run_get;
 use crate::outages::{run_deliver, run_handoff, run_set_mode, run_set_up, run_show};
 use crate::seats::Seats;
 use crate::writes::{run_delete, run_put};
-use dy_cluster::{Cluster, Session, Work};
+use dy_cluster::{Cluster, DirectCalls, Session, Work};
 use dy_dots::Fault;
 use dy_lines::{CommandLine, Outcome, Word};
 use dy_script::{Command, Script};
 use dy_shares::Naming;
-use dy_transport::Direct;
 use std::alloc::Global;
 use std::io;
 use std::io::Write;
@@ -48,7 +47,7 @@ impl<O: Write> Work for Run<'_, O> {
         cluster: &Cluster<J>,
         sessions: &mut Vec<Session<J>>,
     ) -> Result<(), Fault> {
-        let direct = cluster.direct()?;
+        let direct = cluster.direct_calls()?;
         if let Err(error) = run_all(rt, alloc, cluster, direct, sessions, self.script, self.out) {
             self.lost = Some(error);
         }
@@ -61,7 +60,7 @@ fn run_all<J: Naming, O: Write, R: Wait>(
     rt: &R,
     alloc: Global,
     cluster: &Cluster<J>,
-    mut direct: Direct<'_, J>,
+    mut direct: DirectCalls<'_, J>,
     sessions: &mut Vec<Session<J>>,
     script: &Script,
     out: &mut O,
@@ -97,7 +96,7 @@ pub fn run_command<J: Naming, R: Wait>(
     rt: &R,
     alloc: Global,
     cluster: &Cluster<J>,
-    direct: &mut Direct<'_, J>,
+    direct: &mut DirectCalls<'_, J>,
     seats: &mut Seats,
     sessions: &mut Vec<Session<J>>,
     w: u8,

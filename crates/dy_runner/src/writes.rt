@@ -11,15 +11,13 @@ ghost use Rattle.dy_runner.specs.Writes.{IsWritten, RunsJudged};
 ghost use Rattle.dy_runner.specs.declared.givens.Given.{Given as GivenParts};
 
 use crate::givens::{Given, read_delete, read_put};
-use crate::renewals::renew;
 use crate::seats::Seats;
-use dy_cluster::{Cluster, Session};
+use dy_cluster::{Cluster, DirectCalls, Session};
 use dy_coord::{PutDone, PutFault};
 use dy_dots::Fault;
 use dy_lines::{Outcome, Word};
 use dy_script::Write;
 use dy_shares::Naming;
-use dy_transport::Direct;
 use std::alloc::Global;
 use std::sync::Wait;
 
@@ -28,7 +26,7 @@ pub(crate) fn run_put<J: Naming, R: Wait>(
     rt: &R,
     alloc: Global,
     cluster: &Cluster<J>,
-    direct: &mut Direct<'_, J>,
+    direct: &mut DirectCalls<'_, J>,
     seats: &mut Seats,
     sessions: &mut Vec<Session<J>>,
     w: u8,
@@ -75,7 +73,7 @@ pub(crate) fn run_delete<J: Naming, R: Wait>(
     rt: &R,
     alloc: Global,
     cluster: &Cluster<J>,
-    direct: &mut Direct<'_, J>,
+    direct: &mut DirectCalls<'_, J>,
     seats: &mut Seats,
     sessions: &mut Vec<Session<J>>,
     w: u8,
@@ -114,7 +112,7 @@ pub(crate) fn run_delete<J: Naming, R: Wait>(
 fn write_in<J: Naming, R: Wait>(
     rt: &R,
     cluster: &Cluster<J>,
-    direct: &mut Direct<'_, J>,
+    direct: &mut DirectCalls<'_, J>,
     session: &mut Session<J>,
     w: u8,
     word: Word,
@@ -129,8 +127,8 @@ fn write_in<J: Naming, R: Wait>(
         context,
         value,
     } = given;
-    renew(rt, direct);
-    let answer = cluster.put(rt, direct, w, session, &key, &context, value);
+    direct.renew(rt);
+    let answer = direct.put(rt, cluster, w, session, &key, &context, value);
     written(word, answer)
 }
 

@@ -5,13 +5,12 @@ ghost use Rattle.dy_cluster.specs.Settings.{setting};
 ghost use Rattle.dy_runner.specs.Runs.{Does, none_seated, seated};
 ghost use Rattle.dy_serve.specs.Answers.{IsCarriedInto};
 
-use dy_cluster::{Closed, Cluster, Session, carry_over};
+use dy_cluster::{Closed, Cluster, DirectCalls, Session, carry_over};
 use dy_dots::Fault;
 use dy_lines::Outcome;
 use dy_runner::{Seats, run_command};
 use dy_script::Command;
 use dy_shares::Naming;
-use dy_transport::Direct;
 use std::alloc::Global;
 use std::sync::Wait;
 
@@ -20,7 +19,7 @@ use std::sync::Wait;
 #[derive(Drop)]
 pub(crate) struct OpenCluster<'a, J: Naming> {
     pub cluster: &'a Cluster<J>,
-    pub direct: Direct<'a, J>,
+    pub direct: DirectCalls<'a, J>,
     pub seats: Seats,
     pub w: u8,
     pub nodes: usize,
@@ -40,7 +39,7 @@ impl<'a, J: Naming> OpenCluster<'a, J> {
         ensures nodes { IfOk result (λ opened. opened.nodes ≡ nodes) }
         ensures none { IfOk result (λ opened. seated opened.seats [] ≡ none_seated) }
     {
-        let direct = cluster.direct()?;
+        let direct = cluster.direct_calls()?;
         Ok(OpenCluster {
             cluster,
             direct,

@@ -12,7 +12,7 @@ returns-clause-told g c =
     let done = c.in-Ok.done in
     let naming = g.J.Naming in
     record {
-      told = c.get.new.transport;
+      told = c.get.new.self;
       answer = Ok done;
       got = got;
       heard = c.in-Ok.ensures.told;
@@ -21,7 +21,7 @@ returns-clause-told g c =
         answer = c.mend.result;
         ok = subst (λ (key : List ℕ). IfOk c.mend.result (λ _. IsMended
             (homes_in (list_of naming.ring naming.n key)) done.row done.seen.items
-            c.get.new.transport c.mend.new.direct)) got.row_key c.mend.ensures.ok;
+            c.get.new.self c.mend.new.direct)) got.row_key c.mend.ensures.ok;
         memory = c.mend.ensures.memory;
         spared = c.mend.ensures.spared;
       };
@@ -33,7 +33,7 @@ returns-clause-told g c =
 -- why the get was refused
 pub returns-in-Err-clause-told : goal.returns-in-Err-clause-told
 returns-in-Err-clause-told g c = record {
-  told = c.get.new.transport;
+  told = c.get.new.self;
   answer = Err c.in-Err.refusal;
   got = tt;
   heard = tt;
