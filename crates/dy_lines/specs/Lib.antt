@@ -8,5 +8,6 @@ pub mod Served
 pub mod Sessions
 pub mod Steps
 pub mod Stops
+pub mod Tellings
 pub mod Texts
 pub mod inside

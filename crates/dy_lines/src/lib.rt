@@ -14,6 +14,7 @@ mod served;
 mod session_indexes;
 mod steps;
 mod stops;
+mod tellings;
 
 pub use audits::{AckedLine, EndLine, HeldLine, SettledLine};
 pub use clusters::{ClusterLine, write_cluster};
@@ -27,3 +28,4 @@ pub use served::{RefusedLine, RenewedLine};
 pub use session_indexes::SessionIndex;
 pub use steps::{StepLine, ToldLine};
 pub use stops::Stopped;
+pub use tellings::write_gets;
