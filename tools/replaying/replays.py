@@ -11,7 +11,8 @@ from replaying.sessions import Sessions
 from replaying.steps import Ack, Fault, Fetch, Hold, Issue, Release, Told
 from replaying.worlds import World
 
-# In what order the kinds of lines come; in a run told lines stand among the steps.
+# In what order the kinds of lines come. In a run told lines stand among the steps, and else below
+# all of them.
 ORDER = {Cluster: 0, Token: 1, Command: 2, Issue: 2, Hold: 2, Release: 2, Fetch: 2, Ack: 2, Told: 2,
          Held: 3, Acked: 4, Settled: 5, End: 6}
 AUDIT = {Held: "held", Acked: "acked", Settled: "settled"}
@@ -27,8 +28,10 @@ def lines_of(text: str) -> List[str]:
 
 
 def are_apart(lines: List[str]) -> bool:
-    """Tells whether no command stands right below a step, as in the output of a service."""
-    return not any(line[:1].isdigit() and above.startswith(("step ", "told "))
+    """Tells whether no command stands right below a step, and no step right below what was told, as
+    in the output of a service."""
+    return not any((line[:1].isdigit() and above.startswith(("step ", "told ")))
+                   or (line.startswith("step ") and above.startswith("told "))
                    for above, line in zip(lines, lines[1:]))
 
 
@@ -40,6 +43,8 @@ class Replay:
         # A storm is told by its end, wherever that stands.
         self.is_storm = any(line.startswith("end acked ") for line in lines[-50:])
         self.is_served = not self.is_storm and are_apart(lines)
+        # What was told stands below all steps.
+        self.is_below = self.is_storm or self.is_served
         self.found: List[Tuple[int, Fault]] = []
         self.steps = self.acks = self.gets = self.commands = 0
         self.at = self.order = 0
@@ -75,9 +80,10 @@ class Replay:
     def put_in_order(self, it: Any) -> None:
         """Says where a line comes too late, or more than once."""
         order = ORDER[type(it)]
+        is_after_told = self.is_below and self.gets and order == 2 and not isinstance(it, Told)
         if self.is_renewal(it):
             self.order = order if self.order == ORDER[End] else ORDER[End]
-        is_after_told = self.is_storm and self.gets and order == 2 and not isinstance(it, Told)
+            is_after_told = False
         is_twice = order == self.order and isinstance(it, (Cluster, End)) and self.at > 1
         if order < self.order or is_after_told or is_twice or (self.at == 1 and order):
             self.complain(ORDER_RULE, f"a line '{self.lines[self.at - 1][:40]}' has no place here")
@@ -92,7 +98,7 @@ class Replay:
         self.steps = self.acks = self.gets = 0
         self.audit = {name: [] for name in AUDIT.values()}
         before, self.world = self.world, World(self.world.setting)
-        self.sessions = Sessions(self.world, self.is_storm)
+        self.sessions = Sessions(self.world, self.is_storm, self.is_served)
         self.served = Served(self.world, before)
 
     def begin(self) -> None:
@@ -102,7 +108,7 @@ class Replay:
         for fault in setting.faults():
             self.complain("setting", fault)
         self.world = World(setting)
-        self.sessions = Sessions(self.world, self.is_storm)
+        self.sessions = Sessions(self.world, self.is_storm, self.is_served)
         self.served = Served(self.world, None) if self.is_served else None
 
     def play_line(self, it: Any, line: str) -> None:
@@ -156,15 +162,14 @@ class Replay:
 
     def play_step(self, it: Any) -> None:
         """Plays a step, or what a session is told."""
-        is_told = isinstance(it, Told)
         if self.group:
-            (self.group.told if is_told else self.group.steps).append((self.at, it))
+            kept = self.group.told if isinstance(it, Told) else self.group.steps
+            kept.append((self.at, it))
         elif not self.is_storm and not self.served:
             self.complain(ORDER_RULE, "it stands below no command")
-        for one in self.served.gets_of(it) if self.served and is_told else [it]:
-            self.found += [(self.at, fault) for fault in self.faults_of(one)]
-            if self.served:
-                self.found += [(self.at, fault) for fault in self.served.add(self.at, one)]
+        self.found += [(self.at, fault) for fault in self.faults_of(it)]
+        if self.served:
+            self.served.add(self.at, it)
 
     def faults_of(self, it: Any) -> Iterator[Fault]:
         if isinstance(it, Told):

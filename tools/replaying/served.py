@@ -1,15 +1,15 @@
-"""The output of a service: its commands come first, and all steps of a cluster before its audit.
+"""The output of a service: of a cluster its commands, then all its steps, and then all its gets.
 
 Commands are done one after another. So the steps are cut into stretches, one for each command in
 order, and each is held against its command as in a run. Two things say where a stretch begins: the
-issue of a put's version, and the first fetch that an answered get used. Between two of these all
-ways to cut are tried, until each command has steps that fit it. Where none fits, each command has
-as many steps as have its form, and what does not fit is told.
+issue of a put's version, and the first fetch that an answered get used. Each answered get has a
+line of the fetches told, in the order of these fetches. Between two such beginnings all ways to cut
+are tried, until each command has steps that fit it. Where none fits, each command has as many steps
+as have its form, and what does not fit is told.
 """
 from bisect import bisect_right
 from collections import defaultdict
-from typing import Callable, DefaultDict, Dict, Iterator, List, NamedTuple, Optional, Set, Tuple
-from typing import Union
+from typing import Callable, DefaultDict, Dict, Iterator, List, NamedTuple, Optional, Tuple, Union
 
 from replaying import dots as sets
 from replaying.commands import STEPS, Found, Group, check
@@ -45,29 +45,15 @@ class Served:
         self.commands: List[Tuple[int, Command]] = []
         self.steps: List[Tuple[int, Step]] = []
         self.told: List[Tuple[int, Told]] = []
-        # The fetches that no other step stands below.
-        self.stretch: Set[int] = set()
         # By holder, and then by key and place.
         self.past: DefaultDict[int, Dict[Tuple[bytes, Place], Past]] = defaultdict(dict)
 
-    def gets_of(self, told: Told) -> Iterator[Told]:
-        """Gives for each get its part of the fetches told of a stretch."""
-        r = max(self.world.setting.r, 1)
-        for first in range(0, len(told.numbers), r):
-            yield Told(told.numbers[first : first + r], told.session)
-
-    def add(self, at: int, it: Union[Step, Told]) -> Iterator[Fault]:
-        """Takes a step that was played, or what was told of a get, and says where that is wrong."""
+    def add(self, at: int, it: Union[Step, Told]) -> None:
+        """Takes a step that was played, or what was told of a get."""
         if isinstance(it, Told):
             self.told.append((at, it))
-            if not self.stretch.issuperset(it.numbers):
-                yield Fault("told fetches", "they are not of the fetches right above")
             return
         self.steps.append((at, it))
-        if isinstance(it, Fetch):
-            self.stretch.add(it.number)
-        else:
-            self.stretch.clear()
         if isinstance(it, (Hold, Release)):
             pasts = self.past[it.place[0]]
             counts, rows = pasts.setdefault((it.key, it.place), ([], []))
@@ -110,13 +96,14 @@ class Served:
     def parts(self) -> Tuple[List["Part"], List[Tuple[int, Told]]]:
         """Returns the commands, cut where it is known which step is the first of one; and what was
         told that no get has."""
-        parts, told, issues = [Part([], 0, 0)], list(reversed(self.told)), self.issues()
+        told = sorted(self.told, key=lambda it: min(it[1].numbers), reverse=True)
+        parts, issues = [Part([], 0, 0)], self.issues()
         places = {step.number: at for at, (_, step) in enumerate(self.steps)}
         for at, command in self.commands:
             group, first = Group(at, command), None
             if command.do == "get" and command.is_ok and told:
                 group.told = [told.pop()]
-                first = places.get(group.told[0][1].numbers[0])
+                first = places.get(min(group.told[0][1].numbers))
             elif command.dot is not None and command.do in ("put", "delete"):
                 first = first_of(issues, command.dot)
             elif command.do == "renew":

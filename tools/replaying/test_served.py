@@ -1,6 +1,7 @@
 """Outputs of services by hand, from docs/FORMATS.md, and how they are tampered with.
 
-The rows of runs are also turned into such outputs: the commands first, and then all steps.
+The rows of runs are also turned into such outputs: the commands first, then all steps, and then
+what was told of gets.
 """
 import re
 from typing import Dict, List
@@ -13,9 +14,9 @@ SCRIPT = """{"n":3,"r":2,"w":2,"tokens":[["20"],["60"],["a0"],["d0"],["f0"]]}"""
 LINES = """{"do":"put","key":"a","value":"x"}
 {"do":"get","key":"a"}
 a line that is no command
-{"do":"put","key":"a","value":"y","session":1}
+{"do":"put","key":"a","value":"y","session":4}
 
-{"do":"get","key":"a","session":1}
+{"do":"get","key":"a","session":4}
 {"do":"get","key":"abc"}
 {"do":"renew"}
 {"do":"walk"}
@@ -36,7 +37,7 @@ step 9 hold 2/2 61 n0:1-2
 step 10 ack 61 n0:2 w 2 session 0
 """
 
-# Lines 5 and 6 are gets of sessions 1 and 0. In the second service node 1 keeps its message for
+# Lines 5 and 6 are gets of sessions 4 and 0. In the second service node 1 keeps its message for
 # the delivery of line 8, and nodes 2, 3 and 4 are down.
 SERVED: Dict[str, str] = {
     "a service": HEAD + f"""
@@ -54,19 +55,20 @@ step 5 ack 61 n0:1 w 2 session 0
 step 6 fetch 0/0 61
 step 7 fetch 1/1 61
 step 8 fetch 2/2 61
-told 6 7 session 0
 step 9 issue 0 61 n0:2 behind - value 79
 step 10 hold 0/0 61 n0:2
 step 11 hold 1/1 61 n0:1-2
 step 12 hold 2/2 61 n0:1-2
-step 13 ack 61 n0:2 w 2 session 1
+step 13 ack 61 n0:2 w 2 session 4
 step 14 fetch 0/0 61
 step 15 fetch 1/1 61
 step 16 fetch 2/2 61
 step 17 fetch 2/2 616263
 step 18 fetch 3/3 616263
 step 19 fetch 4/4 616263
-told 14 15 17 18 session 1
+told 6 7 session 0
+told 17 18 session 0
+told 14 15 session 4
 held 0/0 61 n0:1-2
 held 1/1 61 n0:1-2
 held 2/2 61 n0:1-2
@@ -133,24 +135,21 @@ end held 0 acked 0 gets 0 steps 0
 
 
 def as_served(text: str) -> str:
-    """Returns the output of a run as a service prints it: a stretch of fetches has one line of
-    those told, with the session of the first."""
-    commands: List[str] = []
-    steps: List[str] = []
-    told: List[str] = []
-    lines = [*text.split("\n")[:-1], "end"]
-    for line in lines[6:]:
-        if line[:1].isdigit():
-            commands.append(line)
-        elif line.startswith("told "):
-            told.append(line)
-        else:
-            if told and " fetch " not in line:
-                numbers = " ".join(it[5 : it.index(" session")] for it in told)
-                steps.append(f"told {numbers} {told[0][told[0].index('session') :]}")
-                told = []
-            steps.append(line)
-    return "".join(f"{line}\n" for line in [*lines[:6], *commands, *steps[:-1]])
+    """Returns the output of a run as a service prints it: with what was told below all steps,
+    session by session, in the order in which sessions are first told something."""
+    lines = text.split("\n")[:-1]
+    told: Dict[str, List[str]] = {}
+    for line in lines:
+        if line.startswith("told ") or " ack " in line:
+            told.setdefault(line[line.index("session") :], [])
+        if line.startswith("told "):
+            told[line[line.index("session") :]].append(line)
+    commands = [line for line in lines if line[:1].isdigit()]
+    steps = [line for line in lines if line.startswith("step ")]
+    head = [line for line in lines if line.startswith(("cluster ", "token "))]
+    rest = [line for line in lines if line.startswith(("held ", "acked ", "settled ", "end "))]
+    order = [*head, *commands, *steps, *(line for gets in told.values() for line in gets), *rest]
+    return "".join(f"{line}\n" for line in order)
 
 
 ROWS: Dict[str, str] = {name: output_of(text) for name, text in SERVED.items()}
@@ -158,10 +157,11 @@ ROWS.update({f"{name}, served": as_served(text) for name, text in RUNS.items()
              if "end held" in text})
 
 ONE, LATE = "a service", "a service with a late message"
-AT_1, ACK = "step 11 hold 1/1 61 n0:1-2", "step 13 ack 61 n0:2 w 2 session 1"
+AT_1, ACK = "step 11 hold 1/1 61 n0:1-2", "step 13 ack 61 n0:2 w 2 session 4"
 GET, OTHER = ("5 get ok context n0:1-2 from 0/0 1/1 values n0:1=78 n0:2=79",
               "6 get ok context - from 2/2 3/3 values none")
-TOLD, FIRST_END = "told 14 15 17 18 session 1", "end held 6 acked 2 gets 3 steps 19"
+TOLD, FIRST_END = "told 14 15 session 4", "end held 6 acked 2 gets 3 steps 19"
+EARLY, LAST = "told 6 7 session 0", "told 17 18 session 0"
 ISSUE, RENEWAL = "step 6 issue 0 61 n0:2 behind - value 79", "7 renew ok carried 2"
 AGAIN, AGAIN_ACK = "step 8 hold 1/1 61 n0:1-2", "step 10 ack 61 n0:2 w 2 session 0"
 
@@ -181,13 +181,21 @@ TAMPERED: List[Tampering] = [
     tamper(ONE, "a get that no fetches answer", "steps of a command", "3 E17 ScriptSyntax 3",
            f"3{OTHER[1:]}"),
     tamper(ONE, "a get less than was told", "told fetches", OTHER, "6 E17 ScriptSyntax 6"),
-    tamper(ONE, "gets not told", "steps of a command", TOLD, ""),
-    tamper(ONE, "a fetch not told", "told fetches", TOLD, "told 14 15 17 session 1"),
-    tamper(ONE, "another fetch told", "row of a get", TOLD, "told 14 16 17 18 session 1"),
-    tamper(ONE, "fetches told in another order", "row of a get", TOLD,
-           "told 17 18 14 15 session 1"),
-    tamper(ONE, "fetches told below another stretch", "told fetches", "told 6 7 session 0", "",
-           TOLD, f"told 6 7 session 0\n{TOLD}"),
+    tamper(ONE, "a get not told", "steps of a command", TOLD, ""),
+    tamper(ONE, "a fetch not told", "told fetches", TOLD, "told 14 session 4"),
+    tamper(ONE, "another fetch told", "row of a get", TOLD, "told 14 16 session 4"),
+    tamper(ONE, "a fetch of two gets told", "told fetches", TOLD, "told 14 18 session 4"),
+    tamper(ONE, "two gets told in one line", "told fetches", LAST, "", TOLD,
+           "told 14 15 17 18 session 4"),
+    tamper(ONE, "two gets of a session told in another order", "since", f"{EARLY}\n{LAST}",
+           f"{LAST}\n{EARLY}"),
+    tamper(ONE, "a get told to the session before", "since", TOLD, "told 14 15 session 0"),
+    tamper(ONE, "a session told again", "order of lines", f"{LAST}\n{TOLD}", f"{TOLD}\n{LAST}"),
+    tamper(ONE, "a get told above the steps behind it", "steps of a command", EARLY, "",
+           "step 8 fetch 2/2 61", f"step 8 fetch 2/2 61\n{EARLY}"),
+    tamper(ONE, "all gets told above the steps", "steps of a command",
+           f"{EARLY}\n{LAST}\n{TOLD}", "", OTHER, f"{OTHER}\n{EARLY}\n{LAST}\n{TOLD}"),
+    tamper(ONE, "a command behind what was told", "order of lines", TOLD, f"{TOLD}\n7 down ok"),
     tamper(ONE, "a put of a dot that was not made", "steps of a command", f"4 put ok n0:2 {STORED}",
            f"4 put ok n0:3 {STORED}"),
     tamper(ONE, "an answer that says down", "answers of a command", f"4 put ok n0:2 {STORED}",

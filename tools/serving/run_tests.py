@@ -2,7 +2,7 @@
 import json
 import re
 from concurrent.futures import ThreadPoolExecutor
-from typing import Any, Dict, Iterator, List, Set, Tuple
+from typing import Any, Dict, Iterator, List, Tuple
 
 from serving.checks import SCRIPT, TOP, Run, Test, line_of
 from testing import runs, scenes, seeded
@@ -50,27 +50,17 @@ def compare(test: Test, name: str, script: Script) -> None:
     compare_steps(test, name, script, whole)
 
 
-def told_of(lines: List[str]) -> List[str]:
-    """The numbers of the fetches that sessions were told of."""
-    told = (line.split(" ")[1:-2] for line in lines if line.startswith("told "))
-    return [number for numbers in told for number in numbers]
+def gets_of(lines: List[str]) -> List[Tuple[str, List[int]]]:
+    """Of each line of what was told: the session, and the fetches."""
+    told = [line.split(" ") for line in lines if line.startswith("told ")]
+    return [(words[-1], sorted(map(int, words[1:-2]))) for words in told]
 
 
-def are_told_below(lines: List[str]) -> bool:
-    """Whether each told line has its fetches in the stretch of fetches right above it."""
-    stretch: Set[str] = set()
-    was_told = False
-    for line in lines:
-        words = line.split(" ")
-        if words[0] == "told":
-            if not set(words[1:-2]) <= stretch:
-                return False
-        elif words[2] != "fetch" or was_told:
-            stretch = set()
-        if words[0] == "step" and words[2] == "fetch":
-            stretch.add(words[1])
-        was_told = words[0] == "told"
-    return True
+def by_session(lines: List[str], script: Script) -> List[Tuple[str, List[int]]]:
+    """The same, session by session, in the order in which the script first names them."""
+    named = [str(command.get("session", 0)) for command in script.get("run", [])
+             if command["do"] in ("put", "delete", "get")]
+    return sorted(gets_of(lines), key=lambda it: named.index(it[0]))
 
 
 def compare_steps(test: Test, name: str, script: Script, whole: Run) -> None:
@@ -83,8 +73,10 @@ def compare_steps(test: Test, name: str, script: Script, whole: Run) -> None:
     for kind in ("cluster ", "token ", "step "):
         test.same(f"{name}: the lines of {kind.strip()}",
                   *([line for line in lines if line.startswith(kind)] for lines in (added, wanted)))
-    test.same(f"{name}: the fetches that were told", told_of(added), told_of(wanted))
-    test.look(f"{name}: each told line is below its fetches", are_told_below(added), added)
+    test.same(f"{name}: the fetches that were told", gets_of(added), by_session(wanted, script))
+    kinds = [it.split(" ")[0] for it in added]
+    test.same(f"{name}: the told lines stand below the steps", kinds,
+              sorted(kinds, key=["cluster", "token", "step", "told"].index))
     head = [it for it in added if it.startswith(("cluster ", "token "))]
     count = len(script.get("run", []))
     order = [*head, *others[:count], *added[len(head):], *others[count:]]
@@ -121,14 +113,11 @@ def test_steps_of_renewals(test: Test) -> None:
     data = b"\n".join(line_of(it) for it in (put, get, RENEW, get, get, RENEW))
     lines = test.serve(data, SCRIPT, "--steps").out.decode("utf-8").splitlines()
     words = [re.sub(r"^\d+ ", "", line).split(" ")[0] for line in lines]
-    # Below a stretch of fetches there may be several lines of what was told.
-    kinds = [word for word, before in zip(words, ["", *words]) if {word, before} != {"told"}]
     first = ["put", "get", *["step"] * 8, "told", "held", "held", "held", "acked", "end", "renew"]
-    # The fetches of both gets are one stretch, and what was told stands below it.
-    second = ["get", "get", *["step"] * 11, "told",
+    second = ["get", "get", *["step"] * 11, "told", "told",
               "held", "held", "held", "acked", "end", "renew"]
     third = [*["step"] * 5, "held", "held", "held", "acked", "end"]
-    test.same("the steps of renewals", kinds,
+    test.same("the steps of renewals", words,
               ["cluster", *["token"] * 5, *first, *second, *third])
     sums = [line for line in lines if line.startswith("end ")]
     counts = [int(line.split(" ")[-1]) for line in sums]

@@ -8,5 +8,6 @@ pub mod Runs
 pub mod Seats
 pub mod Texts
 pub mod Traces
+pub mod Trails
 pub mod Writes
 pub mod inside

@@ -11,6 +11,7 @@ mod running;
 mod seats;
 mod telling;
 mod traces;
+mod trails;
 mod writes;
 mod writing;
 
@@ -18,5 +19,5 @@ pub use options::{options_of, ring_of};
 pub use plans::{Plan, plan_of};
 pub use running::run_command;
 pub use seats::Seats;
-pub use telling::write_trail;
+pub use trails::write_trail;
 pub use writing::{run_script, write_audit, write_ring, write_run};

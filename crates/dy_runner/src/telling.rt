@@ -10,9 +10,7 @@ ghost use Rattle.dy_runner.specs.Traces.{step_line, step_lines, told_line};
 ghost use Rattle.dy_runner.specs.inside.Fetches.{IsFirstWithin};
 
 use crate::recordings::Played;
-use crate::seats::Seats;
 use crate::traces::Trace;
-use dy_book::Audit;
 use dy_dots::Fault;
 use dy_lines::{CommandLine, StepLine, Stopped, ToldLine};
 use dy_shares::KeptStep;
@@ -37,24 +35,6 @@ pub(crate) fn write_plays<O: Write>(
     }
     write_steps(alloc, trace, at, trace.steps.len(), out)?;
     Ok(())
-}
-
-/// Writes the line of each step of a closed cluster, in their order, and what its sessions were
-/// told of fetches. The sessions have these seats.
-pub fn write_trail<O: Write>(
-    alloc: Global,
-    seats: &Seats,
-    audit: &Audit,
-    out: &mut O,
-) -> Result<(), Stopped>
-    ensures { OnOk result ((wrote : List ℕ)
-        × AreTraced
-        (record { numbers = seats.now.numbers.items; told = audit.now.told.items }) []
-        audit.now.history.trail.items wrote
-        × Appends (O.contents out.old) (O.contents out.new) wrote) }
-{
-    let trace = Trace::new(alloc, seats.numbers.as_slice(), audit)?;
-    write_plays(alloc, &trace, &[], out)
 }
 
 // Writes the line of the command, and its steps, from this place on. Gives where they end.
@@ -158,8 +138,8 @@ fn is_fetch(step: &KeptStep) -> bool
     }
 }
 
-// Writes the line of the step.
-fn write_line<O: Write>(
+/// Writes the line of the step.
+pub(crate) fn write_line<O: Write>(
     trace: &Trace<'_>,
     number: usize,
     step: &KeptStep,

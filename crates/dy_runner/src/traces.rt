@@ -1,5 +1,5 @@
 // The steps of a run, and who was told of them.
-ghost use Rattle.std.specs.Prelude.{length};
+ghost use Rattle.std.specs.Prelude.{◌≡◌, get_or, length};
 ghost use Rattle.dy_lines.specs.Sessions.{HasSessions};
 
 use dy_book::Audit;
@@ -60,7 +60,13 @@ impl<'a> Trace<'a> {
         requires within { number ≤ length self.now.steps.now }
         ensures { result ≡ session_of (sessions_of self.now) number }
     {
-        let place = self.index.session_at(number);
-        usize::from(self.numbers.get(place).copied().unwrap_or(0))
+        number_at(self.numbers, self.index.session_at(number))
     }
+}
+
+/// The number at this place among those of the sessions, or 0 where there is none. Takes no memory.
+pub(crate) fn number_at(numbers: &[u8], place: usize) -> usize
+    ensures { result ≡ get_or numbers.now place 0 }
+{
+    usize::from(numbers.get(place).copied().unwrap_or(0))
 }

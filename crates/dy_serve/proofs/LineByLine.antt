@@ -5,26 +5,17 @@ use Rattle.std.proofs.Common.{inl, inr, length-append}
 use Rattle.std.proofs.KnownBytes.{Consumes-trans}
 use Rattle.std.proofs.lemmas.List.Elements.{All-append, All-cons, All-nil}
 use Rattle.std.specs.Io.KnownBytes.{Consumes}
-use Rattle.std.specs.declared.marker.Brand.{Brand}
-use Rattle.dy_ring.specs.Rings.{Tokens}
-use Rattle.dy_book.specs.declared.options.Options.{Options}
-use Rattle.dy_shares.specs.Shares.{SessionPart}
-use Rattle.dy_cluster.specs.Ends.{IsClosed}
-use Rattle.dy_cluster.specs.Settings.{Setting, setting}
+use Rattle.dy_cluster.specs.Settings.{Setting}
 use Rattle.dy_cluster.specs.declared.restings.Closed.{Closed}
-use Rattle.dy_script.specs.Reading.{ScriptParts, script_parts}
-use Rattle.dy_script.specs.declared.scripts.Script.{Script}
+use Rattle.dy_script.specs.Reading.{ScriptParts}
 use Rattle.dy_script.specs.Requests.{renews}
-use Rattle.dy_runner.specs.Runs.{seated}
 use Rattle.dy_runner.specs.Seats.{Seated}
-use Rattle.dy_runner.specs.declared.seats.Seats.{Seats}
 use Rattle.dy_serve.specs.Answers.{Asked, asked_by, asked_in}
-use Rattle.dy_serve.specs.Closings.{AreClosingLines, IsClosing}
 use Rattle.dy_serve.specs.InputLines.{AreLines, IsRead}
 use Rattle.dy_serve.specs.declared.answering.Answered.{Answered}
 use Rattle.dy_serve.specs.declared.services.Stop.{Stop}
 use Rattle.dy_serve.specs.inside.Meeting.{AreAnsweredHere, IsAnsweredHere, MeetsLine}
-use Rattle.dy_serve.specs.inside.Stretches.{Begins, HasServed, ServesRest, ServesTo}
+use Rattle.dy_serve.specs.inside.Stretches.{Begins, ServesRest, ServesTo}
 use Rattle.dy_serve.specs.inside.Stretches.{with_renewal}
 use Rattle.dy_serve.proofs.Asking.{answered_behind, asked_behind}
 use Rattle.dy_serve.proofs.Stretching.{are_lines_behind}
@@ -161,34 +152,3 @@ pub begins_in : (s : Setting) (script : ScriptParts) (x y : Option Closed) (numb
     Begins s script x number after count text → Begins s script y number after count text
 begins_in s script x y number after count text same begins =
     subst (λ (c : Option Closed). Begins s script c number after count text) same begins
-
--- on the ring that was copied
-pub served_on : (one other : Tokens) (options : Options) (script : ScriptParts)
-    (closed : Option Closed) (begin stop : Stop) (after : Seated)
-    (in_old in_new out_old out_new : Option (List ℕ)) → one ≡ other →
-    HasServed (setting Brand one options.n options.r options) script closed begin stop after in_old
-    in_new out_old out_new →
-    HasServed (setting Brand other options.n options.r options) script closed begin stop after
-    in_old in_new out_old out_new
-served_on one other options script closed begin stop after in_old in_new out_old out_new same
-    served =
-    subst (λ (ring : Tokens). HasServed (setting Brand ring options.n options.r options) script
-    closed begin stop after in_old in_new out_old out_new) same served
-
-pub closed_on : (one other : Tokens) (options : Options) (with_steps : Bool)
-    (a b : Script) (seats : Seats) (tellings : List SessionPart) (closed : Closed)
-    (text : List ℕ) → one ≡ other → a ≡ b →
-    IsClosed one options.n options.r tellings closed →
-    AreClosingLines with_steps (script_parts a) seats.numbers.items closed.audit text →
-    IsClosing (record {
-      setting = setting Brand other options.n options.r options;
-      script = script_parts b;
-      with_steps = with_steps;
-    }) (seated seats tellings) closed text
-closed_on one other options with_steps a b seats tellings closed text same same_script ended lines =
-    record {
-      ended = subst (λ (ring : Tokens). IsClosed ring options.n options.r tellings closed) same
-          ended;
-      text_is = subst (λ (x : Script). AreClosingLines with_steps (script_parts x)
-          seats.numbers.items closed.audit text) same_script lines;
-    }

@@ -1,4 +1,4 @@
-ghost use Rattle.std.specs.Prelude.{◌≡◌, List, ℕ, Result, None, false, IfOk, OnOk};
+ghost use Rattle.std.specs.Prelude.{◌≡◌, ◌<◌, List, ℕ, Result, None, false, IfOk, OnOk};
 ghost use Rattle.std.specs.Io.KnownBytes.{Appends};
 ghost use Rattle.std.specs.declared.marker.Brand.{Brand};
 ghost use Rattle.dy_dots.specs.declared.faults.Fault.{Fault as FaultParts};
@@ -109,6 +109,7 @@ fn serve_clusters<I: BufRead, O: Write, R: Wait>(
     out: &mut O,
 ) -> Result<(), Stopped>
     requires options { plan.now.options ≡ options_for (script_parts script.now) }
+    requires some { 0 < plan.now.options.r }
     requires closed { progress.old.closed ≡ None }
     requires more { progress.old.stop.is_last ≡ false }
     ensures ended { OnOk result (progress.new.stop.renews ≡ false) }
@@ -161,6 +162,7 @@ fn serve_cluster<I: BufRead, O: Write, R: Wait>(
     input: &mut I,
     out: &mut O,
 ) -> Result<(), Stopped>
+    requires some { 0 < plan.now.options.r }
     ensures served { OnOk result (ServesCluster
         (record {
           setting = setting Brand plan.now.ring plan.now.options.n plan.now.options.r
@@ -174,7 +176,8 @@ fn serve_cluster<I: BufRead, O: Write, R: Wait>(
 {
     let closed = close_served(rt, alloc, plan, script, progress, input, out)?;
     let seats = &progress.seats;
-    write_closing(alloc, script, with_steps, seats, &closed.audit, out)?;
+    let r = usize::from(plan.options.r);
+    write_closing(alloc, script, with_steps, seats, r, &closed.audit, out)?;
     progress.closed = Some(closed);
     Ok(())
 }

@@ -1,5 +1,4 @@
 pub mod Counting
 pub mod FiveTokens
 pub mod Growing
-pub mod Pairing
 pub mod Tracing

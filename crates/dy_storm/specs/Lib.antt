@@ -6,4 +6,3 @@ pub mod Seeds
 pub mod Traces
 pub mod Turns
 pub mod Words
-pub mod inside

@@ -1,12 +1,13 @@
 -- What a storm prints of its steps.
-use Rattle.std.specs.Prelude.{ℕ, List, ◌++◌, codes, map, Bool, if◌then◌else◌}
+use Rattle.std.specs.Prelude.{ℕ, List, ◌++◌, codes, Bool, if◌then◌else◌}
 use Rattle.std.specs.List.{enumerate_from, flat_map}
-use Rattle.dy_shares.specs.Shares.{GetTold, SessionPart}
+use Rattle.dy_shares.specs.Shares.{SessionPart}
 use Rattle.dy_shares.specs.declared.kept_steps.KeptStep.{KeptStep}
 use Rattle.dy_book.specs.declared.audits.Audit.{Audit}
 use Rattle.dy_lines.specs.Clusters.{cluster_lines}
 use Rattle.dy_lines.specs.Sessions.{session_told}
-use Rattle.dy_lines.specs.Steps.{step_text, told_text}
+use Rattle.dy_lines.specs.Steps.{step_text}
+use Rattle.dy_lines.specs.Tellings.{session_lines}
 use Rattle.dy_lines.specs.Texts.{line}
 
 -- a step with its number, and the session of that number
@@ -18,15 +19,7 @@ abbrev pub step_lines : Audit → List ℕ
 step_lines a =
     flat_map (step_line (session_told a.told.items)) (enumerate_from 1 a.history.trail.items)
 
--- a get by the fetches that it used, and its session
-abbrev pub get_line : ℕ → GetTold → List ℕ
-get_line session g = line (told_text (map (λ a. a.at) g.answers) session)
-
--- the gets that a session was told, with its number
-abbrev pub session_lines : ℕ × SessionPart → List ℕ
-session_lines s = flat_map (get_line s.0) s.1.gets
-
--- those of each session, numbered from 0
+-- the gets that each session was told, numbered from 0
 abbrev pub all_gets : List SessionPart → List ℕ
 all_gets tellings = flat_map session_lines (enumerate_from 0 tellings)
 

@@ -1,16 +1,17 @@
 // What a storm prints of its steps.
-ghost use Rattle.std.specs.Prelude.{◌≡◌, ◌++◌, OnOk, IfErr};
+ghost use Rattle.std.specs.Prelude.{◌≡◌, ◌++◌, List, OnOk, IfErr};
 ghost use Rattle.std.specs.Io.KnownBytes.{Appends};
 ghost use Rattle.std.specs.List.{enumerate_from, flat_map};
+ghost use Rattle.dy_shares.specs.Shares.{SessionPart};
 ghost use Rattle.dy_lines.specs.Clusters.{cluster_lines};
 ghost use Rattle.dy_lines.specs.Sessions.{place_by};
-ghost use Rattle.dy_storm.specs.Traces.{step_line, step_lines, trace_lines};
-ghost use Rattle.dy_storm.specs.inside.Pairs.{pair_lines, told_lines};
+ghost use Rattle.dy_lines.specs.Tellings.{AreToldBy};
+ghost use Rattle.dy_storm.specs.Traces.{all_gets, step_line, step_lines, trace_lines};
 
 use crate::rings::options;
 use dy_book::Audit;
 use dy_dots::Fault;
-use dy_lines::{ClusterLine, SessionIndex, StepLine, Stopped, ToldLine, write_cluster};
+use dy_lines::{ClusterLine, SessionIndex, StepLine, Stopped, write_cluster, write_gets};
 use dy_ring::Token;
 use dy_shares::{KeptStep, StepNumbers};
 use std::alloc::Global;
@@ -29,8 +30,10 @@ pub(crate) fn write_trace<O: Write>(
     audit: &Audit,
     out: &mut O,
 ) -> Result<(), Stopped>
-    ensures written { OnOk result (Appends (O.contents out.old) (O.contents out.new)
-        (trace_lines is_wanted tokens.now audit.now (told_lines audit.now.told.items))) }
+    ensures written { OnOk result ((tellings : List SessionPart)
+        → AreToldBy 2 audit.now.told.items tellings
+        → Appends (O.contents out.old) (O.contents out.new)
+        (trace_lines is_wanted tokens.now audit.now (all_gets tellings))) }
     ensures refused { IfErr result (λ stopped. (fault : Fault)
         → stopped ≡ Stopped.Refused fault → fault ≡ Fault.OutOfMemory) }
 {
@@ -47,9 +50,10 @@ fn write_log<O: Write>(
     audit: &Audit,
     out: &mut O,
 ) -> Result<(), Stopped>
-    ensures written { OnOk result (Appends (O.contents out.old) (O.contents out.new)
-        (cluster_lines 3 2 2 tokens.now ++ step_lines audit.now
-        ++ told_lines audit.now.told.items)) }
+    ensures written { OnOk result ((tellings : List SessionPart)
+        → AreToldBy 2 audit.now.told.items tellings
+        → Appends (O.contents out.old) (O.contents out.new)
+        (cluster_lines 3 2 2 tokens.now ++ step_lines audit.now ++ all_gets tellings)) }
     ensures refused { IfErr result (λ stopped. (fault : Fault)
         → stopped ≡ Stopped.Refused fault → fault ≡ Fault.OutOfMemory) }
 {
@@ -87,26 +91,11 @@ fn write_steps<O: Write>(sessions: &SessionIndex, steps: &[KeptStep], out: &mut 
 
 // Writes what the gets of each session used.
 fn write_told<O: Write>(told: &[StepNumbers], out: &mut O) -> io::Result<()>
-    ensures { OnOk result (Appends (O.contents out.old) (O.contents out.new)
-        (told_lines told.now)) }
+    ensures { OnOk result ((tellings : List SessionPart) → AreToldBy 2 told.now tellings
+        → Appends (O.contents out.old) (O.contents out.new) (all_gets tellings)) }
 {
     for (session, numbers) in told.iter().enumerate() {
-        write_pairs(session, numbers.fetches.as_slice(), out)?;
-    }
-    Ok(())
-}
-
-// Writes a line for each two of the numbers.
-fn write_pairs<O: Write>(session: usize, fetches: &[usize], out: &mut O) -> io::Result<()>
-    ensures { OnOk result (Appends (O.contents out.old) (O.contents out.new)
-        (pair_lines session fetches.now)) }
-{
-    for pair in fetches.chunks(R) {
-        let line = ToldLine {
-            fetches: pair,
-            session,
-        };
-        writeln!(out, "{line}")?;
+        write_gets(session, R, numbers.fetches.as_slice(), out)?;
     }
     Ok(())
 }

@@ -1,5 +1,6 @@
--- The cluster, its steps and its gets, one behind the other; the index has the session of each step.
-use Rattle.std.proofs.Common.{◌≡◌, ◌∙◌, ℕ, List, ap, subst, arith}
+-- The cluster, its steps and its gets, one behind the other; the index has the session of each
+-- step.
+use Rattle.std.proofs.Common.{◌≡◌, ◌∙◌, ℕ, List, ap, subst, sym, arith}
 use Rattle.std.proofs.KnownBytes.{Appends-trans}
 use Rattle.std.specs.Io.KnownBytes.{Appends}
 use Rattle.std.specs.List.{enumerate_from, flat_map}
@@ -10,13 +11,13 @@ use Rattle.dy_lines.specs.Clusters.{cluster_lines}
 use Rattle.dy_lines.specs.Sessions.{place_by, session_told}
 use Rattle.dy_lines.specs.Steps.{step_text}
 use Rattle.dy_lines.specs.Texts.{line}
-use Rattle.dy_storm.specs.Traces.{step_line, step_lines}
-use Rattle.dy_storm.specs.inside.Pairs.{told_lines}
+use Rattle.dy_lines.specs.Tellings.{AreToldBy}
+use Rattle.dy_storm.specs.Traces.{all_gets, step_line, step_lines}
 use Rattle.dy_storm.proofs.Tracing.{same_lines}
 use Rattle.dy_storm.proofs.traces.write_log.Goals as goal
 
 pub returns-clause-written : goal.returns-clause-written
-returns-clause-written g c =
+returns-clause-written g c tellings are =
     let contents = g.O.Write.contents in
     let audit = c.args.audit.now in
     let told_is = c.as_slice-told.ensures.value in
@@ -40,7 +41,7 @@ returns-clause-written g c =
     subst (λ (ks : List KeptStep). Appends second third
     (flat_map (step_line (session_told audit.told.items)) (enumerate_from 1 ks)))
     c.kept-steps.ensures.trail (subst (Appends second third) same c.in_ok-write_steps.ensures) in
-    let told : Appends third last (told_lines audit.told.items) =
-    subst (λ (t : List StepNumbers). Appends third last (told_lines t)) told_is
-    c.in_ok-write_told.ensures in
+    let told : Appends third last (all_gets tellings) =
+    c.in_ok-write_told.ensures tellings
+    (subst (λ (t : List StepNumbers). AreToldBy 2 t tellings) (sym told_is) are) in
     Appends-trans first third last _ _ (Appends-trans first second third _ _ cluster logged) told

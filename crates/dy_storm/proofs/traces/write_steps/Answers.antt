@@ -3,7 +3,8 @@ use Rattle.std.proofs.KnownBytes.{Appends-trans}
 use Rattle.std.specs.Io.KnownBytes.{Appends}
 use Rattle.dy_lines.specs.Sessions.{place_by}
 use Rattle.dy_storm.specs.Traces.{step_line}
-use Rattle.dy_storm.proofs.Tracing.{numbered-all, numbered-next, step_line-is}
+use Rattle.dy_lines.proofs.Numbered.{numbered-all, numbered-next}
+use Rattle.dy_storm.proofs.Tracing.{step_line-is}
 use Rattle.dy_storm.proofs.traces.write_steps.Goals as goal
 
 -- this turn writes the next step's line

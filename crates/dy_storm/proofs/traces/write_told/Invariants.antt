@@ -1,11 +1,12 @@
-use Rattle.std.proofs.Common.{take}
-use Rattle.std.specs.Io.KnownBytes.{Appends}
-use Rattle.std.specs.List.{enumerate_from, flat_map}
-use Rattle.dy_storm.specs.inside.Pairs.{fetch_lines}
+use Rattle.std.proofs.Common.{List}
+use Rattle.dy_shares.specs.Shares.{SessionPart}
+use Rattle.dy_lines.specs.Tellings.{AreToldBy, session_lines}
+use Rattle.dy_lines.proofs.Telling.{SessionsSoFar}
 use Rattle.dy_storm.proofs.traces.write_told.Given as goal
 
--- the lines of the sessions so far are written
+-- of whatever sessions were told so, those from this place on are still to be written
 abbrev pub invariant-loop-session : goal.invariant-loop-session
 invariant-loop-session g l =
-    Appends (g.O.Write.contents l.initial.out) (g.O.Write.contents l.out)
-    (flat_map fetch_lines (take l.session (enumerate_from 0 l.told)))
+    (tellings : List SessionPart) → AreToldBy 2 l.told tellings
+    → SessionsSoFar session_lines 2 l.session l.told tellings
+    (g.O.Write.contents l.initial.out) (g.O.Write.contents l.out)

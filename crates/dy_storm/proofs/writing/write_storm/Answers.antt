@@ -5,8 +5,7 @@ use Rattle.std.proofs.KnownBytes.{Appends-trans}
 use Rattle.std.specs.Io.KnownBytes.{Appends}
 use Rattle.dy_ring.specs.Rings.{Tokens}
 use Rattle.dy_storm.specs.Traces.{all_gets, trace_lines}
-use Rattle.dy_storm.specs.inside.Pairs.{told_lines}
-use Rattle.dy_storm.proofs.Pairing.{told_are}
+use Rattle.dy_lines.proofs.Telling.{told_by}
 use Rattle.dy_storm.proofs.writing.write_storm.Goals as goal
 
 pub returns-clause-written : goal.returns-clause-written
@@ -22,13 +21,11 @@ returns-clause-written g c =
     let is = stormed.closed.1.audit in
     let tokens : c.tokens.result.now ≡ ring.tokens =
     c.tokens.ensures.value ∙ ap (λ (t : Tokens). t.tokens) c.in_ok-copy.ensures.ok in
-    let gets : told_lines audit.told.items ≡ all_gets stormed.tellings =
-    told_are _ audit.told.items stormed.tellings is.tells.told is.all.sessions_belong in
     let traced : Appends first second
     (trace_lines steps ring.tokens audit (all_gets stormed.tellings)) =
-    subst (λ (l : List ℕ). Appends first second (trace_lines steps ring.tokens audit l)) gets
-    (subst (λ (ts : List (ℕ × ℕ)).
-    Appends first second (trace_lines steps ts audit (told_lines audit.told.items))) tokens
-    c.in_ok-write_trace.ensures.written) in
+    subst (λ (ts : List (ℕ × ℕ)).
+    Appends first second (trace_lines steps ts audit (all_gets stormed.tellings))) tokens
+    (c.in_ok-write_trace.ensures.written stormed.tellings
+    (told_by ring 3 2 stormed.closed.0.book stormed.closed.0.parts stormed.tellings audit is)) in
     let both = Appends-trans first second last _ _ traced c.in_ok-write_counts.ensures in
     (ring, c.in_ok-ring.ensures.ring, (c.in_ok-done.done, (stormed, both)))
