@@ -12,7 +12,7 @@ use Rattle.dy_script.specs.Members.{knows}
 use Rattle.dy_script.specs.inside.Documents.{members_in, members_view}
 use Rattle.dy_script.specs.inside.Keys.{is_one_of}
 
-abbrev is_known : List (List ℕ) → List ℕ → Bool
+abbrev pub is_known : List (List ℕ) → List ℕ → Bool
 is_known names key = list_any (λ known. bytes_eq known key) names
 
 -- the names that are behind references are the names
@@ -41,7 +41,7 @@ put_at Equal names k l d e ms is rest =
 put_at Greater names k l d e ms is rest =
     ap (λ b. is_known names l && b) rest ∙ swapped (is_known names l) (is_known names k) (knows names ms)
 
-knows_put : (names : List (List ℕ)) (k : List ℕ) (d : Data) (ms : Members)
+pub knows_put : (names : List (List ℕ)) (k : List ℕ) (d : Data) (ms : Members)
     → knows names (put k d ms) ≡ (is_known names k && knows names ms)
 knows_put names k d no_members = refl
 knows_put names k d (member l e ms) = put_at _ names k l d e ms refl (knows_put names k d ms)

@@ -1,3 +1,4 @@
+pub mod CommandsRead
 pub mod KnownKeys
 pub mod ListsRead
 pub mod LookUps

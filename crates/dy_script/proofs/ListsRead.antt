@@ -16,7 +16,7 @@ after done rest = seen (λ more. done ++ more) rest
 pub record HasRead {A : Type 0} (f : ℕ → Data → Result A Fault) (vs : List (Value Global)) (i : ℕ) (done : List A) : Type 0 where
   pub so_far : each_of f 0 (items_view vs) ≡ after done (each_of f i (items_view (drop i vs)))
 
-after-nil : {A : Type 0} (r : Result (List A) Fault) → r ≡ after [] r
+pub after-nil : {A : Type 0} (r : Result (List A) Fault) → r ≡ after [] r
 after-nil (Ok xs) = refl
 after-nil (Err e) = refl
 
@@ -25,7 +25,7 @@ pub HasRead-start : {A : Type 0} (f : ℕ → Data → Result A Fault) (vs : Lis
 HasRead-start f vs = record { so_far = after-nil (each_of f 0 (items_view vs)) }
 
 -- one more element in front
-after-push : {A : Type 0} (done : List A) (x : A) (r : Result (List A) Fault)
+pub after-push : {A : Type 0} (done : List A) (x : A) (r : Result (List A) Fault)
     → after done (r >>= (λ xs. Ok (x ∷ xs))) ≡ after (done ++ x ∷ []) r
 after-push done x (Ok xs) = ap Ok (sym (append_assoc done (x ∷ []) xs))
 after-push done x (Err e) = refl

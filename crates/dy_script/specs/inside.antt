@@ -2,3 +2,4 @@
 pub mod Documents
 pub mod Keys
 pub mod Readings
+pub mod Streams

@@ -12,7 +12,7 @@ use simdutf8::compat::from_utf8;
 use std::alloc::Global;
 
 /// How deep lists and objects nest at most.
-const MAX_DEPTH: usize = 127;
+pub(crate) const MAX_DEPTH: usize = 127;
 
 /// The fault of what is no JSON, and of a script whose own members are wrong.
 pub(crate) const WRONG_SCRIPT: Fault = Fault::ScriptSyntax { command: 0 };
@@ -62,7 +62,7 @@ fn tree_of<'a>(alloc: Global, text: &'a str, scratch: &'a mut Scratch) -> Result
 }
 
 /// The fault of a text that was not read.
-fn fault_of(error: Error) -> Fault
+pub(crate) fn fault_of(error: Error) -> Fault
     ensures { result ≡ fault_of error }
 {
     match error {
@@ -73,7 +73,7 @@ fn fault_of(error: Error) -> Fault
 
 /// Whether each number of the value is in range.
 #[cycle(ranges)]
-fn is_in_range(value: &Value) -> bool
+pub(crate) fn is_in_range(value: &Value) -> bool
     ensures { result ≡ in_range (value_view value.now) }
 {
     match value {
@@ -99,7 +99,7 @@ fn are_items_in_range(items: &[Value]) -> bool
 
 /// Whether each number of the members is in range.
 #[cycle(ranges)]
-fn are_members_in_range(members: &[(&str, Value)]) -> bool
+pub(crate) fn are_members_in_range(members: &[(&str, Value)]) -> bool
     ensures { result ≡ members_in_range (json_value.members_view members.now) }
 {
     for member in members {

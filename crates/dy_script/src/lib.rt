@@ -9,6 +9,7 @@ mod orders;
 mod reading;
 mod requests;
 mod scripts;
+mod streams;
 mod tokens;
 
 pub use commands::{Command, Mode, Write};

@@ -16,6 +16,7 @@ use crate::documents::{WRONG_SCRIPT, value_of};
 use crate::members::{Members, list_of, taken_list, text_of};
 use crate::orders::command_of;
 use crate::scripts::{Layout, Limits, MAX_COMMANDS, Script};
+use crate::streams::streamed;
 use crate::tokens::token;
 use dy_dots::Fault;
 use dy_siblings::Key;
@@ -24,8 +25,22 @@ use std::alloc::Global;
 
 /// The script that the bytes spell, or its first fault: that of the script itself before those of
 /// its commands.
-#[tactic(auto, unfolding(crate::specs::Reading::script_of_text))]
 pub fn read(alloc: Global, bytes: &[u8]) -> Result<Script, Fault>
+    ensures ok { IfOk result (λ script. script_of_text bytes.now ≡ Ok (script_parts script)) }
+    ensures err { IfErr result (λ fault. (fault ≡ Fault.OutOfMemory)
+        ⊎ (script_of_text bytes.now ≡ Err fault)) }
+    ensures memory { IfErr result (λ fault. fault ≡ Fault.OutOfMemory → 0 < length bytes.now) }
+{
+    match streamed(alloc, bytes) {
+        Ok(script) => Ok(script),
+        Err(Fault::OutOfMemory) => Err(Fault::OutOfMemory),
+        Err(_) => read_whole(alloc, bytes),
+    }
+}
+
+/// The same, by a tree of the whole.
+#[tactic(auto, unfolding(crate::specs::Reading::script_of_text))]
+fn read_whole(alloc: Global, bytes: &[u8]) -> Result<Script, Fault>
     ensures ok { IfOk result (λ script. script_of_text bytes.now ≡ Ok (script_parts script)) }
     ensures err { IfErr result (λ fault. (fault ≡ Fault.OutOfMemory)
         ⊎ (script_of_text bytes.now ≡ Err fault)) }
@@ -38,7 +53,7 @@ pub fn read(alloc: Global, bytes: &[u8]) -> Result<Script, Fault>
 
 /// The script that the value says.
 #[tactic(auto, unfolding(crate::specs::Reading::script_of))]
-fn script_of(alloc: Global, value: Value) -> Result<Script, Fault>
+pub(crate) fn script_of(alloc: Global, value: Value) -> Result<Script, Fault>
     ensures { IsReadingOf script_parts result (script_of (view value.entry)) }
 {
     let members = Members {

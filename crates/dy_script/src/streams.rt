@@ -1,0 +1,173 @@
+ghost use Rattle.std.specs.Prelude.{◌≡◌, ◌<◌, ◌∷◌, [], Ok, length, map};
+ghost use Rattle.std.specs.Prelude.{IfOk, IfErr, IfSome, IsTrue};
+ghost use Rattle.json.specs.Token as token;
+ghost use Rattle.json.specs.Value.{value_view};
+ghost use Rattle.dy_script.specs.Orders.{command_parts};
+ghost use Rattle.dy_script.specs.Reading.{script_parts, script_of_text};
+ghost use Rattle.dy_script.specs.inside.Streams.{IsRead, OpensScript, IsOwnScript, IsCommand};
+ghost use Rattle.dy_script.specs.inside.Streams.{AreCommands, IsRun};
+
+use crate::commands::Command;
+use crate::documents::{MAX_DEPTH, WRONG_SCRIPT, are_members_in_range, fault_of, is_in_range};
+use crate::orders::command_of;
+use crate::reading::script_of;
+use crate::scripts::{MAX_COMMANDS, Script};
+use dy_dots::Fault;
+use json::{Reader, Scratch, Token, Value};
+use simdutf8::compat::from_utf8;
+use std::alloc::Global;
+
+/// The script that the bytes spell, each command read by itself. A refusal, here and below, is for
+/// want of memory, or the whole is to be read: the commands don't stand last, or something is wrong.
+pub(crate) fn streamed(alloc: Global, bytes: &[u8]) -> Result<Script, Fault>
+    ensures ok { IfOk result (λ script. script_of_text bytes.now ≡ Ok (script_parts script)) }
+    ensures memory { IfErr result (λ fault. fault ≡ Fault.OutOfMemory → 0 < length bytes.now) }
+{
+    if bytes.is_empty() {
+        return Err(WRONG_SCRIPT);
+    }
+    let Ok(text) = from_utf8(bytes) else {
+        return Err(WRONG_SCRIPT);
+    };
+    let mut scratch = Scratch::new(alloc);
+    script_in(alloc, text, &mut scratch)
+}
+
+/// The script that the text spells.
+fn script_in<'a>(alloc: Global, text: &'a str, scratch: &'a mut Scratch) -> Result<Script, Fault>
+    ensures { IfOk result (λ script. script_of_text text.now ≡ Ok (script_parts script)) }
+{
+    let Ok(mut reader) = Reader::new(text, scratch) else {
+        return Err(Fault::OutOfMemory);
+    };
+    let own = own_members(alloc, &mut reader)?;
+    let script = own_script(alloc, own)?;
+    let run = run_at(alloc, &mut reader, script.layout.nodes())?;
+    Ok(Script { run, ..script })
+}
+
+/// The members of a script before its commands. A list of commands begins behind them.
+fn own_members<'a>(
+    alloc: Global,
+    reader: &mut Reader<'a>,
+) -> Result<Vec<(&'a str, Value<'a>)>, Fault>
+    ensures { IfOk result (λ own. OpensScript reader.old own.items reader.new) }
+{
+    if !begins_object(reader) {
+        return Err(WRONG_SCRIPT);
+    }
+    let mut own = Vec::new(alloc);
+    'members: while let Some(name) = key_at(reader) {
+        if name == "run" {
+            if !begins_list(reader) {
+                return Err(WRONG_SCRIPT);
+            }
+            return Ok(own);
+        }
+        let value = value_at(alloc, reader, MAX_DEPTH - 1)?;
+        own.push((name, value))?;
+    }
+    Err(WRONG_SCRIPT)
+}
+
+/// The script that has these members and no command.
+fn own_script<'a>(alloc: Global, own: Vec<(&'a str, Value<'a>)>) -> Result<Script, Fault>
+    ensures { IfOk result (λ script. IsOwnScript own.entry.items (script_parts script)) }
+{
+    if !are_members_in_range(own.as_slice()) {
+        return Err(WRONG_SCRIPT);
+    }
+    script_of(alloc, Value::Object(own))
+}
+
+/// The commands to the end of the script, on a ring of so many nodes.
+fn run_at(alloc: Global, reader: &mut Reader, nodes: usize) -> Result<Vec<Command>, Fault>
+    ensures { IfOk result (λ run. IsRun nodes reader.old (map command_parts run.items)) }
+{
+    let run = commands_at(alloc, reader, nodes)?;
+    if ends(reader) {
+        Ok(run)
+    } else {
+        Err(WRONG_SCRIPT)
+    }
+}
+
+/// The commands to the end of their list, numbered from 1. What a command was read from is dropped
+/// at once.
+fn commands_at(alloc: Global, reader: &mut Reader, nodes: usize) -> Result<Vec<Command>, Fault>
+    ensures { IfOk result
+        (λ run. AreCommands nodes reader.old (map command_parts run.items) reader.new) }
+{
+    let mut found = Vec::new(alloc);
+    let mut number = 0u32;
+    'commands: while !reader.take_end_array() {
+        if number as usize >= MAX_COMMANDS {
+            return Err(WRONG_SCRIPT);
+        }
+        number += 1;
+        let command = command_at(alloc, reader, number, nodes)?;
+        found.push(command)?;
+    }
+    Ok(found)
+}
+
+/// The command that comes next, of this number.
+fn command_at(
+    alloc: Global,
+    reader: &mut Reader,
+    number: u32,
+    nodes: usize,
+) -> Result<Command, Fault>
+    ensures { IfOk result
+        (λ command. IsCommand nodes number reader.old (command_parts command) reader.new) }
+{
+    let value = value_at(alloc, reader, MAX_DEPTH - 2)?;
+    if !is_in_range(&value) {
+        return Err(WRONG_SCRIPT);
+    }
+    command_of(alloc, &value, number, nodes)
+}
+
+/// The value that comes next, nested at most so deep.
+fn value_at<'a>(alloc: Global, reader: &mut Reader<'a>, depth: usize) -> Result<Value<'a>, Fault>
+    ensures { IfOk result (λ value. IsRead depth reader.old (value_view value) reader.new) }
+{
+    match Value::read(alloc, reader, depth) {
+        Ok(value) => Ok(value),
+        Err(error) => Err(fault_of(error)),
+    }
+}
+
+/// The key that comes next.
+fn key_at<'a>(reader: &mut Reader<'a>) -> Option<&'a str>
+    ensures { IfSome result (λ name. reader.old ≡ token.key name.now ∷ reader.new) }
+{
+    match reader.next() {
+        Some(Token::Key(name)) => Some(name),
+        _ => None,
+    }
+}
+
+/// Whether an object begins next.
+fn begins_object(reader: &mut Reader) -> bool
+    ensures { IsTrue result → reader.old ≡ token.begin_object ∷ reader.new }
+{
+    matches!(reader.next(), Some(Token::BeginObject))
+}
+
+/// Whether a list begins next.
+fn begins_list(reader: &mut Reader) -> bool
+    ensures { IsTrue result → reader.old ≡ token.begin_array ∷ reader.new }
+{
+    matches!(reader.next(), Some(Token::BeginArray))
+}
+
+/// Whether the object ends next, and the text with it.
+fn ends(reader: &mut Reader) -> bool
+    ensures { IsTrue result → reader.old ≡ token.end_object ∷ [] }
+{
+    match reader.next() {
+        Some(Token::EndObject) => reader.next().is_none(),
+        _ => false,
+    }
+}
