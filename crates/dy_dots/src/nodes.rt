@@ -55,10 +55,32 @@ impl NodeId {
     }
 }
 
+// The text of a number of one digit.
+fn digit(number: u8) -> Option<&'static str>
+    ensures { IfSome result (λ text. text.now ≡ decimal number) }
+{
+    match number {
+        0 => Some("0"),
+        1 => Some("1"),
+        2 => Some("2"),
+        3 => Some("3"),
+        4 => Some("4"),
+        5 => Some("5"),
+        6 => Some("6"),
+        7 => Some("7"),
+        8 => Some("8"),
+        9 => Some("9"),
+        _ => None,
+    }
+}
+
 impl fmt::Display for NodeId {
     ghost output = { λ node. Some (decimal node) };
 
     fn fmt<W: fmt::Write>(&self, f: &mut fmt::Formatter<W>) -> fmt::Result {
-        fmt::Display::fmt(&self.number, f)
+        match digit(self.number) {
+            Some(text) => f.write_str(text),
+            None => fmt::Display::fmt(&self.number, f),
+        }
     }
 }
