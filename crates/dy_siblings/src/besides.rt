@@ -1,5 +1,5 @@
 // The one version that a row has more than another, side by side with all of that.
-ghost use Rattle.std.specs.Prelude.{◌≡◌, ◌↔◌, ◌||◌, IfSome, IfNone, false};
+ghost use Rattle.std.specs.Prelude.{◌≡◌, ◌↔◌, ◌||◌, IfSome, IfNone, true, false};
 ghost use Rattle.std.specs.List.{list_any};
 ghost use Rattle.dy_siblings.specs.Siblings.{IsBeside, IsLone, Rise};
 ghost use Rattle.dy_siblings.specs.Versions.{VersionParts, precedes};
@@ -77,6 +77,19 @@ fn is_related(versions: &[Version], may_follow: bool, version: &Version) -> bool
     follows_one(version, versions) || (may_follow && is_followed(version, versions))
 }
 
+// Whether each list is one version, and that of the second follows that of the first: most puts
+// have the context of a get.
+fn is_overtaken(a: &[Version], b: &[Version]) -> bool
+    ensures { result ≡ true → (v : VersionParts) → IsBeside a.now b.now v → ⊥ }
+{
+    match (a.split_first(), b.split_first()) {
+        (Some((mine, rest)), Some((theirs, others))) if rest.is_empty() && others.is_empty() => {
+            mine.precedes(theirs)
+        }
+        _ => false,
+    }
+}
+
 /// The one version that the second list has more, side by side with all of the first, and its
 /// place among those.
 pub(crate) fn beside<'a>(
@@ -91,6 +104,9 @@ pub(crate) fn beside<'a>(
     ensures place { IfSome result (λ p. IsPlaceOf a.now p.1.now.dot p.0) }
     ensures none { IfNone result ((v : VersionParts) → IsBeside a.now b.now v → ⊥) }
 {
+    if is_overtaken(a, b) {
+        return None;
+    }
     let (at, version) = lone(a, b)?;
     if is_related(a, may_follow, version) {
         return None;
