@@ -3,3 +3,4 @@ pub mod Conflicts
 pub mod Leads
 pub mod Lists
 pub mod Merging
+pub mod Values

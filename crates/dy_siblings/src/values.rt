@@ -3,10 +3,11 @@ ghost use Rattle.std.specs.Prelude.{IsErrOf, IsOkUnless};
 ghost use Rattle.std.specs.Cmp.Lexicographic.{pointwise};
 ghost use Rattle.std.specs.Cmp.Rules.{comparing};
 ghost use Rattle.std.proofs.Common.{rules};
-ghost use Rattle.std.specs.Arc.{arc_slice_items};
 ghost use Rattle.dy_siblings.specs.Sizes.{IsValue};
+ghost use Rattle.dy_siblings.specs.inside.Values.{bytes_in};
 ghost use Rattle.dy_siblings.specs.declared.values.TheConstants.{MAX_VALUE_BYTES};
 
+use crate::keys::{Key, SHORT_KEY_BYTES};
 use dy_dots::Fault;
 use std::alloc::Global;
 use std::marker::Model;
@@ -15,18 +16,66 @@ use std::sync::ArcSlice;
 /// How many bytes a value has at most.
 pub const MAX_VALUE_BYTES: usize = 4_096;
 
+// Bytes, of which up to fifteen lie in place, as those of a short key. Copies share more.
+#[derive(Debug, Drop)]
+pub enum Bytes {
+    Nothing,
+    Few(Key),
+    Many(ArcSlice<u8>),
+}
+
 /// What a version stores: up to 4,096 bytes.
 #[derive(Debug, Drop)]
 pub struct Value {
-    bytes: ArcSlice<u8>,
+    bytes: Bytes,
 }
 
 impl Model for Value {
     ghost Value = { List ℕ };
 
-    ghost view = { λ value. arc_slice_items value.bytes };
+    ghost view = { λ value. bytes_in value.bytes };
 
-    ghost invariant = { λ value. IsValue (arc_slice_items value.bytes) };
+    ghost invariant = { λ value. IsValue (bytes_in value.bytes) };
+}
+
+impl Bytes {
+    // These bytes.
+    fn of(alloc: Global, bytes: &[u8]) -> Result<Bytes, Fault>
+        ensures value { IfOk result (λ kept. bytes_in kept ≡ bytes.now) }
+        ensures memory { IsOkUnless result Fault.OutOfMemory }
+    {
+        if bytes.is_empty() {
+            return Ok(Bytes::Nothing);
+        }
+        if bytes.len() <= SHORT_KEY_BYTES {
+            let few = Key::new(alloc, bytes)?;
+            return Ok(Bytes::Few(few));
+        }
+        Ok(Bytes::Many(ArcSlice::from_slice(alloc, bytes)?))
+    }
+
+    // The bytes, lent.
+    fn as_slice(&self) -> &[u8]
+        ensures { result.now ≡ bytes_in self.now }
+    {
+        match self {
+            Bytes::Nothing => &[],
+            Bytes::Few(few) => few.as_bytes(),
+            Bytes::Many(many) => many.as_slice(),
+        }
+    }
+
+    // A copy.
+    fn try_clone(&self, alloc: Global) -> Result<Bytes, Fault>
+        ensures value { IfOk result (λ copy. bytes_in copy ≡ bytes_in self.now) }
+        ensures memory { IsOkUnless result Fault.OutOfMemory }
+    {
+        match self {
+            Bytes::Nothing => Ok(Bytes::Nothing),
+            Bytes::Few(few) => Ok(Bytes::Few(few.try_clone(alloc)?)),
+            Bytes::Many(many) => Ok(Bytes::Many(many.clone()?)),
+        }
+    }
 }
 
 impl Value {
@@ -41,7 +90,7 @@ impl Value {
             return Err(Fault::ValueSize);
         }
         Ok(Value {
-            bytes: ArcSlice::from_slice(alloc, bytes)?,
+            bytes: Bytes::of(alloc, bytes)?,
         })
     }
 
@@ -53,13 +102,13 @@ impl Value {
         self.bytes.as_slice()
     }
 
-    /// A copy, which shares the bytes.
-    pub fn try_clone(&self, _alloc: Global) -> Result<Value, Fault>
+    /// A copy. Where the bytes are more than fifteen it shares them.
+    pub fn try_clone(&self, alloc: Global) -> Result<Value, Fault>
         ensures value { IfOk result (λ value. value ≡ self.now) }
         ensures memory { IsOkUnless result Fault.OutOfMemory }
     {
         Ok(Value {
-            bytes: self.bytes.clone()?,
+            bytes: self.bytes.try_clone(alloc)?,
         })
     }
 }
@@ -70,7 +119,10 @@ impl PartialEq for Value {
     ghost laws = { Prim.search (comparing, rules) };
 
     fn eq(&self, other: &Value) -> bool {
-        self.bytes == other.bytes
+        if let (Bytes::Few(few), Bytes::Few(others)) = (&self.bytes, &other.bytes) {
+            return few == others;
+        }
+        self.bytes.as_slice() == other.bytes.as_slice()
     }
 }
 

@@ -1,0 +1,10 @@
+-- The bytes of a value, in whatever form they are kept.
+use Rattle.std.specs.Prelude.{ℕ, List, []}
+use Rattle.std.specs.Arc.{arc_slice_items}
+use Rattle.dy_siblings.specs.declared.values.Bytes.{Bytes}
+use Rattle.dy_siblings.specs.declared.values.Bytes.TheVariants.{Nothing, Few, Many}
+
+abbrev pub bytes_in : Bytes → List ℕ
+bytes_in Nothing = []
+bytes_in (Few bytes) = bytes
+bytes_in (Many bytes) = arc_slice_items bytes
