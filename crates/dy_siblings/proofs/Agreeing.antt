@@ -9,7 +9,7 @@ use Rattle.std.proofs.lemmas.List.Elements.{Contains-append_left, Contains-appen
 use Rattle.dy_dots.specs.Dots.{DotSet, same_dot}
 use Rattle.dy_dots.proofs.Sets.{dot_total, same_dots}
 use Rattle.dy_siblings.specs.Versions.{VersionParts}
-use Rattle.dy_siblings.specs.inside.Conflicts.{same_value, same_version, do_conflict}
+use Rattle.dy_siblings.specs.inside.Conflicts.{same_value, same_rest, same_version, do_conflict}
 use Rattle.dy_siblings.specs.Siblings.{AreOneByDot, Rise}
 use Rattle.dy_siblings.specs.inside.Merging.{do_lists_conflict}
 use Rattle.dy_siblings.proofs.SameKeys.{same_key_is, same_key_self}
@@ -61,6 +61,19 @@ same_version_self u =
 
 pub same_version_from : (u v : VersionParts) → u ≡ v → same_version u v ≡ true
 same_version_from u v e = ap (same_version u) (sym e) ∙ same_version_self u
+
+-- versions of one key and dot whose rest is the same are one
+pub agreed_is : (u v : VersionParts) → u.key ≡ v.key → u.dot ≡ v.dot → same_rest u v ≡ true → u ≡ v
+agreed_is u v k d e =
+    let rest = and_parts (set.is_subset u.past v.past && set.is_subset v.past u.past) (same_value u.value v.value) e in
+    let pasts = and_parts (set.is_subset u.past v.past) (set.is_subset v.past u.past) rest.0 in
+    let p : u.past ≡ v.past = one_set u.past v.past pasts.0 pasts.1 in
+    let x : u.value ≡ v.value = same_value_is u.value v.value rest.1 in
+    λ i. record { key = k i; dot = d i; past = p i; value = x i }
+
+pub agreed_from : (u v : VersionParts) → u ≡ v → same_rest u v ≡ true
+agreed_from u v e =
+    (and_parts (pointwise nat_eq u.key v.key && same_dot u.dot v.dot) (same_rest u v) (same_version_from u v e)).1
 
 -- versions of one dot that do not conflict are one
 settled : (u v : VersionParts) → do_conflict u v ≡ false → u.dot ≡ v.dot → u ≡ v

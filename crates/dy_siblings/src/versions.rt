@@ -53,7 +53,7 @@ impl Model for Version {
 
 impl Version {
     ghost use Rattle.dy_siblings.specs.Versions.{IsVersion, in_history, precedes, are_concurrent};
-    ghost use Rattle.dy_siblings.specs.inside.Conflicts.{same_version, do_conflict};
+    ghost use Rattle.dy_siblings.specs.inside.Conflicts.{same_version, same_rest, do_conflict};
 
     /// The version of these parts.
     pub fn new(
@@ -134,14 +134,27 @@ impl Version {
         self.says_same(other)
     }
 
+    /// Whether the other, which has its key and its dot, is the same. Takes no memory.
+    pub fn agrees(&self, other: &Version) -> bool
+        requires one_key { self.now.key ≡ other.now.key }
+        requires one_dot { self.now.dot ≡ other.now.dot }
+        ensures { IsTrue result ↔ (self.now ≡ other.now) }
+    {
+        self.has_rest_of(other)
+    }
+
     // Whether the other has its key, dot, past and value.
     fn says_same(&self, other: &Version) -> bool
         ensures { result ≡ same_version self.now other.now }
     {
-        self.dot == other.dot
-            && self.parts.key == other.parts.key
-            && self.parts.value == other.parts.value
-            && self.has_past_of(other)
+        self.dot == other.dot && self.parts.key == other.parts.key && self.has_rest_of(other)
+    }
+
+    // Whether the other has its past and value.
+    fn has_rest_of(&self, other: &Version) -> bool
+        ensures { result ≡ same_rest self.now other.now }
+    {
+        self.has_past_of(other) && self.parts.value == other.parts.value
     }
 
     // Whether the other follows the same dots. Two that follow none are the most.

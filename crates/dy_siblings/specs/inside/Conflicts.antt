@@ -12,11 +12,14 @@ same_value (Some a) (Some b) = pointwise nat_eq a b
 same_value None (Some b) = false
 same_value (Some a) None = false
 
+-- whether two versions follow the same dots, and store the same
+abbrev pub same_rest : VersionParts → VersionParts → Bool
+same_rest u v =
+    (set.is_subset u.past v.past && set.is_subset v.past u.past) && same_value u.value v.value
+
 -- whether two versions are the same in all that they say
 abbrev pub same_version : VersionParts → VersionParts → Bool
-same_version u v =
-    (pointwise nat_eq u.key v.key && same_dot u.dot v.dot)
-    && ((set.is_subset u.past v.past && set.is_subset v.past u.past) && same_value u.value v.value)
+same_version u v = (pointwise nat_eq u.key v.key && same_dot u.dot v.dot) && same_rest u v
 
 -- whether two versions have one dot, and are not the same
 abbrev pub do_conflict : VersionParts → VersionParts → Bool
