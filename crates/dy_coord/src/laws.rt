@@ -66,9 +66,9 @@ pub fn writes_follow_reads<J: Naming>()
         done.row.versions }
 {}
 
-/// A put follows exactly what its context names. A dot lies in the past of its version exactly if it
-/// lies in the history of a version of the key that the context names. So each version of the key
-/// that the context does not name, and that no named one follows, is concurrent with the put's.
+/// A put follows exactly what its context names. A dot lies in the past of its version exactly if
+/// it lies in the history of a version of the key that the context names. So each version of the
+/// key that the context does not name, and that no named one follows, is concurrent with the put's.
 /// Where the coordinator held it, it stays in the row that the put spreads.
 pub fn puts_follow_what_they_name<J: Naming>()
     ensures ok { (list : Preferred) (w : ℕ) (key : List ℕ) (context : DotSet)

@@ -18,7 +18,7 @@ use simdutf8::compat::from_utf8;
 use std::alloc::Global;
 
 /// The script that the bytes spell, each command read by itself. A refusal, here and below, is for
-/// want of memory, or the whole is to be read: the commands don't stand last, or something is wrong.
+/// want of memory, or the whole is to be read: the commands don't stand last, or something is bad.
 pub(crate) fn streamed(alloc: Global, bytes: &[u8]) -> Result<Script, Fault>
     ensures ok { IfOk result (λ script. script_of_text bytes.now ≡ Ok (script_parts script)) }
     ensures memory { IfErr result (λ fault. fault ≡ Fault.OutOfMemory → 0 < length bytes.now) }

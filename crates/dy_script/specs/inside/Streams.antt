@@ -49,14 +49,16 @@ pub record IsOwnScript (own : List Entry) (script : ScriptParts) : Type 0 where
   pub says : script_of (object (members_view own)) ≡ Ok script
 
 -- command k stands in front
-pub record IsCommand (nodes k : ℕ) (old : Tokens) (command : CommandParts) (new : Tokens) : Type 0 where
+pub record IsCommand (nodes k : ℕ) (old : Tokens) (command : CommandParts) (new : Tokens)
+    : Type 0 where
   pub value : json.Json
   pub read : IsRead 125 old value new
   pub ranged : in_range value ≡ true
   pub says : command_of nodes k (data_in value) ≡ Ok command
 
 -- the commands stand in front, and the end of their list
-pub record AreCommands (nodes : ℕ) (old : Tokens) (run : List CommandParts) (new : Tokens) : Type 0 where
+pub record AreCommands (nodes : ℕ) (old : Tokens) (run : List CommandParts) (new : Tokens)
+    : Type 0 where
   pub list : json.Items
   pub spelled : old ≡ items_tokens list ++ new
   pub shallow : items_depth list ≤ 125
