@@ -1,8 +1,6 @@
 //! A transport that sends what it asks to the nodes' workers, in threads of their own.
 #![tactic(auto)]
 
-mod boxes;
-mod ends;
 mod gates;
 mod parcels;
 mod posts;

@@ -1,9 +1,8 @@
 ghost use Rattle.std.specs.Prelude.{◌≡◌, ◌<◌, ◌≤◌, ◌^◌, false, length, IfOk, IsOkUnless};
 ghost use Rattle.std.specs.List.{range_with_len};
 
-use crate::boxes::{Outbox, mailbox};
-use crate::ends::Receiver;
 use crate::parcels::Posted;
+use dy_channels::{Outbox, Receiver, mailbox};
 use dy_dots::Fault;
 use dy_shares::Naming;
 use std::alloc::Global;

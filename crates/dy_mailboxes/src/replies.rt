@@ -5,11 +5,11 @@ ghost use Rattle.crossbeam_channel.specs.Claims.{IsSeatAt};
 ghost use Rattle.crossbeam_channel.specs.Ends.{ruled_capacity, sends_on};
 ghost use Rattle.dy_mailboxes.specs.inside.Calls.{first_call, next_call, with_ask};
 
-use crate::ends::{Alike, Receiver, Sender, channel};
 use crate::parcels::Answered;
 use crossbeam_channel::protocol::Free;
 use crossbeam_channel::{Pass, RuledSender};
 use crossbeam_utils::sync::Unparker;
+use dy_channels::{Alike, Receiver, Sender, channel};
 use dy_dots::Fault;
 use dy_node::Answer;
 use dy_shares::Naming;

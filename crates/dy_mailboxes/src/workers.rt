@@ -42,22 +42,54 @@ pub fn serve<J: Naming, G: Gate, R: Wait>(
         let Some(first) = inbox.receive(rt) else {
             break;
         };
-        let asks = with_more(rt, &mut inbox, first, gate);
-        serve_round(rt, node, book, asks);
+        gate.pass(first.to, &first.parcel.ask());
+        match inbox.take(rt) {
+            None => serve_one(rt, node, book, first),
+            Some(second) => {
+                let asks = with_more(rt, &mut inbox, first, second, gate);
+                serve_round(rt, node, book, asks);
+            }
+        }
     }
 }
 
-// The ask, and those that lie in the mailbox behind it, as far as they fit into a round. Each has
-// passed the gate before the next is taken.
+// Answers the ask, and sends the answers once the locks are free. Most asks lie in their mailbox
+// alone, and a round costs more than they do.
+fn serve_one<J: Naming, R: Wait>(
+    rt: &R,
+    node: &Mutex<Node<J>>,
+    book: &Mutex<Book<J>>,
+    posted: Posted<J>,
+) {
+    let replied = {
+        let mut held = node.lock(rt);
+        let mut open = book.lock(rt);
+        reply_of(&mut held, &mut open, posted)
+    };
+    send_all(rt, replied);
+}
+
+// The first ask, which has passed the gate, the second, and those that lie in the mailbox behind
+// them, as far as they fit into a round. Each passes the gate before the next is taken.
 fn with_more<J: Naming, G: Gate, R: Wait>(
     rt: &R,
     inbox: &mut Inbox<J>,
     first: Posted<J>,
+    second: Posted<J>,
     gate: &G,
 ) -> [Option<Posted<J>>; ROUND] {
-    gate.pass(first.to, &first.parcel.ask());
-    let mut asks = [Some(first), None, None, None, None, None, None, None];
-    for place in 1..ROUND {
+    gate.pass(second.to, &second.parcel.ask());
+    let mut asks = [
+        Some(first),
+        Some(second),
+        None,
+        None,
+        None,
+        None,
+        None,
+        None,
+    ];
+    for place in 2..ROUND {
         let Some(posted) = inbox.take(rt) else {
             break;
         };
@@ -76,22 +108,17 @@ fn serve_round<J: Naming, R: Wait>(
 ) {
     let mut replies = answer_round(rt, node, book, asks);
     for replied in replies.iter_mut() {
-        let Some(replied) = replied.take() else {
-            break;
-        };
-        send_all(rt, replied);
+        if let Some(replied) = replied.take() {
+            send_all(rt, replied);
+        }
     }
 }
 
 // Sends the answers to an ask.
 fn send_all<J: Naming, R: Wait>(rt: &R, replied: Replied<J>) {
-    let Replied {
-        mut reply_to,
-        first,
-        second,
-    } = replied;
-    reply_to.send(rt, first);
-    if let Some(second) = second {
+    let mut reply_to = replied.reply_to;
+    reply_to.send(rt, replied.first);
+    if let Some(second) = replied.second {
         reply_to.send(rt, second);
     }
 }
@@ -107,23 +134,17 @@ fn answer_round<J: Naming, R: Wait>(
     let mut held = node.lock(rt);
     let mut open = book.lock(rt);
     for (place, posted) in asks.iter_mut().enumerate() {
-        let Some(posted) = posted.take() else {
-            break;
-        };
-        replies[place] = Some(reply_of(&mut held, &mut open, posted));
+        if let Some(posted) = posted.take() {
+            replies[place] = Some(reply_of(&mut held, &mut open, posted));
+        }
     }
     replies
 }
 
 // What came of an ask.
 fn reply_of<J: Naming>(held: &mut Node<J>, book: &mut Book<J>, posted: Posted<J>) -> Replied<J> {
-    let Posted {
-        to,
-        parcel,
-        reply_to,
-    } = posted;
-    let ask = parcel.ask();
-    let (answer, later) = answer_held(held, book, to, &ask);
+    let (answer, later) = answer_held(held, book, posted.to, &posted.parcel.ask());
+    let reply_to = posted.reply_to;
     let (first, second) = messages(reply_to.call, reply_to.number, answer, later);
     Replied {
         reply_to,
@@ -176,23 +197,5 @@ fn answer_held<J: Naming>(
     if held.number() != to {
         return (Answer::NoAnswer, None);
     }
-    answer_by(held, book, to, ask)
-}
-
-// What this node, which has this number, answers at first and later.
-fn answer_by<J: Naming>(
-    held: &mut Node<J>,
-    book: &mut Book<J>,
-    to: NodeId,
-    ask: &Ask<'_, J>,
-) -> (Answer<J>, Option<Answer<J>>)
-    requires number { held.old.part.node ≡ to }
-    requires may_ask { MayAsk J.ring J.n to ask.now }
-    ensures down { held.old.is_up ≡ false →
-        IsDown result.0 × (result.1 ≡ None) × (held.new ≡ held.old) × (book.new ≡ book.old) }
-    ensures up { held.old.is_up ≡ true → AnsweredBy held.old.mode ask.now
-        held.old book.old held.new book.new result.0 result.1 }
-{
-    let _ = to;
     answer(held, book, ask)
 }

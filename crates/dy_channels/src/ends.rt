@@ -23,7 +23,7 @@ impl Split<()> for Alike {
 pub struct Sender<T: Drop> {
     pub end: RuledSender<T, (), Free>,
     pub pass: Pass<T, ()>,
-    ghost here: { IsSeatAt (sends_on end) pass },
+    pub ghost here: { IsSeatAt (sends_on end) pass },
 }
 
 /// The end of a channel that receives. It sleeps as soon as nothing lies there, where the kit's
