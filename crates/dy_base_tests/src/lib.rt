@@ -9,10 +9,4 @@ mod draws;
 #[cfg(test)]
 mod faults;
 #[cfg(test)]
-mod hints;
-#[cfg(test)]
-mod merges;
-#[cfg(test)]
-mod versions;
-#[cfg(test)]
 mod worlds;

@@ -57,7 +57,8 @@ fn alone(alloc: Global, world: &World, key: &Key, dot: Dot) -> Result<Row, Fault
     }
 }
 
-pub(crate) fn held_step(
+/// The hold of the version of the dot alone.
+fn held_step(
     alloc: Global,
     world: &World,
     key: &Key,
@@ -97,7 +98,7 @@ fn step(alloc: Global, world: &World, key: &Key, dot: Dot, scene: Scene) -> Resu
 }
 
 /// Makes the step, where it is allowed.
-pub(crate) fn is_made(alloc: Global, world: &mut World, step: Step) -> Result<bool, Fault> {
+fn is_made(alloc: Global, world: &mut World, step: Step) -> Result<bool, Fault> {
     if !world.allows(alloc, &step)? {
         return Ok(false);
     }
