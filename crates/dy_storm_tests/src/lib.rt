@@ -1,8 +1,6 @@
-//! The tests of `dy_storm`, and those of `dy_cluster` with the most clients, apart from them, so
-//! that their own functions are not proved once more.
+//! The test of `dy_cluster` with the most clients, apart from it, so that its own functions are not
+//! proved once more.
 #![tactic(auto)]
 
 #[cfg(test)]
 mod floods;
-#[cfg(test)]
-mod storms;
