@@ -226,9 +226,14 @@ def test_what_is_carried(test: Test) -> None:
         store.put("a", "x")
         store.put("a", b"\xff")
         store.delete("b", context=store.put("b", "gone").context)
-        test.same("a renewal of siblings", store.renew().carried, 2)
+        old = store.put("abc", "old")
+        for home in (2, 3, 4):
+            store.down(home)
+        store.put("abc", "new", context=old.context)
+        test.same("a renewal of siblings and of hints", store.renew().carried, 3)
         test.same("the siblings", store.get("a").values, [b"x", b"\xff"])
         test.same("what was deleted", store.get("b")[:3], ([], [], "-"))
+        test.same("what stand-ins alone had", store.get("abc").values, [b"new"])
     with store_of(test, limits={"counter": 1}) as store:
         store.put("a", "x")
         store.down(0)

@@ -7,8 +7,6 @@ mod absences;
 #[cfg(test)]
 mod callings;
 #[cfg(test)]
-mod carrying;
-#[cfg(test)]
 mod connections;
 #[cfg(test)]
 mod rings;
