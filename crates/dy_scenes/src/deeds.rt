@@ -3,9 +3,7 @@ ghost use Rattle.std.specs.Prelude.{◌≡◌};
 ghost use Rattle.dy_transport.specs.Told.{nothing_told};
 
 use crate::at_nodes::{set_delay, set_up, write_rows};
-use crate::calls::{hand_over_one, put_directly};
-use crate::lossy::put_lossy;
-use crate::races::put_between;
+use crate::calls::put_directly;
 use crate::records::put_and_look_up;
 use crate::stages::Stage;
 use crate::texts::{write_list, write_pass, write_put};
@@ -20,26 +18,19 @@ pub enum Deed {
     Put(u8),
     // The same, and then what the book says of it.
     PutAndLookUp(u8),
-    // A put over a line on which node 1's answers are lost.
-    PutLossy(u8),
     // The same over a transport that lists what came of it, and before it is told node 0 comes up,
     // and node 3 hands over to it.
     PutWhileHandedOver(u8),
     // What concerns one node.
     At(usize, NodeDeed),
-    // Node 3 hands over its first hint.
-    HandOverOne,
-    // The same, and after the hints were listed it stores a message, and node 0 comes up.
+    // Node 3 hands over its hints. After they were listed it stores a message, and node 0 comes up.
     HandOverWhileDelivered,
-    // The same call by call: after the hints were listed another value is put, and node 0 comes up.
-    HandOverWhilePut(u8),
 }
 
 // What is done at a node.
 #[derive(Clone, Copy)]
 pub enum NodeDeed {
     Down,
-    Up,
     // It keeps what it is to store.
     Delay,
     Show,
@@ -55,18 +46,6 @@ pub fn put_and_write<J: Naming, R: Wait>(
     out: &mut String,
 ) -> Result<(), Fault> {
     let ended = put_directly(rt, stage, session, w, text)?;
-    write_put(out, &ended)
-}
-
-// The same over a line on which node 1's answers are lost.
-fn put_lossy_and_write<J: Naming, R: Wait>(
-    rt: &R,
-    stage: &Stage<'_, J>,
-    session: &mut SessionShare<J>,
-    w: u8,
-    out: &mut String,
-) -> Result<(), Fault> {
-    let ended = put_lossy(rt, stage, session, w)?;
     write_put(out, &ended)
 }
 
@@ -120,7 +99,6 @@ fn done_at<J: Naming, R: Wait>(
 ) -> Result<(), Fault> {
     match deed {
         NodeDeed::Down => set_up(rt, stage, node, false),
-        NodeDeed::Up => set_up(rt, stage, node, true),
         NodeDeed::Delay => set_delay(rt, stage, node),
         NodeDeed::Show => write_rows(rt, stage, node, out),
     }
@@ -137,14 +115,11 @@ fn done<J: Naming, R: Wait>(
     match deed {
         Deed::Put(w) => put_and_write(rt, stage, session, w, b"x", out),
         Deed::PutAndLookUp(w) => put_and_look_up(rt, stage, session, w, out),
-        Deed::PutLossy(w) => put_lossy_and_write(rt, stage, session, w, out),
         Deed::PutWhileHandedOver(w) => {
             put_while_and_write(rt, stage, session, w, Meanwhile::HandOver, out)
         }
         Deed::At(node, deed) => done_at(rt, stage, deed, node, out),
-        Deed::HandOverOne => write_pass(out, &hand_over_one(rt, stage, NodeId::nth(3))),
         Deed::HandOverWhileDelivered => pass_while_and_write(rt, stage, out),
-        Deed::HandOverWhilePut(w) => put_between(rt, stage, session, w, out),
     }
 }
 

@@ -1,4 +1,4 @@
-//! Hints that are handed over, one in a pass, and what comes while a call is under way.
+//! Hints that are handed over, and what comes while a call is under way.
 
 use crate::deeds::{Deed, NodeDeed};
 use crate::plays::compare;
@@ -52,37 +52,4 @@ fn a_put_comes_between_offer_and_handover(rt: HostRuntime) -> Result<(), Fault> 
         Deed::At(3, NodeDeed::Show),
     ];
     compare(&rt, rt.alloc(), &deeds, PUT_BETWEEN)
-}
-
-// What it tells of two passes with room for one hint each, at a node with two: the hint of home 1
-// is the first.
-const IN_TWO_PASSES: &str = "\
-put ok n0:1 0/0=stored 1/1=down 2/2=stored 3/1=stored
-put ok n0:2 0/0=stored 1/1=stored 2/2=down 3/2=stored
-pass ok offers 1 stored 1 released 1
-show 3/2 n0:1-2
-pass ok offers 1 stored 1 released 2
-held 0/0 n0:1-2
-held 1/1 n0:1-2
-held 2/2 n0:1-2
-acked n0:1 w 2 covered 0/0 1/1 2/2
-acked n0:2 w 2 covered 0/0 1/1 2/2
-gets 0 steps 15 settled 1
-";
-
-#[test]
-fn a_pass_offers_as_many_hints_as_it_has_room_for(rt: HostRuntime) -> Result<(), Fault> {
-    let deeds = [
-        Deed::At(1, NodeDeed::Down),
-        Deed::Put(2),
-        Deed::At(1, NodeDeed::Up),
-        Deed::At(2, NodeDeed::Down),
-        Deed::Put(2),
-        Deed::At(2, NodeDeed::Up),
-        Deed::HandOverOne,
-        Deed::At(3, NodeDeed::Show),
-        Deed::HandOverOne,
-        Deed::At(3, NodeDeed::Show),
-    ];
-    compare(&rt, rt.alloc(), &deeds, IN_TWO_PASSES)
 }
