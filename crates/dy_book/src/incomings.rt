@@ -30,7 +30,7 @@ fn is_issued_as<J: Naming>(ledger: &Ledger<J>, part: Option<&KeyPart>, version: 
         return false;
     };
     match part.version(dot) {
-        Some(issued) => issued.is_same(version),
+        Some(issued) => issued.agrees(version),
         None => false,
     }
 }

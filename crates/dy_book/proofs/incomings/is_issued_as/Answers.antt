@@ -22,6 +22,29 @@ returns-in_default g c =
     (subst (IsPart (world_after steps) v.key) (ap option_copied c.in_default.is) c.requires.part)
     c.dot-dot.result c.counter-counter.ensures.valid.1 None refl)
 
+-- the version of the dot is of its key, too
+pub agrees-requires-clause-one_key : goal.agrees-requires-clause-one_key
+agrees-requires-clause-one_key g c =
+    let layout = layout_of g.J.Naming.ring g.J.Naming.n in
+    let steps = steps_of c.args.ledger.now.log in
+    let v = c.args.version.now in
+    let found = found_is layout steps c.requires.legal v.key (Some c.in-Some.part.now)
+    (subst (IsPart (world_after steps) v.key) (ap option_copied c.in-Some.is) c.requires.part)
+    c.dot-dot.result c.counter-counter.ensures.valid.1 (Some c.in-Some-version.issued)
+    (sym (ap option_copied c.in-Some-version.is) ∙ c.version.ensures) in
+    found.1
+
+pub agrees-requires-clause-one_dot : goal.agrees-requires-clause-one_dot
+agrees-requires-clause-one_dot g c =
+    let layout = layout_of g.J.Naming.ring g.J.Naming.n in
+    let steps = steps_of c.args.ledger.now.log in
+    let v = c.args.version.now in
+    let found = found_is layout steps c.requires.legal v.key (Some c.in-Some.part.now)
+    (subst (IsPart (world_after steps) v.key) (ap option_copied c.in-Some.is) c.requires.part)
+    c.dot-dot.result c.counter-counter.ensures.valid.1 (Some c.in-Some-version.issued)
+    (sym (ap option_copied c.in-Some-version.is) ∙ c.version.ensures) in
+    found.2 ∙ c.dot-dot.ensures.value
+
 -- the version of the dot is compared
 pub returns-in-Some-version : goal.returns-in-Some-version
 returns-in-Some-version g c =
@@ -33,9 +56,9 @@ returns-in-Some-version g c =
     c.dot-dot.result c.counter-counter.ensures.valid.1 (Some c.in-Some-version.issued)
     (sym (ap option_copied c.in-Some-version.is) ∙ c.version.ensures) in
     compared_is (world_after steps).versions
-    (log_sound layout steps c.requires.legal).ordered c.is_same.result
+    (log_sound layout steps c.requires.legal).ordered c.agrees.result
     c.in-Some-version.issued.now v
-    found.0 found.1 (found.2 ∙ c.dot-dot.ensures.value) c.is_same.ensures
+    found.0 found.1 (found.2 ∙ c.dot-dot.ensures.value) c.agrees.ensures
 
 -- the key has no version of the dot
 pub returns-in-None : goal.returns-in-None
