@@ -1,11 +1,11 @@
 -- The versions of an incoming row: whether they are issued, and their receipts.
 use Rattle.std.proofs.Common.{◌≡◌, ℕ, zero, suc, ◌+◌, ◌<◌, ◌↔◌, Bool, false, ◌&&◌, IsTrue, List, []}
-use Rattle.std.proofs.Common.{◌∷◌, ◌++◌, Result, Ok, Err, length, get_or, take, ◌⊎◌, inl, inr, refl}
+use Rattle.std.proofs.Common.{◌∷◌, ◌++◌, Result, Err, length, get_or, take, ◌⊎◌, inl, inr, refl}
 use Rattle.std.proofs.Common.{sym, ap, ◌∙◌, subst, ⊎_elim, arith}
 use Rattle.std.specs.List.{All, Contains}
 use Rattle.std.proofs.lemmas.Bool.{true≢false, and_from, cases_lt}
 use Rattle.dy_dots.specs.declared.faults.Fault.{Fault}
-use Rattle.dy_dots.specs.declared.faults.Fault.TheVariants.{OutOfMemory, NotIssued, StepsFull}
+use Rattle.dy_dots.specs.declared.faults.Fault.TheVariants.{NotIssued, StepsFull}
 use Rattle.std.proofs.lemmas.List.{take_more}
 use Rattle.std.proofs.lemmas.List.Elements.{All-contains, Contains-append_cases}
 use Rattle.dy_core.proofs.Keeping.{all_from}
@@ -20,9 +20,8 @@ use Rattle.dy_dots.proofs.SameDots.{same_dot_self}
 use Rattle.dy_siblings.proofs.SameKeys.{same_key_self}
 use Rattle.dy_core.proofs.Ordered.{IsOrdered, same_version}
 use Rattle.dy_shares.specs.Shares.{ReceiptParts, receipt_parts}
-use Rattle.std.specs.Result.{IfErr, IsErrOf, IsOkUnless}
-use Rattle.dy_book.specs.Books.{BookParts, IsLeastNotIssued, LacksRoom, receipts_of}
-use Rattle.dy_book.specs.inside.Refusals.{WhyNotHeld}
+use Rattle.std.specs.Result.{IsErrOf}
+use Rattle.dy_book.specs.Books.{IsLeastNotIssued, receipts_of}
 
 -- the issued version of a dot, compared with one that came
 pub compared_is : (vs : List Version) → IsOrdered vs →
@@ -147,90 +146,16 @@ module _ {T : Type 0} where
   pub same_named : (d e : Dot) → refusal (NotIssued d) ≡ refusal (NotIssued e) → d ≡ e
   same_named d e is = cc
 
+  refused_as : (f e : Fault) → refusal f ≡ refusal e → f ≡ e
+  refused_as f e is = cc
+
   pub full_not_named : (d : Dot) → refusal StepsFull ≡ refusal (NotIssued d) → ⊥
   full_not_named d is = cc
 
-  pub memory_not_named : (f : Fault) (d : Dot) → f ≡ OutOfMemory →
-      refusal f ≡ refusal (NotIssued d) → ⊥
-  memory_not_named f d a b = let both : refusal OutOfMemory ≡ refusal (NotIssued d) =
-      ap refusal (sym a) ∙ b in cc
-
-  memory_not_full : (f : Fault) → f ≡ OutOfMemory → refusal f ≡ refusal StepsFull → ⊥
-  memory_not_full f a b = let both : refusal OutOfMemory ≡ refusal StepsFull =
-      ap refusal (sym a) ∙ b in cc
-
-  -- what a refusal tells, by its cause
-  pub tells_named : (w : World) (key : List ℕ) (row : List Version) (lacks : Type 0) (f : Fault) →
-      WhyNotHeld w key row lacks f → (d : Dot) →
-      IsErrOf {T = T} {E = Fault} (Err f) (NotIssued d) ↔ IsLeastNotIssued w.versions row d
-  tells_named w key row lacks f (inl named) d = (
-    (λ e. subst (IsLeastNotIssued w.versions row)
-        (same_named named.0 d (ap refusal (sym named.1) ∙ e)) named.2),
-    (λ other. ap refusal
-        (named.1 ∙ ap NotIssued (one_least w.versions row named.0 d named.2 other))),
-  )
-  tells_named w key row lacks f (inr (inl full)) d = (
-    (λ e. absurd (full_not_named d (ap refusal (sym full.0) ∙ e))),
-    (λ least. absurd (none_least w key row d full.1 least)),
-  )
-  tells_named w key row lacks f (inr (inr memory)) d = (
-    (λ e. absurd (memory_not_named f d memory.0 e)),
-    (λ least. absurd (none_least w key row d memory.1 least)),
-  )
-
-  pub tells_full : (w : World) (key : List ℕ) (row : List Version) (lacks : Type 0) (f : Fault) →
-      WhyNotHeld w key row lacks f →
-      IsErrOf {T = T} {E = Fault} (Err f) StepsFull ↔ (AreMadeOf w key row × lacks)
-  tells_full w key row lacks f (inl named) = (
-    (λ e. absurd (full_not_named named.0 (sym e ∙ ap refusal named.1))),
-    (λ both. absurd (none_least w key row named.0 both.0 named.2)),
-  )
-  tells_full w key row lacks f (inr (inl full)) = (
-    (λ e. (full.1, full.2)),
-    (λ both. ap refusal full.0),
-  )
-  tells_full w key row lacks f (inr (inr memory)) = (
-    (λ e. absurd (memory_not_full f memory.0 e)),
-    (λ both. absurd (memory.2 both.1)),
-  )
-
-  -- past the check, want of memory is all that can be
-  pub memory_alone : (r : Result T Fault) (w : World) (key : List ℕ) (row : List Version)
-      (lacks : Type 0) → IsOkUnless r OutOfMemory → AreMadeOf w key row → (lacks → ⊥) →
-      IfErr r (WhyNotHeld w key row lacks)
-  memory_alone (Ok x) w key row lacks memory made room = tt
-  memory_alone (Err f) w key row lacks memory made room = inr (inr (memory, made, room))
-
-  -- no step is left, by how many are
-  pub full_by_count : (r : Result T Fault) (made : Type 0) (left : ℕ) (b : BookParts) →
-      left + length b.log ≡ b.options.steps_limit →
-      (IsErrOf r StepsFull ↔ (made × (left < 1))) → IsErrOf r StepsFull ↔ (made × LacksRoom b 1)
-  full_by_count r made left b counted told = (
-    (λ e. let both = told.0 e in (both.0, omega (arith, both.1, counted))),
-    (λ both. told.1 (both.0, omega (arith, both.1, counted))),
-  )
-
-  -- what is held was refused for nothing
-  pub held_not_named : (w : World) (key : List ℕ) (row : List Version) (x : T) →
-      AreMadeOf w key row → (d : Dot) →
-      IsErrOf {T = T} {E = Fault} (Ok x) (NotIssued d) ↔ IsLeastNotIssued w.versions row d
-  held_not_named w key row x made d = (
-    (λ e. absurd (cc)),
-    (λ least. absurd (none_least w key row d made least)),
-  )
-
-  pub held_not_full : (w : World) (key : List ℕ) (row : List Version) (x : T) (lacks : Type 0) →
-      (lacks → ⊥) →
-      IsErrOf {T = T} {E = Fault} (Ok x) StepsFull ↔ (AreMadeOf w key row × lacks)
-  held_not_full w key row x lacks room = (
-    (λ e. absurd (cc)),
-    (λ both. absurd (room both.1)),
-  )
-
--- each refusal is one of three
-pub one_of_three : (w : World) (key : List ℕ) (row : List Version) (lacks : Type 0) (f : Fault) →
-    WhyNotHeld w key row lacks f →
-    ((d : Dot) × (f ≡ NotIssued d)) ⊎ ((f ≡ StepsFull) ⊎ (f ≡ OutOfMemory))
-one_of_three w key row lacks f (inl named) = inl (named.0, named.1)
-one_of_three w key row lacks f (inr (inl full)) = inr (inl full.0)
-one_of_three w key row lacks f (inr (inr memory)) = inr (inr memory.0)
+-- what a refusal tells does not depend on what was asked for
+pub told_as : {A B : Type 0} (f e : Fault) (P : Type 0) →
+    (IsErrOf {T = A} {E = Fault} (Err f) e ↔ P) → IsErrOf {T = B} {E = Fault} (Err f) e ↔ P
+told_as {A} {B} f e P told = (
+  (λ is. told.0 (ap Err (refused_as {T = B} f e is))),
+  (λ p. ap Err (refused_as {T = A} f e (told.1 p))),
+)

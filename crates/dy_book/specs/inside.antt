@@ -4,4 +4,3 @@ pub mod Kept
 pub mod Lists
 pub mod Pasts
 pub mod Readings
-pub mod Refusals

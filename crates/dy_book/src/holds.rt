@@ -18,11 +18,9 @@ ghost use Rattle.dy_book.specs.Books.{HasRoom, IsLeastNotIssued, LacksRoom, rece
 ghost use Rattle.dy_book.specs.Books.{with_untold, world_of};
 ghost use Rattle.dy_book.specs.inside.Indexes.{IsIndex, IsPart, part_at};
 ghost use Rattle.dy_book.specs.inside.Lists.{IsHeldAt};
-ghost use Rattle.dy_book.specs.inside.Refusals.{WhyNotHeld};
 
 use crate::books::Book;
 use crate::custodies::{self, Custody};
-use crate::incomings::{first_not_issued, refusal_of_unknown};
 use crate::parts::KeyPart;
 use crate::receipts::{give_receipts, more_keys};
 use dy_core::Place;
@@ -46,23 +44,14 @@ fn make_part(alloc: Global, keys: &mut BTreeMap<Key, KeyPart>, key: &Key) -> Res
     Ok(())
 }
 
-// Makes a part for the key of a row without versions, if there is none yet and a step is left.
-fn make_part_of(
-    alloc: Global,
-    keys: &mut BTreeMap<Key, KeyPart>,
-    row: &Row,
-    steps_left: usize,
-) -> Result<(), Fault>
+// Makes a part for the key of a row without versions, if there is none yet.
+fn make_part_of(alloc: Global, keys: &mut BTreeMap<Key, KeyPart>, row: &Row) -> Result<(), Fault>
     ensures same { (w : World) → IsIndex w keys.old.entries → IsIndex w keys.new.entries }
-    ensures has { OnOk result (row.now.versions ≡ [] → 0 < steps_left →
+    ensures has { OnOk result (row.now.versions ≡ [] →
         IsSome (part_at keys.new.entries row.now.key)) }
-    ensures err { OnErr result ((row.now.versions ≡ []) × (0 < steps_left)) }
     ensures memory { IsOkUnless result Fault.OutOfMemory }
 {
     if !row.is_empty() {
-        return Ok(());
-    }
-    if steps_left < 1 {
         return Ok(());
     }
     make_part(alloc, keys, row.key())?;
@@ -132,8 +121,8 @@ pub(crate) fn hold_at<J: Naming>(
     Ok(())
 }
 
-// Holds the row in the log and in the part of its key, if each of its versions is the issued one
-// and a step is left. Gives its receipts. A refusal changes nothing.
+// Holds the row, whose versions are the issued ones, in the log and in the part of its key. Gives
+// its receipts. A refusal changes nothing.
 fn hold_in<J: Naming>(
     alloc: Global,
     ledger: &mut Ledger<J>,
@@ -141,12 +130,13 @@ fn hold_in<J: Naming>(
     share: &mut NodeShare<J>,
     home: NodeId,
     row: &Row,
-    steps_left: usize,
 ) -> Result<Vec<Receipt<J>>, Fault>
     requires legal { IsLegal (layout_of J.ring J.n) (steps_of ledger.old.log) }
     requires part { IsPart (world_after (steps_of ledger.old.log)) row.now.key (Some part.old) }
     requires may_hold { IsTrue
         (may_hold (homes_of J.ring J.n row.now.key) share.old.node home) }
+    requires issued { AreMadeOf (world_after (steps_of ledger.old.log)) row.now.key
+        row.now.versions }
     ensures log { OnOk result
         (ledger.new ≡ with_entries ledger.old
         (map untold (Hold (place_for share.old.node home) row.now ∷ []))) }
@@ -155,23 +145,13 @@ fn hold_in<J: Naming>(
         (Hold (place_for share.old.node home) row.now ∷ [])) }
     ensures receipts { IfOk result (λ receipts.
         receipts.items ≡ receipts_of row.now.versions share.old.node home) }
-    ensures passed { OnOk result
-        (AreMadeOf (world_after (steps_of ledger.old.log)) row.now.key row.now.versions
-        × (0 < steps_left)) }
-    ensures refused { IfErr result (WhyNotHeld (world_after (steps_of ledger.old.log))
-        row.now.key row.now.versions (steps_left < 1)) }
     ensures err { OnErr result ((ledger.new ≡ ledger.old) × (share.new ≡ share.old)) }
+    ensures memory { IsOkUnless result Fault.OutOfMemory }
     ensures part { IsPart (world_after (steps_of ledger.new.log)) row.now.key (Some part.new) }
     ensures nodes { (node : ℕ) → node ≢ share.old.node →
         NodeStays ledger.old.log ledger.new.log node }
     ensures sessions { (session : ℕ) → SessionStays ledger.old.log ledger.new.log session }
 {
-    if let Some(dot) = first_not_issued(ledger, Some(part), row) {
-        return Err(Fault::NotIssued { dot });
-    }
-    if steps_left < 1 {
-        return Err(Fault::StepsFull);
-    }
     let holder = share.node();
     let place = Place { holder, home };
     let steps = [StepRef::hold(place, row)];
@@ -216,17 +196,51 @@ impl<J: Naming> Book<J> {
             NodeStays self.old.log self.new.log node }
         ensures sessions { (session : ℕ) → SessionStays self.old.log self.new.log session }
     {
-        let left = self.steps_left();
-        self.ledger.agree(share);
-        match make_part_of(self.alloc, &mut self.keys, incoming, left) {
+        self.agree(share);
+        match self.check_hold(incoming) {
+            Ok(()) => {}
+            Err(fault) => return Err(fault),
+        }
+        match self.hold_issued(share, home, incoming) {
+            Ok(receipts) => Ok(receipts),
+            Err(fault) => Err(fault),
+        }
+    }
+
+    /// The same of a row that `check_hold` let through. Compares nothing more.
+    pub fn hold_issued(
+        &mut self,
+        share: &mut NodeShare<J>,
+        home: NodeId,
+        incoming: &Row,
+    ) -> Result<Vec<Receipt<J>>, Fault>
+        requires may_hold { IsTrue
+            (may_hold (homes_of J.ring J.n incoming.now.key) share.old.node home) }
+        requires issued { AreMadeOf (world_of self.old) incoming.now.key incoming.now.versions }
+        requires room { HasRoom self.old 1 }
+        ensures log { OnOk result
+            (self.new ≡ with_untold self.old
+            (Hold (place_for share.old.node home) incoming.now ∷ [])) }
+        ensures share { OnOk result
+            (share.new ≡ with_steps share.old
+            (Hold (place_for share.old.node home) incoming.now ∷ [])) }
+        ensures receipts { IfOk result (λ receipts.
+            receipts.items ≡ receipts_of incoming.now.versions share.old.node home) }
+        ensures memory { IsOkUnless result Fault.OutOfMemory }
+        ensures err { OnErr result ((self.new ≡ self.old) × (share.new ≡ share.old)) }
+        ensures nodes { (node : ℕ) → node ≢ share.old.node →
+            NodeStays self.old.log self.new.log node }
+        ensures sessions { (session : ℕ) → SessionStays self.old.log self.new.log session }
+    {
+        match make_part_of(self.alloc, &mut self.keys, incoming) {
             Ok(()) => {}
             Err(fault) => return Err(fault),
         }
         let Some(part) = self.keys.get_mut(incoming.key()) else {
-            return Err(refusal_of_unknown(&self.ledger, incoming, left));
+            unreachable!()
         };
         let ledger = &mut self.ledger;
-        let receipts = match hold_in(self.alloc, ledger, part, share, home, incoming, left) {
+        let receipts = match hold_in(self.alloc, ledger, part, share, home, incoming) {
             Ok(receipts) => receipts,
             Err(fault) => return Err(fault),
         };

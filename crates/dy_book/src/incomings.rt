@@ -1,5 +1,5 @@
 // Which versions of an incoming row are the issued ones.
-ghost use Rattle.std.specs.Prelude.{◌≡◌, ◌<◌, ◌↔◌, [], IsTrue, MatchOption, None};
+ghost use Rattle.std.specs.Prelude.{◌↔◌, IsTrue, MatchOption};
 ghost use Rattle.std.specs.List.{Contains};
 ghost use Rattle.std.specs.Option.{option_copied};
 ghost use Rattle.dy_core.specs.Worlds.{AreMadeOf, layout_of};
@@ -7,11 +7,10 @@ ghost use Rattle.dy_core.specs.Logs.{IsLegal, world_after};
 ghost use Rattle.dy_shares.specs.Shares.{steps_of};
 ghost use Rattle.dy_book.specs.Books.{IsLeastNotIssued, world_of};
 ghost use Rattle.dy_book.specs.inside.Indexes.{IsPart};
-ghost use Rattle.dy_book.specs.inside.Refusals.{WhyNotHeld};
 
 use crate::books::Book;
 use crate::parts::KeyPart;
-use dy_dots::{Dot, Fault};
+use dy_dots::Dot;
 use dy_shares::{Ledger, Naming};
 use dy_siblings::{Row, Version};
 
@@ -36,11 +35,7 @@ fn is_issued_as<J: Naming>(ledger: &Ledger<J>, part: Option<&KeyPart>, version: 
 }
 
 // The least dot of the row's versions that is not of the issued version, by the key's part.
-pub(crate) fn first_not_issued<J: Naming>(
-    ledger: &Ledger<J>,
-    part: Option<&KeyPart>,
-    row: &Row,
-) -> Option<Dot>
+fn first_not_issued<J: Naming>(ledger: &Ledger<J>, part: Option<&KeyPart>, row: &Row) -> Option<Dot>
     requires legal { IsLegal (layout_of J.ring J.n) (steps_of ledger.now.log) }
     requires part { IsPart (world_after (steps_of ledger.now.log)) row.now.key
         (option_copied part) }
@@ -55,26 +50,6 @@ pub(crate) fn first_not_issued<J: Naming>(
         }
     }
     None
-}
-
-// Why a row of a key that the book does not know is not held. Its first version is not issued; or
-// it has none, and no step is left.
-pub(crate) fn refusal_of_unknown<J: Naming>(
-    ledger: &Ledger<J>,
-    row: &Row,
-    steps_left: usize,
-) -> Fault
-    requires legal { IsLegal (layout_of J.ring J.n) (steps_of ledger.now.log) }
-    requires part { IsPart (world_after (steps_of ledger.now.log)) row.now.key None }
-    requires empty { row.now.versions ≡ [] → steps_left < 1 }
-    ensures { WhyNotHeld (world_after (steps_of ledger.now.log)) row.now.key row.now.versions
-        (steps_left < 1) result }
-{
-    let _left = steps_left;
-    match first_not_issued(ledger, None, row) {
-        Some(dot) => Fault::NotIssued { dot },
-        None => Fault::StepsFull,
-    }
 }
 
 impl<J: Naming> Book<J> {

@@ -1,6 +1,6 @@
 -- The part is as before where the hold was refused, and has the merge at its place where not.
-use Rattle.std.proofs.Common.{◌+◌, ◌<◌, ◌++◌, ◌∷◌, [], map, refl, sym, ap, ◌∙◌, subst, List}
-use Rattle.std.proofs.Common.{Some, inl, inr, arith, rules}
+use Rattle.std.proofs.Common.{◌++◌, ◌∷◌, [], map, refl, sym, ap, ◌∙◌, subst, List}
+use Rattle.std.proofs.Common.{Some}
 use Rattle.dy_core.specs.Worlds.{layout_of}
 use Rattle.dy_core.specs.Steps.{place_for}
 use Rattle.dy_core.specs.Logs.{world_after}
@@ -12,51 +12,16 @@ use Rattle.dy_shares.specs.Shares.{with_entries, with_steps}
 use Rattle.dy_book.specs.declared.parts.KeyPart.{KeyPart}
 use Rattle.dy_book.specs.inside.Indexes.{IsPart, made_by}
 use Rattle.dy_book.proofs.Bookkeeping.{hold_receipts}
-use Rattle.dy_book.proofs.Incoming.{memory_alone}
 use Rattle.dy_book.proofs.OfKeys.{agree_at}
 use Rattle.dy_book.proofs.Holding.{hold_allowed, hold_part, part_renamed}
 use Rattle.dy_book.proofs.holds.hold_in.Goals as goal
-
--- a version is not issued
-pub returns-in-Some-clause-refused : goal.returns-in-Some-clause-refused
-returns-in-Some-clause-refused g c = inl (c.in-Some.dot, refl, c.in-Some.ensures)
-
--- no step is left
-pub returns-then-steps_left-lt1-clause-refused : goal.returns-then-steps_left-lt1-clause-refused
-returns-then-steps_left-lt1-clause-refused g c =
-    inr (inl (refl, c.in_default.ensures, c.if-steps_left-lt1.true))
-
--- memory was refused
-pub returns-in_err-first-clause-refused : goal.returns-in_err-first-clause-refused
-returns-in_err-first-clause-refused g c =
-    memory_alone c.from_residual.result (world_after (steps_of c.args.ledger.now.log)) c.args.row.now.key
-    c.args.row.now.versions (c.args.steps_left < 1) (search rules) c.in_default.ensures
-    (λ lacks. omega (arith, lacks, c.if-steps_left-lt1.false))
-
-pub returns-in_err-keys-clause-refused : goal.returns-in_err-keys-clause-refused
-returns-in_err-keys-clause-refused g c =
-    memory_alone c.from_residual-in_err-keys.result (world_after (steps_of c.args.ledger.now.log)) c.args.row.now.key
-    c.args.row.now.versions (c.args.steps_left < 1) (search rules) c.in_default.ensures
-    (λ lacks. omega (arith, lacks, c.if-steps_left-lt1.false))
-
-pub returns-in_err-receipts-clause-refused : goal.returns-in_err-receipts-clause-refused
-returns-in_err-receipts-clause-refused g c =
-    memory_alone c.from_residual-in_err-receipts.result (world_after (steps_of c.args.ledger.now.log)) c.args.row.now.key
-    c.args.row.now.versions (c.args.steps_left < 1) (search rules) c.in_default.ensures
-    (λ lacks. omega (arith, lacks, c.if-steps_left-lt1.false))
-
-pub returns-in_err-hold_at-clause-refused : goal.returns-in_err-hold_at-clause-refused
-returns-in_err-hold_at-clause-refused g c =
-    memory_alone c.from_residual-in_err-hold_at.result (world_after (steps_of c.args.ledger.now.log)) c.args.row.now.key
-    c.args.row.now.versions (c.args.steps_left < 1) (search rules) c.in_default.ensures
-    (λ lacks. omega (arith, lacks, c.if-steps_left-lt1.false))
 
 pub hold_at-requires-clause-agree : goal.hold_at-requires-clause-agree
 hold_at-requires-clause-agree g c =
     let layout = layout_of g.J.Naming.ring g.J.Naming.n in
     agree_at layout (world_after (steps_of c.args.ledger.now.log))
     (log_sound layout (steps_of c.args.ledger.now.log) c.requires.legal)
-    c.args.share.now.node c.args.home c.args.row.now c.in_default.ensures
+    c.args.share.now.node c.args.home c.args.row.now c.requires.issued
     (made_by c.args.part.now) c.args.part.now.places.items c.requires.part
 
 pub hold_at-requires-clause-allowed : goal.hold_at-requires-clause-allowed
@@ -65,7 +30,7 @@ hold_at-requires-clause-allowed g c =
     ∙ ap (λ m. Hold (place_for m c.args.home) c.args.row.now ∷ []) c.node-holder.ensures.value in
     subst (MayFollow g.J.Naming.ring g.J.Naming.n c.args.ledger.now.log) (sym steps_are)
     (hold_allowed (layout_of g.J.Naming.ring g.J.Naming.n) c.args.ledger.now.log c.requires.legal
-    c.args.share.now.node c.args.home c.args.row.now c.in_default.ensures c.requires.may_hold)
+    c.args.share.now.node c.args.home c.args.row.now c.requires.issued c.requires.may_hold)
 
 pub returns-in_err-hold_at-clause-part : goal.returns-in_err-hold_at-clause-part
 returns-in_err-hold_at-clause-part g c =
@@ -80,7 +45,7 @@ give_receipts-requires-clause-held g c =
     let steps_are = ap (λ x. x ∷ []) c.hold.ensures
     ∙ ap (λ m. Hold (place_for m c.args.home) c.args.row.now ∷ []) c.node-holder.ensures.value in
     hold_receipts (layout_of g.J.Naming.ring g.J.Naming.n) c.args.ledger.now.log c.requires.legal
-    c.args.share.now.node c.args.home c.args.row.now c.in_default.ensures c.requires.may_hold
+    c.args.share.now.node c.args.home c.args.row.now c.requires.issued c.requires.may_hold
     c.hold_at.new.ledger.log
     (ap (λ a. a.log) c.in_ok-hold_at.ensures.log
     ∙ ap (λ ss. c.args.ledger.now.log ++ map untold ss) steps_are)
@@ -113,6 +78,6 @@ returns-clause-part g c =
     (subst (λ (ss : List Step). IsPart (world_after (steps_of (log ++ map untold ss))) row.key
     (Some new)) (sym steps_are)
     (hold_part layout log c.requires.legal c.args.share.now.node c.args.home row
-    c.in_default.ensures
+    c.requires.issued
     c.requires.may_hold c.args.part.now new c.requires.part (λ n. refl)
     is.held is.holder_is is.home_is is.key_is is.merged is.placed))

@@ -5,4 +5,4 @@ use Rattle.dy_book.proofs.holds.make_part_of.Goals as goal
 -- the row has a version
 pub returns-then-not-is_empty-clause-has : goal.returns-then-not-is_empty-clause-has
 returns-then-not-is_empty-clause-has c =
-    λ none some. absurd (true≢false (sym (c.is_empty.ensures.1 none) ∙ c.if-not-is_empty.true))
+    λ none. absurd (true≢false (sym (c.is_empty.ensures.1 none) ∙ c.if-not-is_empty.true))
