@@ -126,14 +126,20 @@ pub one_error : {X : Type 0} (e f : Fault) → IsErrOf {T = X} {E = Fault} (Err 
 one_error e f is = sym (some_is e f (told_of (Err e) f is))
 
 -- the row was held
-pub hold_done : {X : Type 0} (b : BookParts) (row : Siblings) (x : X) →
-    ((d : Dot) → IsErrOf {T = X} {E = Fault} (Ok x) (NotIssued d) ↔ IsLeastNotIssued
-    (world_of b).versions row.versions d) →
-    (IsErrOf {T = X} {E = Fault} (Ok x) StepsFull ↔
-    (AreMadeOf (world_of b) row.key row.versions × LacksRoom b 1)) →
-    HoldRefused b row None
-hold_done b row x not_issued full = hold_told b row (Ok x) not_issued full
-    (λ f is. absurd (no_error x f is))
+pub hold_done : (b : BookParts) (row : Siblings) → AreMadeOf (world_of b) row.key row.versions →
+    HasRoom b 1 → HoldRefused b row None
+hold_done b row made room =
+    record {
+      not_issued = λ d. (
+        (λ is. absurd (none_told (NotIssued d) is)),
+        (λ least. absurd (none_least (world_of b) row.key row.versions d made least)),
+      );
+      steps_full = (
+        (λ is. absurd (none_told StepsFull is)),
+        (λ lacks. absurd (omega (arith, lacks.1, room))),
+      );
+      only = λ f is. absurd (none_told f is);
+    }
 
 -- the row was refused
 pub hold_by : {X : Type 0} (b : BookParts) (row : Siblings) (e : Fault) →

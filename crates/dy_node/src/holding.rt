@@ -46,7 +46,7 @@ pub(crate) fn hold_row<J: Naming>(
         Ok(placed) => placed,
         Err(_fault) => return Err(Fault::OutOfMemory),
     };
-    match book.hold(share, home, row) {
+    match book.hold_issued(share, home, row) {
         Ok(receipts) => {
             book.agree(share);
             Ok(receipts)

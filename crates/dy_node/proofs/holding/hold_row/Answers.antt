@@ -23,35 +23,35 @@ add-requires g c =
     c.args.home c.args.row.now c.in-Ok.ensures.ok.0
 
 -- what was added is held
-pub returns-in-Ok-hold-clause-shown : goal.returns-in-Ok-hold-clause-shown
-returns-in-Ok-hold-clause-shown g c =
+pub returns-in-Ok-hold_issued-clause-shown : goal.returns-in-Ok-hold_issued-clause-shown
+returns-in-Ok-hold_issued-clause-shown g c =
     let layout = layout_of g.J.Naming.ring g.J.Naming.n in
     let same = c.agree.ensures.book in
     let share = c.agree.ensures.share in
-    subst (λ q. Shows q c.add.new.self) (sym c.agree-in-Ok-hold.ensures.share)
-    (hold_shows layout c.agree.new.self c.hold.new.self c.agree.new.share c.hold.new.share
+    subst (λ q. Shows q c.add.new.self) (sym c.agree-in-Ok-hold_issued.ensures.share)
+    (hold_shows layout c.agree.new.self c.hold_issued.new.self c.agree.new.share c.hold_issued.new.share
     c.args.stores.now c.add.new.self c.args.home c.args.row.now c.in-Ok-add.placed
     (agreed_on layout c.args.book.now c.agree.new.self c.args.share.now c.agree.new.share same share
     (record { belongs = c.agree.ensures.belongs; legal = c.agree.ensures.legal }))
     (record {
-      belongs = c.agree-in-Ok-hold.ensures.belongs;
-      legal = c.agree-in-Ok-hold.ensures.legal;
+      belongs = c.agree-in-Ok-hold_issued.ensures.belongs;
+      legal = c.agree-in-Ok-hold_issued.ensures.legal;
     })
     (subst (λ q. Shows q c.args.stores.now) (sym share) c.requires.shown)
-    c.in-Ok-hold.ensures.log c.in-Ok-hold.ensures.share c.in-Ok-add.ensures.counters
+    c.in-Ok-hold_issued.ensures.log c.in-Ok-hold_issued.ensures.share c.in-Ok-add.ensures.counters
     c.in-Ok-add.ensures.added)
 
 -- what was put is taken back
-pub returns-in-Err-hold-clause-shown : goal.returns-in-Err-hold-clause-shown
-returns-in-Err-hold-clause-shown g c =
+pub returns-in-Err-hold_issued-clause-shown : goal.returns-in-Err-hold_issued-clause-shown
+returns-in-Err-hold_issued-clause-shown g c =
     let rooms = ap (λ k. taken_back c.add.new.self.rooms c.args.home k c.in-Ok-add.placed) c.key.ensures
     ∙ c.in-Ok-add.ensures.added.back in
     let back : c.take_back.new.self ≡ c.args.stores.now =
     c.take_back.ensures ∙ (λ i. record { rooms = rooms i; counters = c.in-Ok-add.ensures.counters i })
     in
-    subst (Shows c.hold.new.share) (sym back)
+    subst (Shows c.hold_issued.new.share) (sym back)
     (subst (λ q. Shows q c.args.stores.now)
-    (sym (c.in-Err-hold.ensures.err.1 ∙ c.agree.ensures.share)) c.requires.shown)
+    (sym (c.in-Err-hold_issued.ensures.err.1 ∙ c.agree.ensures.share)) c.requires.shown)
 
 -- the check refused it
 pub returns-in-Err-clause-refused : goal.returns-in-Err-clause-refused
@@ -66,15 +66,15 @@ returns-in-Err-add-clause-refused g c =
     subst (λ b. HoldRefused b c.args.row.now (Some OutOfMemory)) c.agree.ensures.book
     (hold_memory c.agree.new.self c.args.row.now c.in-Ok.ensures.ok.0 c.in-Ok.ensures.ok.1)
 
-pub returns-in-Err-hold-clause-refused : goal.returns-in-Err-hold-clause-refused
-returns-in-Err-hold-clause-refused g c =
-    subst (λ b. HoldRefused b c.args.row.now (Some c.in-Err-hold.fault)) c.agree.ensures.book
-    (hold_by c.agree.new.self c.args.row.now c.in-Err-hold.fault c.in-Err-hold.ensures.not_issued
-    c.in-Err-hold.ensures.steps_full c.in-Err-hold.ensures.only)
+pub returns-in-Err-hold_issued-clause-refused : goal.returns-in-Err-hold_issued-clause-refused
+returns-in-Err-hold_issued-clause-refused g c =
+    subst (λ b. HoldRefused b c.args.row.now (Some c.in-Err-hold_issued.fault)) c.agree.ensures.book
+    (subst (λ f. HoldRefused c.agree.new.self c.args.row.now (Some f))
+    (sym c.in-Err-hold_issued.ensures.memory)
+    (hold_memory c.agree.new.self c.args.row.now c.in-Ok.ensures.ok.0 c.in-Ok.ensures.ok.1))
 
 -- the row is held
-pub returns-in-Ok-hold-clause-refused : goal.returns-in-Ok-hold-clause-refused
-returns-in-Ok-hold-clause-refused g c =
+pub returns-in-Ok-hold_issued-clause-refused : goal.returns-in-Ok-hold_issued-clause-refused
+returns-in-Ok-hold_issued-clause-refused g c =
     subst (λ b. HoldRefused b c.args.row.now None) c.agree.ensures.book
-    (hold_done c.agree.new.self c.args.row.now c.in-Ok-hold.receipts
-    c.in-Ok-hold.ensures.not_issued c.in-Ok-hold.ensures.steps_full)
+    (hold_done c.agree.new.self c.args.row.now c.in-Ok.ensures.ok.0 c.in-Ok.ensures.ok.1)
