@@ -8,6 +8,7 @@ mod closes;
 mod custodies;
 mod dots;
 mod fetches;
+mod fronts;
 mod histories;
 mod holds;
 mod incomings;
