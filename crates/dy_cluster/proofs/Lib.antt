@@ -4,6 +4,7 @@ pub mod Delivered
 pub mod Firsts
 pub mod Gathered
 pub mod Guarantees
+pub mod Marking
 pub mod Presenting
 pub mod Seated
 pub mod Sent

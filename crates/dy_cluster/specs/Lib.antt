@@ -5,6 +5,7 @@ pub mod Ends
 pub mod Firsts
 pub mod Guarantees
 pub mod Lists
+pub mod Marks
 pub mod Named
 pub mod PresentValues
 pub mod Refusals

@@ -14,6 +14,8 @@ mod handovers;
 mod kept_lists;
 mod laws;
 mod locks;
+mod marked_works;
+mod marks;
 mod openings;
 mod operators;
 mod outages;
@@ -22,6 +24,7 @@ mod posting;
 mod restings;
 mod seats;
 mod staffing;
+mod step_copies;
 mod values;
 
 pub use carrying::{CarryFault, carry_over};
@@ -34,6 +37,8 @@ pub use laws::{
     gets_give_what_homes_took, session_guarantees, stores_cover_acks, what_is_held_is_kept,
     what_is_seen_is_there, what_was_acknowledged_is_present,
 };
+pub use marked_works::{MarkedWork, with_marked_cluster};
+pub use marks::Mark;
 pub use openings::Opened;
 pub use operators::{Operator, with_operator};
 pub use restings::{Closed, ClusterRefused, Resting};

@@ -1,9 +1,11 @@
 ghost use Rattle.std.specs.Prelude.{◌≡◌, ◌≤◌, ◌⊎◌, ◌↔◌, length, vec_len, vec_capacity};
 ghost use Rattle.std.specs.Prelude.{IfOk, IfErr, IsErr, MatchBool};
+ghost use mathlib.Core.List.{IsPrefix};
 ghost use Rattle.dy_shares.specs.Shares.{HasAll, IsMissing};
 ghost use Rattle.dy_book.specs.Limits.{IsQuorum};
 ghost use Rattle.dy_cluster.specs.Ends.{IsEndOf};
 
+use crate::marks::Mark;
 use dy_book::{Audit, Book, CloseRefused, Options};
 use dy_dots::Fault;
 use dy_node::{Node, Rest};
@@ -132,6 +134,14 @@ impl<J: Naming> Resting<J> {
                 })
             }
         }
+    }
+
+    // The log of the cluster begins with what was read.
+    pub(crate) fn learn(&mut self, mark: &Mark<J>)
+        ensures cluster { self.new ≡ self.old }
+        ensures begins { IsPrefix mark.now self.old.book.log }
+    {
+        mark.learn(&mut self.book);
     }
 
     /// Whether a session of the cluster is not among these. Takes no memory.

@@ -1,0 +1,108 @@
+// A cluster that is opened for a work that reads its steps.
+ghost use Rattle.std.specs.Prelude.{◌≡◌, ◌↔◌, [], List, IfOk, IsErrOf};
+ghost use Rattle.std.specs.declared.marker.Brand.{Brand as BrandParts};
+ghost use Rattle.dy_book.specs.Limits.{AreLimits, IsQuorum};
+ghost use Rattle.dy_shares.specs.Shares.{SessionPart};
+ghost use Rattle.dy_shares.specs.declared.entries.Entry.{Entry};
+ghost use Rattle.dy_cluster.specs.Marks.{IsClosedBehind};
+ghost use Rattle.dy_cluster.specs.Named.{NamesBook};
+ghost use Rattle.dy_cluster.specs.Settings.{Setting, setting};
+
+use crate::clusters::Cluster;
+use crate::marks::Mark;
+use crate::openings::Opened;
+use crate::restings::Closed;
+use dy_book::Options;
+use dy_dots::Fault;
+use dy_ring::Ring;
+use dy_shares::{Naming, SessionShare};
+use std::alloc::Global;
+use std::marker::Brand;
+use std::sync::Wait;
+
+/// What a program does with a cluster while it is open, whatever the name of its book, where it
+/// reads the steps by a mark.
+pub trait MarkedWork {
+    // What a work on a cluster of this setting says of itself before and after it, of its sessions'
+    // lists, and of the beginning of the log that was read.
+    ghost told: { Setting → Self → Self → List SessionPart → List Entry → Type 0 };
+
+    /// When the cluster closes, the sessions in the list are handed in. Its log then begins with
+    /// what the mark says.
+    fn run<J: Naming, R: Wait>(
+        &mut self,
+        rt: &R,
+        alloc: Global,
+        cluster: &Cluster<J>,
+        sessions: &mut Vec<SessionShare<J>>,
+        mark: &mut Mark<J>,
+    ) -> Result<(), Fault>
+        requires none { sessions.old.items ≡ [] }
+        ensures told { IfOk result (λ _. told (setting J J.ring J.n J.r cluster.now.options)
+            self.old self.new sessions.new.items mark.new) };
+}
+
+/// Opens a cluster on the ring, runs the work, and closes the cluster, whose log begins with what
+/// the work read. A refusal of the work is given after the close. May wait for locks, and for what
+/// the work waits for.
+pub fn with_marked_cluster<W: MarkedWork, R: Wait>(
+    rt: &R,
+    alloc: Global,
+    ring: Ring,
+    options: Options,
+    work: &mut W,
+) -> Result<Closed, Fault>
+    ensures closed { IfOk result (λ closed. (tellings : List SessionPart) × (read : List Entry)
+        × IsClosedBehind ring options.n options.r tellings read closed
+        × W.told (setting BrandParts ring options.n options.r options) work.old work.new tellings
+        read) }
+    ensures too_many { ¬ (AreLimits options) → IsErrOf result Fault.TooMany }
+    ensures bad_quorum { AreLimits options → ¬ (IsQuorum options ring.nodes) →
+        IsErrOf result Fault.BadQuorum }
+{
+    let opened = Opened::new(alloc, ring, options)?;
+    run_marked::<Brand, W, R>(rt, alloc, opened, work)
+}
+
+// The same, under the name that was picked.
+fn run_marked<J: Naming, W: MarkedWork, R: Wait>(
+    rt: &R,
+    alloc: Global,
+    opened: Opened,
+    work: &mut W,
+) -> Result<Closed, Fault>
+    requires named { NamesBook J.book J.table J.ring J.n J.r opened }
+    ensures closed { IfOk result (λ closed. (tellings : List SessionPart) × (read : List Entry)
+        × IsClosedBehind opened.ring opened.options.n opened.options.r tellings read closed
+        × W.told (setting J opened.ring opened.options.n opened.options.r opened.options)
+        work.old work.new tellings read) }
+{
+    let cluster = Cluster::<J>::open(alloc, opened)?;
+    let mut sessions = Vec::new(alloc);
+    let mut mark = Mark::new();
+    let done = work.run(rt, alloc, &cluster, &mut sessions, &mut mark);
+    match close_behind(cluster, sessions, &mark) {
+        Ok(closed) => {
+            done?;
+            Ok(closed)
+        }
+        Err(fault) => Err(fault),
+    }
+}
+
+// Closes the cluster, if each of its sessions is handed in.
+fn close_behind<J: Naming>(
+    cluster: Cluster<J>,
+    sessions: Vec<SessionShare<J>>,
+    mark: &Mark<J>,
+) -> Result<Closed, Fault>
+    ensures closed { IfOk result (λ closed.
+        IsClosedBehind J.ring J.n J.r sessions.items mark.now closed) }
+{
+    let mut resting = cluster.rest();
+    resting.learn(mark);
+    match resting.close(sessions) {
+        Ok(closed) => Ok(closed),
+        Err(refused) => Err(refused.abandon()),
+    }
+}
