@@ -37,7 +37,7 @@ FORMS = [re.compile(form) for form in (
     rf"(?P<audit>settled) (?P<key>{HEX}+)",
     r"(?P<audit>end) held (?P<held>\d+) acked (?P<acked>\d+) gets (?P<gets>\d+) "
     r"steps (?P<steps>\d+)",
-    r"(?P<audit>step|told) .+",
+    r"(?P<audit>(?P<step>step|told)) .+",
     r"(?P<head>cluster|token) .+",
 )]
 
@@ -85,8 +85,7 @@ class Unexpected(Exception):
 
 
 def answers_of(text: str) -> List[Answer]:
-    found = re.findall(r"(\d+)/(\d+)=(\w+)", text)
-    return [Answer(int(node), int(home), word) for node, home, word in found]
+    return [Answer(int(a), int(b), it) for a, b, it in re.findall(r"(\d+)/(\d+)=(\w+)", text)]
 
 
 def audit_of(lines: Lines) -> Audit:
@@ -118,6 +117,7 @@ class Store:
         self._lock, self._count, self._error = threading.Lock(), 0, tempfile.TemporaryFile()
         self._over: Optional[Tuple[int, str]] = None
         self._audit: Optional[Audit] = None
+        self._lines: Lines = []  # The open cluster's steps.
         with tempfile.NamedTemporaryFile(suffix=".json", buffering=0) as file:
             file.write(json_of({**script, "settled": settled}))
             # In a session of its own it outlives an interrupt at the terminal, to be audited.
@@ -213,18 +213,19 @@ class Store:
             return self._read(do)
 
     def _read(self, do: str) -> Tuple[Lines, Line]:
-        lines: Lines = []
+        lines = self._lines
         for data in itertools.takewhile(lambda data: data.endswith(b"\n"), self._output):
             text = data[:-1].decode("ascii", "backslashreplace")
             match = next(filter(None, (form.fullmatch(text) for form in FORMS)), None)
             line = match.groupdict("") if match else {}
             is_closed = bool(lines) and "gets" in lines[-1][1]
-            if "audit" in line and do in ("renew", "") and not is_closed:
+            if "audit" in line and (do in ("renew", "") or line.get("step")) and not is_closed:
                 lines.append((text, line))
             elif line.get("number") == str(self._count) and line["do"] in (do, "") and (
                     "fault" in line or is_closed == (do == "renew")):
                 if "fault" in line:
                     raise Refused(text, line)
+                self._lines = [] if is_closed else lines
                 return lines, line
             elif "head" not in line:
                 self.child.kill()
@@ -237,9 +238,8 @@ class Store:
 
     def _finish(self) -> Ended:
         if self._over is None:
-            for pipe in (self._input, self._output):
-                with contextlib.suppress(OSError):
-                    pipe.close()
+            with contextlib.suppress(OSError, ValueError), self._output, self._input:
+                pass
             with contextlib.suppress(subprocess.TimeoutExpired):
                 self.child.wait(timeout=10)
             self.child.kill()

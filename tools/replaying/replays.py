@@ -5,34 +5,24 @@ from replaying.audits import Lines, check_audit, counts_of, uncovered
 from replaying.commands import Group, check
 from replaying.dots import BadText
 from replaying.forms import Acked, Cluster, Command, End, Held, Settled, Token, read_line
+from replaying.renewals import check_renewal
 from replaying.rings import Setting
-from replaying.served import Served
 from replaying.sessions import Sessions
 from replaying.steps import Ack, Fault, Fetch, Hold, Issue, Release, Told
 from replaying.worlds import World
 
-# In what order the kinds of lines come. In a run told lines stand among the steps, and else below
-# all of them.
+# In what order the kinds of lines come. In a storm told lines stand below all steps, and else among
+# them.
 ORDER = {Cluster: 0, Token: 1, Command: 2, Issue: 2, Hold: 2, Release: 2, Fetch: 2, Ack: 2, Told: 2,
          Held: 3, Acked: 4, Settled: 5, End: 6}
 AUDIT = {Held: "held", Acked: "acked", Settled: "settled"}
 ORDER_RULE, NUMBERS = "order of lines", "numbers in order"
-# What a service alone prints: a renewal, and of a line that it could not read.
-OF_SERVICE = ("renew", "line")
 
 
 def lines_of(text: str) -> List[str]:
     """Returns the lines of an output; a last one without its line feed counts."""
     lines = text.split("\n")
     return lines if lines[-1] else lines[:-1]
-
-
-def are_apart(lines: List[str]) -> bool:
-    """Tells whether no command stands right below a step, and no step right below what was told, as
-    in the output of a service."""
-    return not any((line[:1].isdigit() and above.startswith(("step ", "told ")))
-                   or (line.startswith("step ") and above.startswith("told "))
-                   for above, line in zip(lines, lines[1:]))
 
 
 class Replay:
@@ -42,9 +32,6 @@ class Replay:
         self.lines = lines
         # A storm is told by its end, wherever that stands.
         self.is_storm = any(line.startswith("end acked ") for line in lines[-50:])
-        self.is_served = not self.is_storm and are_apart(lines)
-        # What was told stands below all steps.
-        self.is_below = self.is_storm or self.is_served
         self.found: List[Tuple[int, Fault]] = []
         self.steps = self.acks = self.gets = self.commands = 0
         self.at = self.order = 0
@@ -54,7 +41,8 @@ class Replay:
         self.group: Optional[Group] = None
         self.world: Optional[World] = None
         self.sessions: Optional[Sessions] = None
-        self.served: Optional[Served] = None
+        # The last world of the cluster before this one, in a service that renewed it.
+        self.before: Optional[World] = None
         # The sums of the clusters that were closed before.
         self.sums = [0, 0, 0]
 
@@ -72,7 +60,6 @@ class Replay:
                 continue
             self.put_in_order(last)
             self.play_line(last, line)
-        self.end_cluster()
         if not isinstance(last, End):
             self.complain(ORDER_RULE, "the last line is no end")
         self.found.sort(key=lambda it: it[0])
@@ -80,7 +67,7 @@ class Replay:
     def put_in_order(self, it: Any) -> None:
         """Says where a line comes too late, or more than once."""
         order = ORDER[type(it)]
-        is_after_told = self.is_below and self.gets and order == 2 and not isinstance(it, Told)
+        is_after_told = self.is_storm and self.gets and order == 2 and not isinstance(it, Told)
         if self.is_renewal(it):
             self.order = order if self.order == ORDER[End] else ORDER[End]
             is_after_told = False
@@ -90,16 +77,15 @@ class Replay:
         self.order = max(order, self.order)
 
     def is_renewal(self, it: Any) -> bool:
-        return self.is_served and isinstance(it, Command) and it.do == "renew"
+        return not self.is_storm and isinstance(it, Command) and it.do == "renew"
 
     def renew(self) -> None:
         """Begins the next cluster of a service, behind the audit of the one before."""
         self.sums = [sum(it) for it in zip(self.sums, (self.steps, self.acks, self.gets))]
         self.steps = self.acks = self.gets = 0
         self.audit = {name: [] for name in AUDIT.values()}
-        before, self.world = self.world, World(self.world.setting)
-        self.sessions = Sessions(self.world, self.is_storm, self.is_served)
-        self.served = Served(self.world, before)
+        self.before, self.world = self.world, World(self.world.setting)
+        self.sessions = Sessions(self.world, self.is_storm)
 
     def begin(self) -> None:
         """Makes the world, of the lines at the head."""
@@ -108,8 +94,7 @@ class Replay:
         for fault in setting.faults():
             self.complain("setting", fault)
         self.world = World(setting)
-        self.sessions = Sessions(self.world, self.is_storm, self.is_served)
-        self.served = Served(self.world, None) if self.is_served else None
+        self.sessions = Sessions(self.world, self.is_storm)
 
     def play_line(self, it: Any, line: str) -> None:
         if isinstance(it, Cluster):
@@ -121,8 +106,6 @@ class Replay:
                 self.begin()
             if isinstance(it, (Command, Held, Acked, Settled, End)):
                 self.end_group()
-            if type(it) in AUDIT or isinstance(it, End):
-                self.end_cluster()
             if self.is_renewal(it):
                 self.renew()
             if isinstance(it, Command):
@@ -141,35 +124,24 @@ class Replay:
         if command.number != self.commands:
             self.complain(NUMBERS, f"this is command {self.commands}")
             self.commands = command.number
-        if command.do in OF_SERVICE and not self.is_served:
-            self.complain(ORDER_RULE, "a service alone tells such a line")
-        if self.served:
-            self.served.commands.append((self.at, command))
-        else:
-            self.group = Group(self.at, command)
+        self.group = Group(self.at, command)
 
     def end_group(self) -> None:
         """Holds the command against its steps, once all of them are played."""
-        if self.group:
+        if self.group and self.group.command.do == "renew":
+            self.found += check_renewal(self.group, self.world, self.before)
+        elif self.group:
             self.found += check(self.group, self.world)
         self.group = None
-
-    def end_cluster(self) -> None:
-        """Holds the commands of a service against the steps of the cluster, once all are played."""
-        if self.served:
-            self.found += self.served.check()
-        self.served = None
 
     def play_step(self, it: Any) -> None:
         """Plays a step, or what a session is told."""
         if self.group:
             kept = self.group.told if isinstance(it, Told) else self.group.steps
             kept.append((self.at, it))
-        elif not self.is_storm and not self.served:
+        elif not self.is_storm:
             self.complain(ORDER_RULE, "it stands below no command")
         self.found += [(self.at, fault) for fault in self.faults_of(it)]
-        if self.served:
-            self.served.add(self.at, it)
 
     def faults_of(self, it: Any) -> Iterator[Fault]:
         if isinstance(it, Told):

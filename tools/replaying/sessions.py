@@ -3,7 +3,7 @@
 - told fetches: a get has r fetches of one key, for r homes, each at a node that may hold for it.
 - since: each of them is later than all that its session was told before.
 
-In a run the lines have that order. In a storm and in a service the told lines come after all steps,
+In a run and in a service the lines have that order. In a storm the told lines come after all steps,
 session by session. But a session's ack is later than all that the session was told before. So no
 ack of the session lies between the fetches of one get, and each get's fetches are later than those
 of its earlier gets.
@@ -18,8 +18,8 @@ from replaying.worlds import World
 class Sessions:
     """All sessions, by their numbers."""
 
-    def __init__(self, world: World, is_storm: bool, is_served: bool) -> None:
-        self.world, self.is_storm, self.is_served = world, is_storm, is_served
+    def __init__(self, world: World, is_storm: bool) -> None:
+        self.world, self.is_storm = world, is_storm
         self.acks: Dict[int, List[int]] = {}
         self.fetches: Dict[int, int] = {}
         self.last = 0
@@ -31,12 +31,10 @@ class Sessions:
         """Says what is wrong with the fetches of a get, and takes them as told."""
         if self.is_storm and told.session < self.last:
             yield Fault("order of lines", f"session {told.session} comes after {self.last}")
-        if self.is_served and told.session != self.last and told.session in self.fetches:
-            yield Fault("order of lines", f"session {told.session} comes again")
         self.last = told.session
         yield from self.wrong_fetches(told)
         acks, before = self.acks.get(told.session, []), self.fetches.get(told.session, 0)
-        if not (self.is_storm or self.is_served):
+        if not self.is_storm:
             before = max([before, *acks[-1:]])
         least, greatest = min(told.numbers), max(told.numbers)
         if least <= before:

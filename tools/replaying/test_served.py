@@ -1,12 +1,8 @@
-"""Outputs of services by hand, from docs/FORMATS.md, and how they are tampered with.
-
-The rows of runs are also turned into such outputs: the commands first, then all steps, and then
-what was told of gets.
-"""
+"""Outputs of services by hand, from docs/FORMATS.md, and how they are tampered with."""
 import re
 from typing import Dict, List
 
-from replaying.test_rows import HEAD, ROWS as RUNS, output_of
+from replaying.test_rows import HEAD, output_of
 from replaying.test_tampering import Tampering, renumber, tamper
 
 # The script and the lines of the first service.
@@ -42,33 +38,33 @@ step 10 ack 61 n0:2 w 2 session 0
 SERVED: Dict[str, str] = {
     "a service": HEAD + f"""
 1 put ok n0:1 {STORED}
-2 get ok context n0:1 from 0/0 1/1 values n0:1=78
-3 E17 ScriptSyntax 3
-4 put ok n0:2 {STORED}
-5 get ok context n0:1-2 from 0/0 1/1 values n0:1=78 n0:2=79
-6 get ok context - from 2/2 3/3 values none
 step 1 issue 0 61 n0:1 behind - value 78
 step 2 hold 0/0 61 n0:1
 step 3 hold 1/1 61 n0:1
 step 4 hold 2/2 61 n0:1
 step 5 ack 61 n0:1 w 2 session 0
+2 get ok context n0:1 from 0/0 1/1 values n0:1=78
 step 6 fetch 0/0 61
 step 7 fetch 1/1 61
 step 8 fetch 2/2 61
+told 6 7 session 0
+3 E17 ScriptSyntax 3
+4 put ok n0:2 {STORED}
 step 9 issue 0 61 n0:2 behind - value 79
 step 10 hold 0/0 61 n0:2
 step 11 hold 1/1 61 n0:1-2
 step 12 hold 2/2 61 n0:1-2
 step 13 ack 61 n0:2 w 2 session 4
+5 get ok context n0:1-2 from 0/0 1/1 values n0:1=78 n0:2=79
 step 14 fetch 0/0 61
 step 15 fetch 1/1 61
 step 16 fetch 2/2 61
+told 14 15 session 4
+6 get ok context - from 2/2 3/3 values none
 step 17 fetch 2/2 616263
 step 18 fetch 3/3 616263
 step 19 fetch 4/4 616263
-told 6 7 session 0
 told 17 18 session 0
-told 14 15 session 4
 held 0/0 61 n0:1-2
 held 1/1 61 n0:1-2
 held 2/2 61 n0:1-2
@@ -76,15 +72,15 @@ acked 61 n0:1 covered 0/0 1/1 2/2
 acked 61 n0:2 covered 0/0 1/1 2/2
 end held 6 acked 2 gets 3 steps 19
 7 renew ok carried 2
+{CARRIED}
 8 E18 UnknownCommand 8
 9 put ok n0:3 {STORED}
-10 put E8 ContextUnknown n0:4
-{CARRIED}
 step 11 issue 0 61 n0:3 behind n0:1-2 value 7a
 step 12 hold 0/0 61 n0:3
 step 13 hold 1/1 61 n0:3
 step 14 hold 2/2 61 n0:3
 step 15 ack 61 n0:3 w 2 session 0
+10 put E8 ContextUnknown n0:4
 held 0/0 61 n0:3
 held 1/1 61 n0:3
 held 2/2 61 n0:3
@@ -110,18 +106,18 @@ end held 3 acked 1 gets 0 steps 5
 3 down ok
 4 down ok
 5 put E15 NotEnough n0:1 answers 0/0=stored 1/1=noanswer 2/2=down 3/1=down 4/2=down
+step 1 issue 0 61 n0:1 behind - value 78
+step 2 hold 0/0 61 n0:1
 6 show 1 own -
 7 fault ok
 8 deliver ok 1
+step 3 hold 1/1 61 n0:1
 9 show 1 own n0:1
 10 get ok context n0:1 from 0/0 1/1 values n0:1=78
-11 E0 OutOfMemory
-step 1 issue 0 61 n0:1 behind - value 78
-step 2 hold 0/0 61 n0:1
-step 3 hold 1/1 61 n0:1
 step 4 fetch 0/0 61
 step 5 fetch 1/1 61
 told 4 5 session 0
+11 E0 OutOfMemory
 held 0/0 61 n0:1
 held 1/1 61 n0:1
 end held 2 acked 0 gets 1 steps 5
@@ -134,27 +130,7 @@ end held 0 acked 0 gets 0 steps 0
 }
 
 
-def as_served(text: str) -> str:
-    """Returns the output of a run as a service prints it: with what was told below all steps,
-    session by session, in the order in which sessions are first told something."""
-    lines = text.split("\n")[:-1]
-    told: Dict[str, List[str]] = {}
-    for line in lines:
-        if line.startswith("told ") or " ack " in line:
-            told.setdefault(line[line.index("session") :], [])
-        if line.startswith("told "):
-            told[line[line.index("session") :]].append(line)
-    commands = [line for line in lines if line[:1].isdigit()]
-    steps = [line for line in lines if line.startswith("step ")]
-    head = [line for line in lines if line.startswith(("cluster ", "token "))]
-    rest = [line for line in lines if line.startswith(("held ", "acked ", "settled ", "end "))]
-    order = [*head, *commands, *steps, *(line for gets in told.values() for line in gets), *rest]
-    return "".join(f"{line}\n" for line in order)
-
-
 ROWS: Dict[str, str] = {name: output_of(text) for name, text in SERVED.items()}
-ROWS.update({f"{name}, served": as_served(text) for name, text in RUNS.items()
-             if "end held" in text})
 
 ONE, LATE = "a service", "a service with a late message"
 AT_1, ACK = "step 11 hold 1/1 61 n0:1-2", "step 13 ack 61 n0:2 w 2 session 4"
@@ -176,26 +152,16 @@ TAMPERED: List[Tampering] = [
     tamper(ONE, "a value of a get left out", "row of a get", GET, GET.replace(" n0:2=79", "")),
     tamper(ONE, "another context of a get", "row of a get", GET, GET.replace("n0:1-2", "n0:2")),
     tamper(ONE, "a get from another place", "row of a get", GET, GET.replace("1/1", "2/2")),
-    tamper(ONE, "two gets turned", "row of a get", f"{GET}\n{OTHER}",
-           f"5{OTHER[1:]}\n6{GET[1:]}"),
     tamper(ONE, "a get that no fetches answer", "steps of a command", "3 E17 ScriptSyntax 3",
            f"3{OTHER[1:]}"),
-    tamper(ONE, "a get less than was told", "told fetches", OTHER, "6 E17 ScriptSyntax 6"),
+    tamper(ONE, "a get told again", "since", LAST, EARLY),
+    tamper(ONE, "a get that was refused and told", "steps of a command", OTHER, "6 E17 ScriptSyntax 6"),
     tamper(ONE, "a get not told", "steps of a command", TOLD, ""),
     tamper(ONE, "a fetch not told", "told fetches", TOLD, "told 14 session 4"),
     tamper(ONE, "another fetch told", "row of a get", TOLD, "told 14 16 session 4"),
     tamper(ONE, "a fetch of two gets told", "told fetches", TOLD, "told 14 18 session 4"),
     tamper(ONE, "two gets told in one line", "told fetches", LAST, "", TOLD,
            "told 14 15 17 18 session 4"),
-    tamper(ONE, "two gets of a session told in another order", "since", f"{EARLY}\n{LAST}",
-           f"{LAST}\n{EARLY}"),
-    tamper(ONE, "a get told to the session before", "since", TOLD, "told 14 15 session 0"),
-    tamper(ONE, "a session told again", "order of lines", f"{LAST}\n{TOLD}", f"{TOLD}\n{LAST}"),
-    tamper(ONE, "a get told above the steps behind it", "steps of a command", EARLY, "",
-           "step 8 fetch 2/2 61", f"step 8 fetch 2/2 61\n{EARLY}"),
-    tamper(ONE, "all gets told above the steps", "steps of a command",
-           f"{EARLY}\n{LAST}\n{TOLD}", "", OTHER, f"{OTHER}\n{EARLY}\n{LAST}\n{TOLD}"),
-    tamper(ONE, "a command behind what was told", "order of lines", TOLD, f"{TOLD}\n7 down ok"),
     tamper(ONE, "a put of a dot that was not made", "steps of a command", f"4 put ok n0:2 {STORED}",
            f"4 put ok n0:3 {STORED}"),
     tamper(ONE, "an answer that says down", "answers of a command", f"4 put ok n0:2 {STORED}",
@@ -236,7 +202,7 @@ TAMPERED: List[Tampering] = [
     tamper(ONE, "a value carried to a stand-in", "held lines", AGAIN, AGAIN.replace("1/1", "3/1")),
     tamper(ONE, "a value carried to another home first", "steps of a command",
            f"{ISSUE}\nstep 7 hold 0/0 61 n0:2", f"{ISSUE}\nstep 7 hold 1/1 61 n0:2"),
-    tamper(LATE, "a message shown before it came", "counts", "6 show 1 own -",
+    tamper(LATE, "a message shown before it came", "row shown", "6 show 1 own -",
            "6 show 1 own n0:1"),
     tamper(LATE, "messages counted wrong", "counts", "8 deliver ok 1", "8 deliver ok 2"),
 ]
@@ -254,7 +220,7 @@ RENUMBERED: List[Tampering] = [
            f"{AT_1}\nstep 12 hold 2/2 61 n0:1-2\n{ACK}", ""),
     tamper(ONE, "a fetch of nobody", "steps of a command", "step 14 fetch 0/0 61",
            "step 14 fetch 3/3 616263\nstep 20 fetch 0/0 61"),
-    tamper(ONE, "a carried value without its ack", "steps of a command", AGAIN_ACK, ""),
+    tamper(ONE, "a carried value without its ack", "carried values", AGAIN_ACK, ""),
     tamper(ONE, "a carried value left out", "steps of a command",
            f"{ISSUE}\nstep 7 hold 0/0 61 n0:2\n{AGAIN}\n"
            f"step 9 hold 2/2 61 n0:1-2\n{AGAIN_ACK}", ""),

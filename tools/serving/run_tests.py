@@ -50,37 +50,14 @@ def compare(test: Test, name: str, script: Script) -> None:
     compare_steps(test, name, script, whole)
 
 
-def gets_of(lines: List[str]) -> List[Tuple[str, List[int]]]:
-    """Of each line of what was told: the session, and the fetches."""
-    told = [line.split(" ") for line in lines if line.startswith("told ")]
-    return [(words[-1], sorted(map(int, words[1:-2]))) for words in told]
-
-
-def by_session(lines: List[str], script: Script) -> List[Tuple[str, List[int]]]:
-    """The same, session by session, in the order in which the script first names them."""
-    named = [str(command.get("session", 0)) for command in script.get("run", [])
-             if command["do"] in ("put", "delete", "get")]
-    return sorted(gets_of(lines), key=lambda it: named.index(it[0]))
-
-
 def compare_steps(test: Test, name: str, script: Script, whole: Run) -> None:
-    """With --steps: the ring, the answers, as many steps as the audit says, and the audit."""
+    """With --steps: the lines of a run, to the byte, and without the steps those of a run without."""
     run = test.run(["run", "--steps", test.file(script, f"{name}.json")])
-    done = served(test, name, script, 0, "--steps")
-    test.same(f"{name}: the status with steps", (done.status, done.err), (0, b""))
-    wanted, (added, others) = cut(run.out)[0], cut(done.out)
+    for first in sorted({0, len(script.get("run", [])) // 2}):
+        done = served(test, name, script, first, "--steps")
+        test.same(f"{name}: served with steps behind {first}", done, run)
+    added, others = cut(run.out)
     test.same(f"{name}: all but the steps", others, whole.out.decode("utf-8").splitlines())
-    for kind in ("cluster ", "token ", "step "):
-        test.same(f"{name}: the lines of {kind.strip()}",
-                  *([line for line in lines if line.startswith(kind)] for lines in (added, wanted)))
-    test.same(f"{name}: the fetches that were told", gets_of(added), by_session(wanted, script))
-    kinds = [it.split(" ")[0] for it in added]
-    test.same(f"{name}: the told lines stand below the steps", kinds,
-              sorted(kinds, key=["cluster", "token", "step", "told"].index))
-    head = [it for it in added if it.startswith(("cluster ", "token "))]
-    count = len(script.get("run", []))
-    order = [*head, *others[:count], *added[len(head):], *others[count:]]
-    test.same(f"{name}: their order", done.out.decode("utf-8").splitlines(), order)
     steps = sum(1 for it in added if it.startswith("step "))
     test.same(f"{name}: how many they are", str(steps), others[-1].rpartition(" ")[2])
 
@@ -108,15 +85,16 @@ def test_refused_scripts(test: Test) -> None:
 
 
 def test_steps_of_renewals(test: Test) -> None:
-    """The steps of each cluster stand before its audit, and the ring once, before all."""
+    """The steps of each command and renewal stand below its line, and the ring once, before all."""
     put, get = {"do": "put", "key": "a", "value": "x"}, {"do": "get", "key": "a"}
     data = b"\n".join(line_of(it) for it in (put, get, RENEW, get, get, RENEW))
     lines = test.serve(data, SCRIPT, "--steps").out.decode("utf-8").splitlines()
     words = [re.sub(r"^\d+ ", "", line).split(" ")[0] for line in lines]
-    first = ["put", "get", *["step"] * 8, "told", "held", "held", "held", "acked", "end", "renew"]
-    second = ["get", "get", *["step"] * 11, "told", "told",
-              "held", "held", "held", "acked", "end", "renew"]
-    third = [*["step"] * 5, "held", "held", "held", "acked", "end"]
+    put_steps, got = ["step"] * 5, ["get", *["step"] * 3, "told"]
+    audit = ["held", "held", "held", "acked", "end"]
+    first = ["put", *put_steps, *got, *audit, "renew"]
+    second = [*put_steps, *got, *got, *audit, "renew"]
+    third = [*put_steps, *audit]
     test.same("the steps of renewals", words,
               ["cluster", *["token"] * 5, *first, *second, *third])
     sums = [line for line in lines if line.startswith("end ")]

@@ -13,7 +13,6 @@ use Rattle.dy_lines.specs.declared.outcomes.Outcome.{Outcome}
 use Rattle.dy_runner.specs.Runs.{outcomes_in}
 use Rattle.dy_runner.specs.Traces.{AreTraced, StepSessions, Traced, command_lines, fetches_behind}
 use Rattle.dy_runner.specs.Traces.{line_behind, step_lines, steps_in, told_line, traced_lines}
-use Rattle.dy_runner.specs.Trails.{log_lines}
 use Rattle.dy_runner.specs.declared.recordings.Played.{Played}
 use Rattle.dy_shares.specs.declared.kept_steps.KeptStep.{KeptStep}
 use Rattle.dy_shares.specs.declared.step_numbers.StepNumbers.{StepNumbers}
@@ -196,11 +195,3 @@ traced_as ns ms ts us os ps log kept wrote numbers told outcomes steps traced =
     outcomes
     (subst (λ (x : List KeptStep). AreTraced (record { numbers = ns; told = ts }) os x wrote)
     steps traced)))
-
--- so is a log that is written whole
-pub logged_as : (ns ms : List ℕ) (ts us : List StepNumbers) (log kept : List KeptStep) → ns ≡ ms →
-    ts ≡ us → log ≡ kept →
-    log_lines (record { numbers = ns; told = ts }) log
-    ≡ log_lines (record { numbers = ms; told = us }) kept
-logged_as ns ms ts us log kept numbers told steps p =
-    log_lines (record { numbers = numbers p; told = told p }) (steps p)

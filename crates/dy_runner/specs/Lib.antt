@@ -8,6 +8,5 @@ pub mod Runs
 pub mod Seats
 pub mod Texts
 pub mod Traces
-pub mod Trails
 pub mod Writes
 pub mod inside

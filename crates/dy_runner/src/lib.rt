@@ -11,7 +11,6 @@ mod running;
 mod seats;
 mod telling;
 mod traces;
-mod trails;
 mod writes;
 mod writing;
 
@@ -19,5 +18,4 @@ pub use options::{options_of, ring_of};
 pub use plans::{Plan, plan_of};
 pub use running::run_command;
 pub use seats::Seats;
-pub use trails::write_trail;
 pub use writing::{run_script, write_audit, write_ring, write_run};

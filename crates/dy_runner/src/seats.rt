@@ -30,6 +30,14 @@ impl Seats {
         }
     }
 
+    /// Where the session of this number is among those opened, or their count where it is not
+    /// there. Takes no memory.
+    pub fn seat_of(&self, number: u8) -> usize
+        ensures { result ≡ seat_of number self.now.numbers.items }
+    {
+        index_of(self.numbers.as_slice(), number)
+    }
+
     /// The place of the session of this number, which is opened where it was not. May wait for a
     /// lock.
     pub(crate) fn place_of<J: Naming, R: Wait>(

@@ -138,8 +138,8 @@ fn is_fetch(step: &KeptStep) -> bool
     }
 }
 
-/// Writes the line of the step.
-pub(crate) fn write_line<O: Write>(
+// Writes the line of the step.
+fn write_line<O: Write>(
     trace: &Trace<'_>,
     number: usize,
     step: &KeptStep,

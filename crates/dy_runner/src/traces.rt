@@ -64,8 +64,8 @@ impl<'a> Trace<'a> {
     }
 }
 
-/// The number at this place among those of the sessions, or 0 where there is none. Takes no memory.
-pub(crate) fn number_at(numbers: &[u8], place: usize) -> usize
+// The number at this place among those of the sessions, or 0 where there is none. Takes no memory.
+fn number_at(numbers: &[u8], place: usize) -> usize
     ensures { result ≡ get_or numbers.now place 0 }
 {
     usize::from(numbers.get(place).copied().unwrap_or(0))

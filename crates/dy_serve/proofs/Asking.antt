@@ -7,12 +7,14 @@ use Rattle.dy_cluster.specs.Settings.{Setting}
 use Rattle.dy_script.specs.Orders.{command_parts}
 use Rattle.dy_script.specs.Requests.{does, renews}
 use Rattle.dy_script.specs.declared.commands.Command.{Command}
-use Rattle.dy_runner.specs.Runs.{none_seated}
-use Rattle.dy_runner.specs.Seats.{Seated}
-use Rattle.dy_serve.specs.Answers.{AreAnswered, Asked, IsAnswered, IsDone, asked_by, asked_in, asked_of}
+use Rattle.dy_serve.specs.Answers.{AreAnswered, Asked, IsAnswered, IsDone, asked_by, asked_in}
+use Rattle.dy_serve.specs.Answers.{asked_of}
+use Rattle.dy_serve.specs.Below.{Standing, none_standing}
 use Rattle.dy_serve.specs.Closings.{Service}
 use Rattle.dy_serve.specs.InputLines.{is_nothing}
+use Rattle.dy_serve.specs.declared.open_clusters.Ways.{Ways}
 use Rattle.dy_serve.specs.inside.Meeting.{AreAnsweredHere, IsAnsweredHere}
+use Rattle.dy_serve.specs.inside.Stretches.{ways_of}
 
 -- what more lines ask for is numbered on, behind one that asks or does not
 asked_behind_one : (nodes number : ℕ) (one : Asked) (ls more : List (List ℕ)) →
@@ -54,8 +56,8 @@ asked_next cs i c within here =
     (command_parts c ∷ [])
 
 -- one more is answered in the cluster behind the others
-pub answered_behind : (s : Setting) (w : ℕ) (asked : List Asked) (a : Asked) (number : ℕ)
-    (first between last : Seated) (text more : List ℕ) →
+pub answered_behind : (s : Setting) (w : Ways) (asked : List Asked) (a : Asked) (number : ℕ)
+    (first between last : Standing) (text more : List ℕ) →
     AreAnsweredHere s w asked number first between text →
     IsAnsweredHere s w a (number + length asked) between last more →
     AreAnsweredHere s w (asked ++ a ∷ []) number first last (text ++ more)
@@ -64,7 +66,7 @@ answered_behind s w [] a number first between last text more done one = (
   more,
   [],
   subst (λ (n : ℕ). IsAnsweredHere s w a n first last more) (omega arith)
-      (subst (λ (x : Seated). IsAnsweredHere s w a (number + 0) x last more) done.0 one),
+      (subst (λ (x : Standing). IsAnsweredHere s w a (number + 0) x last more) done.0 one),
   (refl, refl),
   ap (λ t. t ++ more) done.1 ∙ sym (append-nil more),
 )
@@ -79,12 +81,13 @@ answered_behind s w (b ∷ bs) a number first between last text more done one = 
 )
 
 -- one command more of a script is done, in the cluster as it was opened
-pub script_next : (s t : Setting) (w v : ℕ) (cs : List Command) (i : ℕ) (c : Command) (number : ℕ)
-    (between last : Seated) (text more : List ℕ) → i < length cs → c ≡ slice_index_or cs i c →
-    AreAnsweredHere s w (asked_of (map command_parts (take i cs))) 1 none_seated between text →
+pub script_next : (s t : Setting) (w v : Ways) (cs : List Command) (i : ℕ) (c : Command)
+    (number : ℕ)
+    (between last : Standing) (text more : List ℕ) → i < length cs → c ≡ slice_index_or cs i c →
+    AreAnsweredHere s w (asked_of (map command_parts (take i cs))) 1 none_standing between text →
     number ≡ i + 1 → t ≡ s → v ≡ w →
-    IsDone t v (command_parts c) number between last more →
-    AreAnsweredHere s w (asked_of (map command_parts (take (i + 1) cs))) 1 none_seated last
+    IsDone t v.w v.with_steps (command_parts c) number between last more →
+    AreAnsweredHere s w (asked_of (map command_parts (take (i + 1) cs))) 1 none_standing last
     (text ++ more)
 script_next s t w v cs i c number between last text more within here so_far is same_setting same_w
     done =
@@ -93,27 +96,29 @@ script_next s t w v cs i c number between last text more within here so_far is s
     length-map {B = Asked} (map command_parts (take i cs)) (λ x. Ok (does x))
     ∙ length-map (take i cs) command_parts ∙ length-take-le i cs (omega arith) in
     let at : number ≡ 1 + length asked = omega (arith, is, count) in
-    let one : IsDone s w (command_parts c) (1 + length asked) between last more =
-    subst (λ (x : Setting). IsDone x w (command_parts c) (1 + length asked) between last more)
+    let one : IsDone s w.w w.with_steps (command_parts c) (1 + length asked) between last more =
+    subst (λ (x : Setting). IsDone x w.w w.with_steps (command_parts c) (1 + length asked) between
+    last more)
     same_setting
-    (subst (λ (x : ℕ). IsDone t x (command_parts c) (1 + length asked) between last more) same_w
-    (subst (λ (n : ℕ). IsDone t v (command_parts c) n between last more) at done)) in
-    subst (λ (l : List Asked). AreAnsweredHere s w l 1 none_seated last (text ++ more))
+    (subst (λ (x : Ways). IsDone t x.w x.with_steps (command_parts c) (1 + length asked) between
+    last more) same_w
+    (subst (λ (n : ℕ). IsDone t v.w v.with_steps (command_parts c) n between last more) at done)) in
+    subst (λ (l : List Asked). AreAnsweredHere s w l 1 none_standing last (text ++ more))
     (sym (asked_next cs i c within here))
-    (answered_behind s w asked (Ok (does (command_parts c))) 1 none_seated between last text more
+    (answered_behind s w asked (Ok (does (command_parts c))) 1 none_standing between last text more
     so_far (inl one))
 
 -- what was answered in the cluster was answered
-pub answered : (v : Service) (a : Asked) (number : ℕ) (before after : Seated) (text : List ℕ) →
-    IsAnsweredHere v.setting v.script.w a number before after text →
+pub answered : (v : Service) (a : Asked) (number : ℕ) (before after : Standing) (text : List ℕ) →
+    IsAnsweredHere v.setting (ways_of v) a number before after text →
     IsAnswered v a number before after text
 answered v (Err f) number before after text one = one
 answered v (Ok (does c)) number before after text one = one
 answered v (Ok renews) number before after text (inl met) = absurd met
 answered v (Ok renews) number before after text (inr refused) = inr refused
 
-pub all_answered : (v : Service) (asked : List Asked) (number : ℕ) (before after : Seated)
-    (text : List ℕ) → AreAnsweredHere v.setting v.script.w asked number before after text →
+pub all_answered : (v : Service) (asked : List Asked) (number : ℕ) (before after : Standing)
+    (text : List ℕ) → AreAnsweredHere v.setting (ways_of v) asked number before after text →
     AreAnswered v asked number before after text
 all_answered v [] number before after text done = done
 all_answered v (a ∷ more) number before after text done = (
@@ -127,14 +132,15 @@ all_answered v (a ∷ more) number before after text done = (
 
 -- more is answered behind the others
 pub all_behind : (v : Service) (asked more : List Asked) (number : ℕ)
-    (first between last : Seated) (text rest : List ℕ) →
+    (first between last : Standing) (text rest : List ℕ) →
     AreAnswered v asked number first between text →
     AreAnswered v more (number + length asked) between last rest →
     AreAnswered v (asked ++ more) number first last (text ++ rest)
 all_behind v [] more number first between last text rest done others =
-    subst (λ (t : List ℕ). AreAnswered v more number first last t) (sym (ap (λ t. t ++ rest) done.1))
+    subst (λ (t : List ℕ). AreAnswered v more number first last t)
+    (sym (ap (λ t. t ++ rest) done.1))
     (subst (λ (n : ℕ). AreAnswered v more n first last rest) (omega arith)
-    (subst (λ (x : Seated). AreAnswered v more (number + 0) x last rest) done.0 others))
+    (subst (λ (x : Standing). AreAnswered v more (number + 0) x last rest) done.0 others))
 all_behind v (a ∷ others_asked) more number first between last text rest done others = (
   done.0,
   done.1,

@@ -1,4 +1,6 @@
 pub mod Asking
 pub mod LineByLine
 pub mod Lines
+pub mod Lowering
+pub mod Printing
 pub mod Stretching

@@ -9,10 +9,11 @@ use Rattle.dy_cluster.specs.Settings.{Setting}
 use Rattle.dy_cluster.specs.declared.restings.Closed.{Closed}
 use Rattle.dy_script.specs.Reading.{ScriptParts}
 use Rattle.dy_script.specs.Requests.{renews}
-use Rattle.dy_runner.specs.Seats.{Seated}
 use Rattle.dy_serve.specs.Answers.{Asked, asked_by, asked_in}
+use Rattle.dy_serve.specs.Below.{Standing}
 use Rattle.dy_serve.specs.InputLines.{AreLines, IsRead}
 use Rattle.dy_serve.specs.declared.answering.Answered.{Answered}
+use Rattle.dy_serve.specs.declared.open_clusters.Ways.{Ways}
 use Rattle.dy_serve.specs.declared.services.Stop.{Stop}
 use Rattle.dy_serve.specs.inside.Meeting.{AreAnsweredHere, IsAnsweredHere, MeetsLine}
 use Rattle.dy_serve.specs.inside.Stretches.{Begins, ServesRest, ServesTo}
@@ -27,7 +28,8 @@ one_line false whole bytes read = read ∙ sym (append-nil (whole ++ 10 ∷ []))
 one_line true whole bytes read =
     ap (λ b. b ++ 10 ∷ []) read ∙ sym (append-nil (whole ++ 10 ∷ []))
 
-module _ (s : Setting) (w nodes first count : ℕ) (is_last : Bool) (before between after : Seated)
+module _ (s : Setting) (w : Ways) (nodes first count : ℕ) (is_last : Bool)
+    (before between after : Standing)
     (in_old in_mid in_new : Option (List ℕ)) (were text more whole bytes : List ℕ)
     (so : ServesTo s w nodes first count false false before between in_old in_mid were text)
     (read : IsRead is_last whole bytes) (none_within : All (λ x. x ≢ 10) whole)
@@ -82,7 +84,7 @@ module _ (s : Setting) (w nodes first count : ℕ) (is_last : Bool) (before betw
       (serves_asked [] so.asked false answered.count
       (ap (λ b. cond b [] (asked_by nodes (count + 1) whole ∷ [])) is)
       (append-nil so.asked)
-      (subst (λ (x : Seated). AreAnsweredHere s w so.asked (first + 1) before x (text ++ more))
+      (subst (λ (x : Standing). AreAnsweredHere s w so.asked (first + 1) before x (text ++ more))
       (sym same)
       (subst (λ (t : List ℕ). AreAnsweredHere s w so.asked (first + 1) before between t)
       (sym (ap (λ t. text ++ t) none ∙ append-nil text)) so.answered))
@@ -94,7 +96,7 @@ module _ (s : Setting) (w nodes first count : ℕ) (is_last : Bool) (before betw
       (ap (λ b. cond b [] (asked_by nodes (count + 1) whole ∷ [])) is
       ∙ ap (λ a. a ∷ []) asks)
       refl
-      (subst (λ (x : Seated). AreAnsweredHere s w so.asked (first + 1) before x (text ++ more))
+      (subst (λ (x : Standing). AreAnsweredHere s w so.asked (first + 1) before x (text ++ more))
       (sym same)
       (subst (λ (t : List ℕ). AreAnsweredHere s w so.asked (first + 1) before between t)
       (sym (ap (λ t. text ++ t) none ∙ append-nil text)) so.answered))
@@ -111,17 +113,18 @@ module _ (s : Setting) (w nodes first count : ℕ) (is_last : Bool) (before betw
       counts)
 
 -- in the cluster as it was opened
-pub meets_in : (s t : Setting) (w v nodes m count : ℕ) (whole : List ℕ) (answered : Answered)
-    (before after : Seated) (text : List ℕ) → t ≡ s → v ≡ w → m ≡ nodes →
+pub meets_in : (s t : Setting) (w v : Ways) (nodes m count : ℕ) (whole : List ℕ)
+    (answered : Answered)
+    (before after : Standing) (text : List ℕ) → t ≡ s → v ≡ w → m ≡ nodes →
     MeetsLine t v m count whole answered before after text →
     MeetsLine s w nodes count whole answered before after text
 meets_in s t w v nodes m count whole answered before after text same_setting same_w same_nodes met =
     subst (λ (x : Setting). MeetsLine x w nodes count whole answered before after text) same_setting
-    (subst (λ (x : ℕ). MeetsLine t x nodes count whole answered before after text) same_w
+    (subst (λ (x : Ways). MeetsLine t x nodes count whole answered before after text) same_w
     (subst (λ (x : ℕ). MeetsLine t v x count whole answered before after text) same_nodes met))
 
-pub rest_in : (s t : Setting) (w v nodes m count : ℕ) (is_last : Bool) (stop : Stop)
-    (before after : Seated) (in_old in_new : Option (List ℕ)) (text : List ℕ) →
+pub rest_in : (s t : Setting) (w v : Ways) (nodes m count : ℕ) (is_last : Bool) (stop : Stop)
+    (before after : Standing) (in_old in_new : Option (List ℕ)) (text : List ℕ) →
     t ≡ s → v ≡ w → m ≡ nodes →
     ServesRest is_last t v m count stop before after in_old in_new text →
     ServesRest is_last s w nodes count stop before after in_old in_new text
@@ -129,14 +132,14 @@ rest_in s t w v nodes m count is_last stop before after in_old in_new text same_
     same_nodes rest =
     subst (λ (x : Setting). ServesRest is_last x w nodes count stop before after in_old in_new text)
     same_setting
-    (subst (λ (x : ℕ). ServesRest is_last t x nodes count stop before after in_old in_new text)
+    (subst (λ (x : Ways). ServesRest is_last t x nodes count stop before after in_old in_new text)
     same_w
     (subst (λ (x : ℕ). ServesRest is_last t v x count stop before after in_old in_new text)
     same_nodes rest))
 
 -- where no renewal is asked for, and the input goes on
-pub serves_here : (s : Setting) (w nodes first count : ℕ) (does_renew is_last : Bool)
-    (before after : Seated) (in_old in_new : Option (List ℕ)) (bytes text : List ℕ) →
+pub serves_here : (s : Setting) (w : Ways) (nodes first count : ℕ) (does_renew is_last : Bool)
+    (before after : Standing) (in_old in_new : Option (List ℕ)) (bytes text : List ℕ) →
     does_renew ≡ false → is_last ≡ false →
     ServesTo s w nodes first count does_renew is_last before after in_old in_new bytes text →
     ServesTo s w nodes first count false false before after in_old in_new bytes text
@@ -147,8 +150,8 @@ serves_here s w nodes first count does_renew is_last before after in_old in_new 
     (subst (λ (b : Bool). ServesTo s w nodes first count b is_last before after in_old in_new bytes
     text) goes_on serves)
 
-pub begins_in : (s : Setting) (script : ScriptParts) (x y : Option Closed) (number : ℕ)
-    (after : Seated) (count : ℕ) (text : List ℕ) → x ≡ y →
-    Begins s script x number after count text → Begins s script y number after count text
-begins_in s script x y number after count text same begins =
-    subst (λ (c : Option Closed). Begins s script c number after count text) same begins
+pub begins_in : (s : Setting) (w : Ways) (script : ScriptParts) (x y : Option Closed) (number : ℕ)
+    (after : Standing) (count : ℕ) (text : List ℕ) → x ≡ y →
+    Begins s w script x number after count text → Begins s w script y number after count text
+begins_in s w script x y number after count text same begins =
+    subst (λ (c : Option Closed). Begins s w script c number after count text) same begins

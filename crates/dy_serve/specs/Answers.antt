@@ -1,5 +1,5 @@
 -- How lines are answered.
-use Rattle.std.specs.Prelude.{◌≡◌, ◌⊎◌, ◌+◌, ◌++◌, ◌∷◌, [], List, ℕ, false, if◌then◌else◌}
+use Rattle.std.specs.Prelude.{◌≡◌, ◌⊎◌, ◌+◌, ◌++◌, ◌∷◌, [], List, ℕ, Bool, false, if◌then◌else◌}
 use Rattle.std.specs.Prelude.{Result, Ok, Err, map}
 use Rattle.dy_dots.specs.declared.faults.Fault.{Fault}
 use Rattle.dy_dots.specs.declared.faults.Fault.TheVariants.{OutOfMemory, ScriptSyntax}
@@ -17,6 +17,7 @@ use Rattle.dy_script.specs.Orders.{CommandParts}
 use Rattle.dy_script.specs.Requests.{RequestParts, does, renews, request_of_text}
 use Rattle.dy_runner.specs.Runs.{Does}
 use Rattle.dy_runner.specs.Seats.{Seated}
+use Rattle.dy_serve.specs.Below.{IsBelow, Standing, none_standing, session_in}
 use Rattle.dy_serve.specs.Closings.{IsClosing, Service}
 use Rattle.dy_serve.specs.InputLines.{is_nothing, is_too_long}
 
@@ -40,15 +41,17 @@ asked_in nodes number (l ∷ ls) =
 abbrev pub asked_of : List CommandParts → List Asked
 asked_of commands = map (λ c. Ok (does c)) commands
 
--- the command was done, and its line is that of a run
+-- the command was done, and its line is that of a run;
+-- and below it stand those of the steps that the book made meanwhile, if they are wanted
 abbrev pub IsDone :
-    Setting → ℕ → CommandParts → ℕ → Seated → Seated → List ℕ → Type 0
-IsDone s w c number before after text =
-    (outcome : Outcome) × Does s w c outcome before after
-    × (text ≡ line (command_text number outcome))
+    Setting → ℕ → Bool → CommandParts → ℕ → Standing → Standing → List ℕ → Type 0
+IsDone s w with_steps c number before after text =
+    (outcome : Outcome) × Does s w c outcome before.sessions after.sessions
+    × (below : List ℕ) × IsBelow with_steps (session_in c) before after below
+    × (text ≡ line (command_text number outcome) ++ below)
 
 -- nothing was done, and the line tells this refusal
-abbrev pub IsRefused : Fault → ℕ → Seated → Seated → List ℕ → Type 0
+abbrev pub IsRefused : Fault → ℕ → Standing → Standing → List ℕ → Type 0
 IsRefused fault number before after text =
     (after ≡ before) × (text ≡ line (refused_text number fault))
 
@@ -66,31 +69,34 @@ pub record IsCarriedInto (s : Setting) (closed : Closed) (after : Seated) (count
   pub after_is : after
       ≡ record { numbers = 0 ∷ []; tellings = session ∷ []; refused = false }
 
--- the cluster was closed and printed, and another one has what was present in it
-pub record IsRenewed (v : Service) (number : ℕ) (before after : Seated) (text : List ℕ)
+-- the cluster was closed and printed, and another one has what was present in it; below the line of
+-- the renewal stand the steps of that, if they are wanted
+pub record IsRenewed (v : Service) (number : ℕ) (before after : Standing) (text : List ℕ)
     : Type 0 where
   pub closed : Closed
   pub closing : List ℕ
   pub closed_so : IsClosing v before closed closing
   pub count : ℕ
-  pub carried : IsCarriedInto v.setting closed after count
-  pub text_is : text ≡ closing ++ line (renewed_text number count)
+  pub carried : IsCarriedInto v.setting closed after.sessions count
+  pub below : List ℕ
+  pub is_below : IsBelow v.with_steps 0 none_standing after below
+  pub text_is : text ≡ closing ++ line (renewed_text number count) ++ below
 
 -- what was asked for was done, or what is wrong with it was told
-abbrev pub IsMet : Service → Asked → ℕ → Seated → Seated → List ℕ → Type 0
+abbrev pub IsMet : Service → Asked → ℕ → Standing → Standing → List ℕ → Type 0
 IsMet v (Err fault) number before after text = IsRefused fault number before after text
 IsMet v (Ok (does c)) number before after text =
-    IsDone v.setting v.script.w c number before after text
+    IsDone v.setting v.script.w v.with_steps c number before after text
 IsMet v (Ok renews) number before after text = IsRenewed v number before after text
 
 -- so it was, or memory was wanting to read it
-abbrev pub IsAnswered : Service → Asked → ℕ → Seated → Seated → List ℕ → Type 0
+abbrev pub IsAnswered : Service → Asked → ℕ → Standing → Standing → List ℕ → Type 0
 IsAnswered v asked number before after text =
     IsMet v asked number before after text ⊎ IsRefused OutOfMemory number before after text
 
 -- all that was asked was answered, one after another, numbered from here
-abbrev pub AreAnswered : Service → List Asked → ℕ → Seated → Seated → List ℕ → Type 0
+abbrev pub AreAnswered : Service → List Asked → ℕ → Standing → Standing → List ℕ → Type 0
 AreAnswered v [] number before after text = (after ≡ before) × (text ≡ [])
 AreAnswered v (a ∷ more) number before after text =
-    (between : Seated) × (first rest : List ℕ) × IsAnswered v a number before between first
+    (between : Standing) × (first rest : List ℕ) × IsAnswered v a number before between first
     × AreAnswered v more (number + 1) between after rest × (text ≡ first ++ rest)

@@ -1,13 +1,18 @@
 -- What is printed when a cluster is closed.
-use Rattle.std.specs.Prelude.{◌≡◌, ◌++◌, List, ℕ, Bool, true, false}
+use Rattle.std.specs.Prelude.{◌≡◌, ◌+◌, ◌++◌, [], List, ℕ, Bool, true, false, length}
+use Rattle.dy_core.specs.declared.steps.Step.{Step}
+use Rattle.dy_shares.specs.Trails.{AreKept}
+use Rattle.dy_shares.specs.declared.kept_steps.KeptStep.{KeptStep}
+use Rattle.dy_shares.specs.declared.step_numbers.StepNumbers.{StepNumbers}
+use Rattle.dy_book.specs.Audits.{IsHistoryOf}
 use Rattle.dy_book.specs.declared.audits.Audit.{Audit}
 use Rattle.dy_cluster.specs.Ends.{IsClosed}
 use Rattle.dy_cluster.specs.Settings.{Setting}
 use Rattle.dy_cluster.specs.declared.restings.Closed.{Closed}
 use Rattle.dy_script.specs.Reading.{ScriptParts}
 use Rattle.dy_runner.specs.AuditLines.{audit_lines}
-use Rattle.dy_runner.specs.Seats.{Seated}
-use Rattle.dy_runner.specs.Trails.{trail_lines}
+use Rattle.dy_runner.specs.Traces.{step_lines}
+use Rattle.dy_serve.specs.Below.{Standing, one_session}
 
 -- a service of this script in clusters of this setting, with the steps or without
 pub record Service : Type 1 where
@@ -15,14 +20,27 @@ pub record Service : Type 1 where
   pub script : ScriptParts
   pub with_steps : Bool
 
--- the audit of a cluster with these sessions, and before it its steps and gets if they are wanted
-abbrev pub closing_lines : Bool → ScriptParts → Seated → Audit → List ℕ
-closing_lines false s sessions audit = audit_lines s.w s.settled audit
-closing_lines true s sessions audit =
-    trail_lines sessions.numbers sessions.tellings audit ++ audit_lines s.w s.settled audit
+-- the log that the audit has begins with what was read, and these are the lines of its other steps,
+-- of which no session was told
+pub record AreLeft (read : List Step) (audit : Audit) (text : List ℕ) : Type 0 where
+  pub added : List Step
+  pub history : IsHistoryOf audit.history (read ++ added)
+  pub kept : List KeptStep
+  pub are_kept : AreKept kept added
+  pub told : StepNumbers
+  pub no_acks : told.acks.items ≡ []
+  pub no_fetches : told.fetches.items ≡ []
+  pub text_is : text ≡ step_lines (one_session 0 told) [] (length read + 1) kept
 
--- a cluster with these sessions was closed, and so it was printed
-pub record IsClosing (v : Service) (before : Seated) (closed : Closed) (text : List ℕ)
+-- the same if the steps are wanted, or else nothing
+abbrev pub AreLeftIf : Bool → List Step → Audit → List ℕ → Type 0
+AreLeftIf false read audit text = text ≡ []
+AreLeftIf true read audit text = AreLeft read audit text
+
+-- a cluster that was so far was closed, and so it was printed
+pub record IsClosing (v : Service) (before : Standing) (closed : Closed) (text : List ℕ)
     : Type 0 where
-  pub ended : IsClosed v.setting.ring v.setting.n v.setting.r before.tellings closed
-  pub text_is : text ≡ closing_lines v.with_steps v.script before closed.audit
+  pub ended : IsClosed v.setting.ring v.setting.n v.setting.r before.sessions.tellings closed
+  pub rest : List ℕ
+  pub left : AreLeftIf v.with_steps before.read closed.audit rest
+  pub text_is : text ≡ rest ++ audit_lines v.script.w v.script.settled closed.audit

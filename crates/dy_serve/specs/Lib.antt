@@ -1,4 +1,5 @@
 pub mod Answers
+pub mod Below
 pub mod Closings
 pub mod InputLines
 pub mod Served

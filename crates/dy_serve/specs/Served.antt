@@ -9,9 +9,8 @@ use Rattle.dy_lines.specs.Clusters.{cluster_lines}
 use Rattle.dy_script.specs.Reading.{ScriptParts, node_count}
 use Rattle.dy_runner.specs.Openings.{options_for}
 use Rattle.dy_runner.specs.RingLines.{IsLaidOut}
-use Rattle.dy_runner.specs.Runs.{none_seated}
-use Rattle.dy_runner.specs.Seats.{Seated}
 use Rattle.dy_serve.specs.Answers.{Asked, AreAnswered, asked_in, asked_of}
+use Rattle.dy_serve.specs.Below.{Standing, none_standing}
 use Rattle.dy_serve.specs.Closings.{IsClosing, Service}
 use Rattle.dy_serve.specs.InputLines.{AreLinesOf}
 
@@ -42,11 +41,11 @@ pub record IsServed (s : ScriptParts) (with_steps : Bool) (text wrote : List ℕ
   pub quorum : IsQuorum (options_for s) ring.nodes
   pub lines : List (List ℕ)
   pub lines_of : AreLinesOf text lines
-  pub sessions : Seated
+  pub stands : Standing
   pub answers : List ℕ
-  pub answered : AreAnswered (service_of s ring with_steps) (asked_of_all s lines) 1 none_seated
-      sessions answers
+  pub answered : AreAnswered (service_of s ring with_steps) (asked_of_all s lines) 1 none_standing
+      stands answers
   pub closed : Closed
   pub closing : List ℕ
-  pub closed_so : IsClosing (service_of s ring with_steps) sessions closed closing
+  pub closed_so : IsClosing (service_of s ring with_steps) stands closed closing
   pub wrote_is : wrote ≡ first_lines s ring with_steps ++ answers ++ closing

@@ -1,3 +1,5 @@
 -- What contracts of private functions alone speak of.
+pub mod Indexed
 pub mod Meeting
 pub mod Stretches
+pub mod Telling

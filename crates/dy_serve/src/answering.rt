@@ -6,13 +6,14 @@ ghost use Rattle.dy_lines.specs.Served.{refused_text};
 ghost use Rattle.dy_lines.specs.Texts.{line as text_line};
 ghost use Rattle.dy_script.specs.Orders.{command_parts};
 ghost use Rattle.dy_cluster.specs.Settings.{setting};
-ghost use Rattle.dy_runner.specs.Runs.{seated};
 ghost use Rattle.dy_serve.specs.Answers.{IsDone};
+ghost use Rattle.dy_serve.specs.Below.{standing};
 ghost use Rattle.dy_serve.specs.inside.Meeting.{AsksSo, MeetsLine};
 ghost use Rattle.dy_serve.specs.InputLines.{IsKept};
 
 use crate::input_lines::{Line, is_blank};
 use crate::open_clusters::OpenCluster;
+use crate::told::{session_of, told_so_far};
 use dy_cluster::Session;
 use dy_dots::Fault;
 use dy_lines::{CommandLine, Outcome, RefusedLine, Stopped};
@@ -44,8 +45,8 @@ pub(crate) fn next_number(count: u32) -> Result<u32, Fault>
     }
 }
 
-/// Does the command of this number, and writes its line, which reaches the reader at once. May wait
-/// for locks.
+/// Does the command of this number, and writes its line, and its steps below if they are wanted.
+/// All of it reaches the reader at once. May wait for locks.
 pub(crate) fn answer_command<J: Naming, O: Write, R: Wait>(
     rt: &R,
     alloc: Global,
@@ -54,24 +55,29 @@ pub(crate) fn answer_command<J: Naming, O: Write, R: Wait>(
     number: u32,
     command: &Command,
     out: &mut O,
-) -> io::Result<()>
+) -> Result<(), Stopped>
     requires together { length opened.old.seats.numbers.items ≡ length sessions.old.items }
     ensures together { length opened.new.seats.numbers.items ≡ length sessions.new.items }
     ensures cluster { opened.new.cluster.now ≡ opened.old.cluster.now }
     ensures w { opened.new.w ≡ opened.old.w }
     ensures nodes { opened.new.nodes ≡ opened.old.nodes }
     ensures done { OnOk result ((text : List ℕ)
-        × IsDone (setting J J.ring J.n J.r opened.old.cluster.now.options) opened.old.w
-        (command_parts command.now) number (seated opened.old.seats sessions.old.items)
-        (seated opened.new.seats sessions.new.items) text
+        × IsDone (setting J J.ring J.n J.r opened.old.cluster.now.options) opened.old.w.w
+        opened.old.w.with_steps (command_parts command.now) number
+        (standing opened.old.seats sessions.old.items opened.old.mark)
+        (standing opened.new.seats sessions.new.items opened.new.mark) text
         × Appends (O.contents out.old) (O.contents out.new) text) }
 {
+    let session = session_of(command);
+    let so_far = told_so_far(&opened.seats, sessions.as_slice(), session);
     let outcome = opened.run(rt, alloc, sessions, command);
     tell(number, &outcome, out)?;
+    opened.write_below(rt, alloc, sessions.as_slice(), session, so_far, out)?;
+    out.flush()?;
     Ok(())
 }
 
-/// Writes what came of the command of this number, which reaches the reader at once.
+/// Writes what came of the command of this number.
 fn tell<O: Write>(number: u32, outcome: &Outcome, out: &mut O) -> io::Result<()>
     ensures { OnOk result (Appends (O.contents out.old) (O.contents out.new)
         (text_line (command_text number outcome.now))) }
@@ -81,7 +87,6 @@ fn tell<O: Write>(number: u32, outcome: &Outcome, out: &mut O) -> io::Result<()>
         outcome,
     };
     writeln!(out, "{line}")?;
-    out.flush()?;
     Ok(())
 }
 
@@ -147,8 +152,8 @@ pub(crate) fn answer_line<J: Naming, O: Write, R: Wait>(
         (text : List ℕ)
         × MeetsLine (setting J J.ring J.n J.r opened.old.cluster.now.options) opened.old.w
         opened.old.nodes count whole answered
-        (seated opened.old.seats sessions.old.items)
-        (seated opened.new.seats sessions.new.items) text
+        (standing opened.old.seats sessions.old.items opened.old.mark)
+        (standing opened.new.seats sessions.new.items opened.new.mark) text
         × Appends (O.contents out.old) (O.contents out.new) text) }
 {
     match asked_of_line(alloc, opened.nodes, count, line)? {

@@ -1,42 +1,44 @@
 // What is printed of a cluster that was closed.
-ghost use Rattle.std.specs.Prelude.{◌<◌, List, OnOk};
+ghost use Rattle.std.specs.Prelude.{◌≡◌, ◌++◌, List, ℕ, OnOk, length};
 ghost use Rattle.std.specs.Io.KnownBytes.{Appends};
-ghost use Rattle.dy_script.specs.Reading.{script_parts};
-ghost use Rattle.dy_shares.specs.Shares.{SessionPart};
-ghost use Rattle.dy_lines.specs.Tellings.{AreToldBy};
+ghost use mathlib.Core.List.{IsPrefix};
+ghost use Rattle.dy_shares.specs.Shares.{steps_of};
+ghost use Rattle.dy_shares.specs.declared.entries.Entry.{Entry};
+ghost use Rattle.dy_book.specs.Audits.{IsHistoryOf};
 ghost use Rattle.dy_runner.specs.AuditLines.{audit_lines};
-ghost use Rattle.dy_runner.specs.Runs.{seated};
-ghost use Rattle.dy_serve.specs.Closings.{closing_lines};
+ghost use Rattle.dy_serve.specs.Closings.{AreLeft, AreLeftIf};
 
+use crate::news::News;
+use crate::telling::write_news;
+use crate::told::nothing_told;
 use dy_cluster::Audit;
 use dy_lines::Stopped;
-use dy_runner::{Seats, write_audit, write_trail};
+use dy_runner::write_audit;
 use dy_script::Script;
 use std::alloc::Global;
 use std::io::Write;
 
-/// Writes the steps of the cluster and its gets, if they are wanted, and its audit, which reach the
-/// reader at once. Its sessions have these seats, and each get used so many fetches.
+/// Writes the steps of the cluster behind so many, which were printed, if steps are wanted. Then it
+/// writes the audit. All of it reaches the reader at once.
 pub(crate) fn write_closing<O: Write>(
     alloc: Global,
     script: &Script,
     with_steps: bool,
-    seats: &Seats,
-    r: usize,
+    steps: usize,
     audit: &Audit,
     out: &mut O,
 ) -> Result<(), Stopped>
-    requires some { 0 < r }
-    ensures { OnOk result ((tellings : List SessionPart) → AreToldBy r audit.now.told.items tellings
-        → Appends (O.contents out.old) (O.contents out.new)
-        (closing_lines with_steps (script_parts script.now) (seated seats.now tellings)
-        audit.now)) }
+    ensures { OnOk result ((read log : List Entry) → steps ≡ length read → IsPrefix read log
+        → IsHistoryOf audit.now.history (steps_of log) → (rest : List ℕ)
+        × AreLeftIf with_steps (steps_of read) audit.now rest
+        × Appends (O.contents out.old) (O.contents out.new)
+        (rest ++ audit_lines script.now.w script.now.settled audit.now)) }
 {
     if !with_steps {
         write_last(alloc, script, audit, out)?;
         return Ok(());
     }
-    write_trail(alloc, seats, r, audit, out)?;
+    write_left(alloc, steps, audit, out)?;
     write_last(alloc, script, audit, out)?;
     Ok(())
 }
@@ -53,5 +55,27 @@ fn write_last<O: Write>(
 {
     write_audit(alloc, script.w, script.settled, audit, out)?;
     out.flush()?;
+    Ok(())
+}
+
+// Writes the steps of the cluster behind so many.
+fn write_left<O: Write>(
+    alloc: Global,
+    steps: usize,
+    audit: &Audit,
+    out: &mut O,
+) -> Result<(), Stopped>
+    ensures { OnOk result ((read log : List Entry) → steps ≡ length read → IsPrefix read log
+        → IsHistoryOf audit.now.history (steps_of log) → (rest : List ℕ)
+        × AreLeft (steps_of read) audit.now rest
+        × Appends (O.contents out.old) (O.contents out.new) rest) }
+{
+    let trail = audit.history.kept();
+    if trail.len() < steps {
+        return Ok(());
+    }
+    let rest = &trail[steps..];
+    let news = News::new(alloc, steps, rest, 0, nothing_told(alloc))?;
+    write_news(alloc, &news, out)?;
     Ok(())
 }

@@ -5,9 +5,12 @@
 mod answering;
 mod closing;
 mod input_lines;
+mod news;
 mod open_clusters;
 mod services;
 mod serving;
+mod telling;
+mod told;
 
 pub use input_lines::MAX_LINE_BYTES;
 pub use serving::serve;

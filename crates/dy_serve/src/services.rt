@@ -4,14 +4,15 @@ ghost use Rattle.std.specs.Option.{option_copied};
 ghost use Rattle.std.specs.Io.KnownBytes.{Appends};
 ghost use Rattle.dy_script.specs.Reading.{script_parts, node_count};
 ghost use Rattle.dy_cluster.specs.Settings.{setting};
-ghost use Rattle.dy_runner.specs.Runs.{none_seated, seated};
+ghost use Rattle.dy_serve.specs.Below.{none_standing, standing};
 ghost use Rattle.dy_serve.specs.inside.Stretches.{Begins, GoesOn, HasServed, RunsScript};
 ghost use Rattle.dy_serve.specs.inside.Stretches.{ServesLines, ServesRest};
 
 use crate::answering::{answer_command, answer_line, next_number};
 use crate::input_lines::Line;
-use crate::open_clusters::OpenCluster;
-use dy_cluster::{Closed, Cluster, Session, Work};
+use crate::open_clusters::{OpenCluster, Ways};
+use crate::told::ToldSoFar;
+use dy_cluster::{Closed, Cluster, Mark, MarkedWork, Session};
 use dy_dots::Fault;
 use dy_lines::{RenewedLine, Stopped};
 use dy_runner::Seats;
@@ -41,6 +42,8 @@ pub(crate) struct Progress {
     // The cluster before, if there was one.
     pub closed: Option<Closed>,
     pub seats: Seats,
+    // How many steps of the cluster were printed.
+    pub steps: usize,
     pub stop: Stop,
 }
 
@@ -49,6 +52,7 @@ pub(crate) struct Progress {
 #[derive(Drop)]
 pub(crate) struct Service<'s, 'p, 'i, 'o, I: BufRead, O: Write> {
     pub script: &'s Script,
+    pub with_steps: bool,
     pub progress: &'p mut Progress,
     pub input: &'i mut I,
     pub out: &'o mut O,
@@ -56,20 +60,23 @@ pub(crate) struct Service<'s, 'p, 'i, 'o, I: BufRead, O: Write> {
     pub lost: Option<io::Error>,
 }
 
-impl<I: BufRead, O: Write> Work for Service<'_, '_, '_, '_, I, O> {
+impl<I: BufRead, O: Write> MarkedWork for Service<'_, '_, '_, '_, I, O> {
     ghost use Rattle.dy_script.specs.Reading.{script_parts as parts};
-    ghost use Rattle.dy_runner.specs.Runs.{seated as seated_at};
+    ghost use Rattle.dy_serve.specs.Below.{standing as standing_at};
     ghost use Rattle.dy_serve.specs.inside.Stretches.{HasServed as HasServedLines};
 
-    ghost told = { λ setting before after tellings.
+    ghost told = { λ setting before after tellings read.
         (after.progress.ghost_name ≡ before.progress.ghost_name)
         × (after.out.ghost_name ≡ before.out.ghost_name)
         × (after.input.ghost_name ≡ before.input.ghost_name)
         × (after.script.now ≡ before.script.now)
-        × (after.lost ≡ None → HasServedLines setting (parts before.script.now)
-        before.progress.now.closed
+        × (after.with_steps ≡ before.with_steps)
+        × (after.lost ≡ None → (after.progress.now.steps ≡ length read)
+        × HasServedLines setting
+        (record { w = before.script.now.w; with_steps = before.with_steps })
+        (parts before.script.now) before.progress.now.closed
         before.progress.now.stop after.progress.now.stop
-        (seated_at after.progress.now.seats tellings)
+        (standing_at after.progress.now.seats tellings read)
         (I.remaining before.input.now) (I.remaining after.input.now)
         (O.contents before.out.now) (O.contents after.out.now)) };
 
@@ -79,11 +86,18 @@ impl<I: BufRead, O: Write> Work for Service<'_, '_, '_, '_, I, O> {
         alloc: Global,
         cluster: &Cluster<J>,
         sessions: &mut Vec<Session<J>>,
+        mark: &mut Mark<J>,
     ) -> Result<(), Fault> {
         let nodes = self.script.layout.nodes();
-        let mut opened = OpenCluster::new(alloc, cluster, self.script.w, nodes)?;
+        let ways = Ways {
+            w: self.script.w,
+            with_steps: self.with_steps,
+        };
+        let mut opened = OpenCluster::new(alloc, cluster, ways, nodes)?;
         let served = self.serve_in(rt, alloc, &mut opened, sessions);
         self.progress.seats = opened.seats;
+        self.progress.steps = opened.mark.steps();
+        *mark = opened.mark;
         match served {
             Ok(stop) => {
                 self.progress.stop = stop;
@@ -107,19 +121,20 @@ impl<I: BufRead, O: Write> Service<'_, '_, '_, '_, I, O> {
         opened: &mut OpenCluster<'_, J>,
         sessions: &mut Vec<Session<J>>,
     ) -> Result<Stop, Stopped>
-        requires none { seated opened.old.seats sessions.old.items ≡ none_seated }
-        requires w { opened.old.w ≡ self.old.script.now.w }
+        requires none { standing opened.old.seats sessions.old.items opened.old.mark
+            ≡ none_standing }
         requires nodes { opened.old.nodes ≡ node_count (script_parts self.old.script.now).layout }
         ensures progress { self.new.progress.ghost_name ≡ self.old.progress.ghost_name }
         ensures out { self.new.out.ghost_name ≡ self.old.out.ghost_name }
         ensures input { self.new.input.ghost_name ≡ self.old.input.ghost_name }
         ensures script { self.new.script.now ≡ self.old.script.now }
         ensures lost { self.new.lost ≡ self.old.lost }
+        ensures with_steps { self.new.with_steps ≡ self.old.with_steps }
         ensures served { IfOk result (λ stop.
-            HasServed (setting J J.ring J.n J.r opened.old.cluster.now.options)
+            HasServed (setting J J.ring J.n J.r opened.old.cluster.now.options) opened.old.w
             (script_parts self.old.script.now) self.old.progress.now.closed
             self.old.progress.now.stop stop
-            (seated opened.new.seats sessions.new.items)
+            (standing opened.new.seats sessions.new.items opened.new.mark)
             (I.remaining self.old.input.now) (I.remaining self.new.input.now)
             (O.contents self.old.out.now) (O.contents self.new.out.now)) }
     {
@@ -165,17 +180,16 @@ fn begin<J: Naming, O: Write, R: Wait>(
     closed: Option<&Closed>,
     out: &mut O,
 ) -> Result<u32, Stopped>
-    requires none { seated opened.old.seats sessions.old.items ≡ none_seated }
-    requires w { opened.old.w ≡ script.now.w }
+    requires none { standing opened.old.seats sessions.old.items opened.old.mark ≡ none_standing }
     ensures cluster { opened.new.cluster.now ≡ opened.old.cluster.now }
     ensures w { opened.new.w ≡ opened.old.w }
     ensures nodes { opened.new.nodes ≡ opened.old.nodes }
     ensures together { IfOk result (λ _.
         length opened.new.seats.numbers.items ≡ length sessions.new.items) }
     ensures wrote { IfOk result (λ count. (text : List ℕ)
-        × Begins (setting J J.ring J.n J.r opened.old.cluster.now.options)
+        × Begins (setting J J.ring J.n J.r opened.old.cluster.now.options) opened.old.w
         (script_parts script.now) (option_copied closed.entry) number
-        (seated opened.new.seats sessions.new.items) count text
+        (standing opened.new.seats sessions.new.items opened.new.mark) count text
         × Appends (O.contents out.old) (O.contents out.new) text) }
 {
     match closed {
@@ -185,7 +199,7 @@ fn begin<J: Naming, O: Write, R: Wait>(
 }
 
 // Puts what was present in the closed cluster, and writes the line of the renewal, which has this
-// number.
+// number, and its steps below if they are wanted.
 fn go_on<J: Naming, O: Write, R: Wait>(
     rt: &R,
     alloc: Global,
@@ -195,20 +209,26 @@ fn go_on<J: Naming, O: Write, R: Wait>(
     closed: &Closed,
     out: &mut O,
 ) -> Result<u32, Stopped>
-    requires none { seated opened.old.seats sessions.old.items ≡ none_seated }
+    requires none { standing opened.old.seats sessions.old.items opened.old.mark ≡ none_standing }
     ensures cluster { opened.new.cluster.now ≡ opened.old.cluster.now }
     ensures w { opened.new.w ≡ opened.old.w }
     ensures nodes { opened.new.nodes ≡ opened.old.nodes }
     ensures together { IfOk result (λ _.
         length opened.new.seats.numbers.items ≡ length sessions.new.items) }
     ensures wrote { IfOk result (λ count. (text : List ℕ)
-        × GoesOn (setting J J.ring J.n J.r opened.old.cluster.now.options) closed.now number
-        (seated opened.new.seats sessions.new.items) count text
+        × GoesOn (setting J J.ring J.n J.r opened.old.cluster.now.options)
+        opened.old.w.with_steps closed.now number
+        (standing opened.new.seats sessions.new.items opened.new.mark) count text
         × Appends (O.contents out.old) (O.contents out.new) text) }
 {
     let carried = opened.carry(rt, alloc, sessions, closed)?;
     let line = RenewedLine { number, carried };
     writeln!(out, "{line}")?;
+    let none = ToldSoFar {
+        acks: 0,
+        fetches: 0,
+    };
+    opened.write_below(rt, alloc, sessions.as_slice(), 0, none, out)?;
     out.flush()?;
     Ok(number)
 }
@@ -222,7 +242,7 @@ fn run_script<J: Naming, O: Write, R: Wait>(
     script: &Script,
     out: &mut O,
 ) -> Result<u32, Stopped>
-    requires none { seated opened.old.seats sessions.old.items ≡ none_seated }
+    requires none { standing opened.old.seats sessions.old.items opened.old.mark ≡ none_standing }
     ensures cluster { opened.new.cluster.now ≡ opened.old.cluster.now }
     ensures w { opened.new.w ≡ opened.old.w }
     ensures nodes { opened.new.nodes ≡ opened.old.nodes }
@@ -230,7 +250,8 @@ fn run_script<J: Naming, O: Write, R: Wait>(
         length opened.new.seats.numbers.items ≡ length sessions.new.items) }
     ensures wrote { IfOk result (λ count. (text : List ℕ)
         × RunsScript (setting J J.ring J.n J.r opened.old.cluster.now.options) opened.old.w
-        (script_parts script.now) (seated opened.new.seats sessions.new.items) count text
+        (script_parts script.now)
+        (standing opened.new.seats sessions.new.items opened.new.mark) count text
         × Appends (O.contents out.old) (O.contents out.new) text) }
 {
     let mut count = 0;
@@ -256,8 +277,8 @@ fn serve_rest<J: Naming, I: BufRead, O: Write, R: Wait>(
     ensures served { IfOk result (λ stop. (text : List ℕ)
         × ServesRest begun.is_last (setting J J.ring J.n J.r opened.old.cluster.now.options)
         opened.old.w opened.old.nodes begun.count stop
-        (seated opened.old.seats sessions.old.items)
-        (seated opened.new.seats sessions.new.items)
+        (standing opened.old.seats sessions.old.items opened.old.mark)
+        (standing opened.new.seats sessions.new.items opened.new.mark)
         (I.remaining input.old) (I.remaining input.new) text
         × Appends (O.contents out.old) (O.contents out.new) text) }
 {
@@ -289,8 +310,8 @@ fn serve_lines<J: Naming, I: BufRead, O: Write, R: Wait>(
     ensures served { IfOk result (λ stop. (text : List ℕ)
         × ServesLines (setting J J.ring J.n J.r opened.old.cluster.now.options) opened.old.w
         opened.old.nodes count stop
-        (seated opened.old.seats sessions.old.items)
-        (seated opened.new.seats sessions.new.items)
+        (standing opened.old.seats sessions.old.items opened.old.mark)
+        (standing opened.new.seats sessions.new.items opened.new.mark)
         (I.remaining input.old) (I.remaining input.new) text
         × Appends (O.contents out.old) (O.contents out.new) text) }
 {

@@ -1,16 +1,17 @@
-ghost use Rattle.std.specs.Prelude.{◌≡◌, ◌<◌, List, ℕ, Result, None, false, IfOk, OnOk};
+ghost use Rattle.std.specs.Prelude.{◌≡◌, List, ℕ, Result, None, false, IfOk, OnOk, length};
 ghost use Rattle.std.specs.Io.KnownBytes.{Appends};
 ghost use Rattle.std.specs.declared.marker.Brand.{Brand};
 ghost use Rattle.dy_dots.specs.declared.faults.Fault.{Fault as FaultParts};
 ghost use Rattle.dy_ring.specs.Rings.{Tokens};
 ghost use Rattle.dy_script.specs.Reading.{script_parts};
 ghost use Rattle.dy_shares.specs.Shares.{SessionPart};
-ghost use Rattle.dy_cluster.specs.Ends.{IsClosed};
+ghost use Rattle.dy_shares.specs.declared.entries.Entry.{Entry};
+ghost use Rattle.dy_cluster.specs.Marks.{IsClosedBehind};
 ghost use Rattle.dy_cluster.specs.Settings.{setting};
 ghost use Rattle.dy_runner.specs.Openings.{IsPlanOf, options_for};
 ghost use Rattle.dy_runner.specs.Refusals.{IsFirstRefusal, IsStoppedBy};
 ghost use Rattle.dy_runner.specs.RingLines.{IsRingMade, lists_of};
-ghost use Rattle.dy_runner.specs.Runs.{seated};
+ghost use Rattle.dy_serve.specs.Below.{standing};
 ghost use Rattle.dy_serve.specs.InputLines.{IsAllOf};
 ghost use Rattle.dy_serve.specs.Served.{IsServed, first_lines, service_of};
 ghost use Rattle.dy_serve.specs.inside.Stretches.{HasServed, HasServedSo, ServesCluster};
@@ -18,7 +19,7 @@ ghost use Rattle.dy_serve.specs.inside.Stretches.{HasServed, HasServedSo, Serves
 use crate::closing::write_closing;
 use crate::input_lines::Line;
 use crate::services::{Progress, Service, Stop};
-use dy_cluster::{Closed, with_cluster};
+use dy_cluster::{Closed, with_marked_cluster};
 use dy_lines::{ClusterLine, Stopped, write_cluster};
 use dy_runner::{Plan, Seats, plan_of};
 use dy_script::Script;
@@ -28,10 +29,10 @@ use std::io::{BufRead, Write};
 use std::sync::Wait;
 
 /// Opens the cluster that the script asks for, and does its commands. Then it does the command that
-/// each line of the input says, to its end. Each is answered by a line, which reaches the reader
-/// before the next line is read. Behind the last the cluster is closed, and its audit is written.
-/// Room for the longest line is had before the first is read. May wait for locks, and for the
-/// input.
+/// each line of the input says, to its end. Each is answered by a line, with its steps below if
+/// they are wanted. All of it reaches the reader before the next line is read. Behind the last the
+/// cluster is closed, and its audit is written. Room for the longest line is had before the first
+/// is read. May wait for locks, and for the input.
 pub fn serve<I: BufRead, O: Write, R: Wait>(
     rt: &R,
     alloc: Global,
@@ -82,6 +83,7 @@ fn serve_planned<I: BufRead, O: Write, R: Wait>(
         line,
         closed: None,
         seats: Seats::new(alloc),
+        steps: 0,
         stop,
     };
     serve_clusters(
@@ -109,7 +111,6 @@ fn serve_clusters<I: BufRead, O: Write, R: Wait>(
     out: &mut O,
 ) -> Result<(), Stopped>
     requires options { plan.now.options ≡ options_for (script_parts script.now) }
-    requires some { 0 < plan.now.options.r }
     requires closed { progress.old.closed ≡ None }
     requires more { progress.old.stop.is_last ≡ false }
     ensures ended { OnOk result (progress.new.stop.renews ≡ false) }
@@ -162,7 +163,6 @@ fn serve_cluster<I: BufRead, O: Write, R: Wait>(
     input: &mut I,
     out: &mut O,
 ) -> Result<(), Stopped>
-    requires some { 0 < plan.now.options.r }
     ensures served { OnOk result (ServesCluster
         (record {
           setting = setting Brand plan.now.ring plan.now.options.n plan.now.options.r
@@ -174,10 +174,15 @@ fn serve_cluster<I: BufRead, O: Write, R: Wait>(
         (I.remaining input.old) (I.remaining input.new)
         (O.contents out.old) (O.contents out.new)) }
 {
-    let closed = close_served(rt, alloc, plan, script, progress, input, out)?;
-    let seats = &progress.seats;
-    let r = usize::from(plan.options.r);
-    write_closing(alloc, script, with_steps, seats, r, &closed.audit, out)?;
+    let closed = close_served(rt, alloc, plan, script, with_steps, progress, input, out)?;
+    write_closing(
+        alloc,
+        script,
+        with_steps,
+        progress.steps,
+        &closed.audit,
+        out,
+    )?;
     progress.closed = Some(closed);
     Ok(())
 }
@@ -188,27 +193,31 @@ fn close_served<I: BufRead, O: Write, R: Wait>(
     alloc: Global,
     plan: &Plan,
     script: &Script,
+    with_steps: bool,
     progress: &mut Progress,
     input: &mut I,
     out: &mut O,
 ) -> Result<Closed, Stopped>
-    ensures served { IfOk result (λ closed. (tellings : List SessionPart)
-        × IsClosed plan.now.ring plan.now.options.n plan.now.options.r tellings closed
+    ensures served { IfOk result (λ closed. (tellings : List SessionPart) × (read : List Entry)
+        × IsClosedBehind plan.now.ring plan.now.options.n plan.now.options.r tellings read closed
+        × (progress.new.steps ≡ length read)
         × HasServed (setting Brand plan.now.ring plan.now.options.n plan.now.options.r
-        plan.now.options) (script_parts script.now) progress.old.closed progress.old.stop
-        progress.new.stop (seated progress.new.seats tellings)
+        plan.now.options) (record { w = script.now.w; with_steps = with_steps })
+        (script_parts script.now) progress.old.closed progress.old.stop
+        progress.new.stop (standing progress.new.seats tellings read)
         (I.remaining input.old) (I.remaining input.new)
         (O.contents out.old) (O.contents out.new)) }
 {
     let ring = plan.ring.try_clone(alloc)?;
     let mut service = Service {
         script,
+        with_steps,
         progress,
         input,
         out,
         lost: None,
     };
-    let ended = with_cluster(rt, alloc, ring, plan.options, &mut service);
+    let ended = with_marked_cluster(rt, alloc, ring, plan.options, &mut service);
     if let Some(error) = service.lost {
         return Err(Stopped::Output(error));
     }

@@ -3,9 +3,10 @@ use Rattle.std.specs.Prelude.{◌≡◌, ◌⊎◌, ◌+◌, ◌++◌, ◌∷◌
 use Rattle.dy_dots.specs.declared.faults.Fault.TheVariants.{OutOfMemory}
 use Rattle.dy_cluster.specs.Settings.{Setting}
 use Rattle.dy_script.specs.Requests.{does, renews, request_parts}
-use Rattle.dy_runner.specs.Seats.{Seated}
+use Rattle.dy_serve.specs.Below.{Standing}
 use Rattle.dy_serve.specs.Answers.{Asked, IsDone, IsRefused, asked_by}
 use Rattle.dy_serve.specs.InputLines.{is_nothing}
+use Rattle.dy_serve.specs.declared.open_clusters.Ways.{Ways}
 use Rattle.dy_serve.specs.declared.answering.Answered.{Answered}
 use Rattle.dy_serve.specs.declared.answering.LineAsked.{LineAsked}
 use Rattle.dy_serve.specs.declared.answering.LineAsked.TheVariants.{Nothing, Wanted, Wrong}
@@ -21,34 +22,35 @@ AsksSo nodes count line (Wrong number fault) =
     × ((asked_by nodes (count + 1) line ≡ Err fault) ⊎ (fault ≡ OutOfMemory))
 
 -- what was asked for was done in its cluster, or what is wrong with it was told
-abbrev pub IsMetHere : Setting → ℕ → Asked → ℕ → Seated → Seated → List ℕ → Type 0
+abbrev pub IsMetHere : Setting → Ways → Asked → ℕ → Standing → Standing → List ℕ → Type 0
 IsMetHere s w (Err fault) number before after text = IsRefused fault number before after text
-IsMetHere s w (Ok (does c)) number before after text = IsDone s w c number before after text
+IsMetHere s w (Ok (does c)) number before after text = IsDone s w.w w.with_steps c number before
+    after text
 IsMetHere s w (Ok renews) number before after text = ⊥
 
 -- so it was, or memory was wanting to read it
-abbrev pub IsAnsweredHere : Setting → ℕ → Asked → ℕ → Seated → Seated → List ℕ → Type 0
+abbrev pub IsAnsweredHere : Setting → Ways → Asked → ℕ → Standing → Standing → List ℕ → Type 0
 IsAnsweredHere s w asked number before after text =
     IsMetHere s w asked number before after text
     ⊎ IsRefused OutOfMemory number before after text
 
 -- all that was asked was answered so, one after another, numbered from here
 abbrev pub AreAnsweredHere :
-    Setting → ℕ → List Asked → ℕ → Seated → Seated → List ℕ → Type 0
+    Setting → Ways → List Asked → ℕ → Standing → Standing → List ℕ → Type 0
 AreAnsweredHere s w [] number before after text = (after ≡ before) × (text ≡ [])
 AreAnsweredHere s w (a ∷ more) number before after text =
-    (between : Seated) × (first rest : List ℕ)
+    (between : Standing) × (first rest : List ℕ)
     × IsAnsweredHere s w a number before between first
     × AreAnsweredHere s w more (number + 1) between after rest × (text ≡ first ++ rest)
 
 -- nothing was done, and nothing written
-abbrev pub IsLeft : Seated → Seated → List ℕ → Type 0
+abbrev pub IsLeft : Standing → Standing → List ℕ → Type 0
 IsLeft before after text = (after ≡ before) × (text ≡ [])
 
 -- a line that asks for nothing is left, and has no number; a renewal is left to the caller; what
 -- another asks for was answered
 abbrev pub MeetsLine :
-    Setting → ℕ → ℕ → ℕ → List ℕ → Answered → Seated → Seated → List ℕ → Type 0
+    Setting → Ways → ℕ → ℕ → List ℕ → Answered → Standing → Standing → List ℕ → Type 0
 MeetsLine s w nodes count line answered before after text =
     ((is_nothing line ≡ true) × (answered.count ≡ count) × (answered.renews ≡ false)
     × IsLeft before after text)

@@ -4,7 +4,7 @@ use Rattle.std.specs.Prelude.{Ok, Err}
 use Rattle.dy_lines.specs.declared.outcomes.Word.TheVariants as word
 use Rattle.dy_runner.specs.Openings.{given_or}
 use Rattle.dy_runner.specs.Writes.{IsWritten}
-use Rattle.dy_runner.proofs.Seating.{told_at, tried_at, untried_at, number_of_homes}
+use Rattle.dy_runner.proofs.Seating.{told_at, tried_at, number_of_homes, untried_at}
 use Rattle.dy_runner.proofs.writes.run_put.Goals as goal
 
 pub returns-in-Ok-place-clause-told : goal.returns-in-Ok-place-clause-told
@@ -32,24 +32,6 @@ returns-in-Ok-place-clause-told g c =
           place.place place.there c.index_mut.ensures.value place.seated tells),
     )
 
--- the session is refused
-pub returns-in-Err-place-clause-told : goal.returns-in-Err-place-clause-told
-returns-in-Err-place-clause-told g c =
-    let place = c.in-Err-place.ensures in
-    let naming = g.J.Naming in
-    let Written = IsWritten g.row.J.Denot naming.ring naming.n
-    (given_or c.args.w c.args.write.now.w) c.in-Ok.given word.Put c.refused-in-Err-place.result in (
-      Ok c.in-Ok.given,
-      record {
-        ok = c.in-Ok.ensures.ok;
-        key_size = c.in-Ok.ensures.key_size;
-        value_size = c.in-Ok.ensures.value_size;
-        only = tt;
-      },
-      untried_at _ word.Put c.refused-in-Err-place.result _ c.args.sessions.now.items _ Written
-          c.in-Err-place.fault place.refused place.err place.only c.refused-in-Err-place.ensures,
-    )
-
 -- its texts are refused
 pub returns-in-Err-clause-told : goal.returns-in-Err-clause-told
 returns-in-Err-clause-told g c =
@@ -62,4 +44,24 @@ returns-in-Err-clause-told g c =
         only = judged.only;
       },
       (c.place_of-place.ensures.seated, c.refused.ensures),
+    )
+
+-- its session is refused
+pub returns-in-Err-place-clause-told : goal.returns-in-Err-place-clause-told
+returns-in-Err-place-clause-told g c =
+    let place = c.in-Err-place.ensures in
+    let naming = g.J.Naming in
+    let outcome = c.refused-in-Err-place.result in
+    let Written = IsWritten g.row.J.Denot naming.ring naming.n
+    (given_or c.args.w c.args.write.now.w) c.in-Ok.given word.Put outcome in (
+      Ok c.in-Ok.given,
+      record {
+        ok = c.in-Ok.ensures.ok;
+        key_size = c.in-Ok.ensures.key_size;
+        value_size = c.in-Ok.ensures.value_size;
+        only = tt;
+      },
+      untried_at _ word.Put outcome _ c.args.sessions.now.items
+          c.place_of-place.new.sessions.items Written c.in-Err-place.fault place.refused place.err
+          place.only c.refused-in-Err-place.ensures,
     )

@@ -3,7 +3,7 @@ use Rattle.std.proofs.Common.{◌≡◌, ◌+◌, ◌<◌, ◌++◌, ◌∙◌, 
 use Rattle.std.proofs.KnownBytes.{Appends-trans}
 use Rattle.dy_cluster.specs.Settings.{setting}
 use Rattle.dy_script.specs.declared.commands.Command.{Command}
-use Rattle.dy_runner.specs.Runs.{seated}
+use Rattle.dy_serve.specs.Below.{standing}
 use Rattle.dy_serve.proofs.Asking.{script_next}
 use Rattle.dy_serve.proofs.services.run_script.Goals as goal
 
@@ -29,7 +29,8 @@ loop-command-preserved g c =
       so_far = (
         so_far.0 ++ ends.done.0,
         script_next _ _ _ _ items index command c.in_ok-count.count
-            (seated c.loop-command.opened.seats c.loop-command.sessions.items) _ so_far.0 ends.done.0
+            (standing c.loop-command.opened.seats c.loop-command.sessions.items
+            c.loop-command.opened.mark) _ so_far.0 ends.done.0
             within here so_far.1 number
             (ap (λ cl. setting g.row.J.Denot g.J.Naming.ring g.J.Naming.n g.J.Naming.r cl.options)
             c.loop-command.invariant.cluster) c.loop-command.invariant.w ends.done.1,

@@ -3,7 +3,7 @@ use Rattle.std.proofs.Common.{◌≡◌, List, ℕ, length, map, take}
 use Rattle.std.specs.Io.KnownBytes.{Appends}
 use Rattle.dy_cluster.specs.Settings.{setting}
 use Rattle.dy_script.specs.Orders.{command_parts}
-use Rattle.dy_runner.specs.Runs.{none_seated, seated}
+use Rattle.dy_serve.specs.Below.{none_standing, standing}
 use Rattle.dy_serve.specs.Answers.{asked_of}
 use Rattle.dy_serve.specs.inside.Meeting.{AreAnsweredHere}
 use Rattle.dy_serve.proofs.services.run_script.Given as goal
@@ -19,7 +19,7 @@ invariant-loop-command g l =
       so_far : (text : List ℕ)
           × AreAnsweredHere (setting g.row.J.Denot g.J.Naming.ring g.J.Naming.n g.J.Naming.r
           l.initial.opened.cluster.now.options) l.initial.opened.w
-          (asked_of (map command_parts (take l.command-index l.script.run.items))) 1 none_seated
-          (seated l.opened.seats l.sessions.items) text
+          (asked_of (map command_parts (take l.command-index l.script.run.items))) 1 none_standing
+          (standing l.opened.seats l.sessions.items l.opened.mark) text
           × Appends (g.O.Write.contents l.initial.out) (g.O.Write.contents l.out) text;
     }

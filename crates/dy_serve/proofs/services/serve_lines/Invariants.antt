@@ -2,7 +2,7 @@
 use Rattle.std.proofs.Common.{◌≡◌, List, ℕ, false, length}
 use Rattle.std.specs.Io.KnownBytes.{Appends}
 use Rattle.dy_cluster.specs.Settings.{setting}
-use Rattle.dy_runner.specs.Runs.{seated}
+use Rattle.dy_serve.specs.Below.{standing}
 use Rattle.dy_serve.specs.inside.Stretches.{ServesTo}
 use Rattle.dy_serve.proofs.services.serve_lines.Given as goal
 
@@ -19,8 +19,8 @@ invariant-loop g l =
           × ServesTo (setting g.row.J.Denot g.J.Naming.ring g.J.Naming.n g.J.Naming.r
           l.initial.opened.cluster.now.options) l.initial.opened.w l.initial.opened.nodes
           l.fn.count l.count false false
-          (seated l.initial.opened.seats l.initial.sessions.items)
-          (seated l.opened.seats l.sessions.items)
+          (standing l.initial.opened.seats l.initial.sessions.items l.initial.opened.mark)
+          (standing l.opened.seats l.sessions.items l.opened.mark)
           (g.I.Read.remaining l.initial.input) (g.I.Read.remaining l.input) bytes text
           × Appends (g.O.Write.contents l.initial.out) (g.O.Write.contents l.out) text;
     }

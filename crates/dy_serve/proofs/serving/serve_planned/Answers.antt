@@ -14,7 +14,8 @@ returns g c =
     let planned = c.requires.planned in
     let had = c.in_ok-serve_clusters.ensures.served in
     let ended = c.in_ok-serve_clusters.ensures.ended in
-    let served = all_served ring script c.args.with_steps c.serve_clusters.new.progress.stop had.last
+    let served = all_served ring script c.args.with_steps c.serve_clusters.new.progress.stop
+    had.last
     _ _ had.text planned.laid_out planned.limits planned.quorum ended had.so in
     record {
       served = (

@@ -1,0 +1,35 @@
+-- what stands behind what was read is written
+use Rattle.std.proofs.Common.{◌∙◌, ◌+◌, [], arith, drop}
+use Rattle.std.proofs.lemmas.List.{length-drop, take_all}
+use Rattle.dy_shares.specs.Shares.{steps_of}
+use Rattle.dy_cluster.proofs.Marking.{kept_no_fewer}
+use Rattle.dy_runner.specs.Traces.{step_lines}
+use Rattle.dy_serve.specs.inside.Telling.{teller_of}
+use Rattle.dy_serve.proofs.Lowering.{left_so}
+use Rattle.dy_serve.proofs.closing.write_left.Goals as goal
+
+pub returns-then-trail-steps : goal.returns-then-trail-steps
+returns-then-trail-steps g c read log steps begins history =
+    let all = c.kept-trail.ensures.kept (steps_of log) history in
+    absurd (omega (
+      arith,
+      steps,
+      c.if-trail-steps.true,
+      kept_no_fewer c.kept-trail.result.now read log begins all,
+    ))
+
+pub returns : goal.returns
+returns g c read log steps begins history =
+    let trail = c.kept-trail.result.now in
+    let news = c.in_ok-news.news in
+    let made = c.in_ok-news.ensures in
+    let told = c.nothing_told.result in
+    let steps_are = made.steps ∙ take_all _ (drop c.args.steps trail)
+    (omega (arith, length-drop c.args.steps trail)) in (
+      step_lines (teller_of news) [] (news.before + 1) news.steps.now,
+      left_so c.args.audit.now read log trail news.steps.now news.session c.args.steps news.before
+          told news.told begins history (c.kept-trail.ensures.kept (steps_of log) history) steps
+          made.before steps_are made.session made.told c.nothing_told.ensures.acks
+          c.nothing_told.ensures.fetches,
+      c.in_ok-write_news.ensures,
+    )
