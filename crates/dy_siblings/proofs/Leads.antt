@@ -68,7 +68,7 @@ longer Equal m n is = omega (arith, is)
 longer Greater m n is = omega (arith, is)
 
 -- bytes of one number, few of which are on one side, are ordered as their counts are
-by_count : (n a : ℕ) (xs ys : List ℕ) → AreBytes xs → AreBytes ys →
+pub by_count : (n a : ℕ) (xs ys : List ℕ) → AreBytes xs → AreBytes ys →
     lead_from n a xs ≡ lead_from n a ys → (length xs ≤ n) ⊎ (length ys ≤ n) →
     MatchOrdering (slice_cmp nat_cmp xs ys) (length xs < length ys) (length xs ≡ length ys)
     (length ys < length xs)
@@ -106,6 +106,14 @@ by_lead m n differ = elim (cases_lt (m / 2 ^ 64) (n / 2 ^ 64)) [
       sym (nat_cmp_is (m / 2 ^ 64) (n / 2 ^ 64) Greater gt) ∙ nat_cmp_is m n Greater (omega (arith, gt)))
 ]
 
+-- numbers that begin alike are ordered as what comes last
+pub shifted : (o : Ordering) (a b m n : ℕ) → a ≡ b → MatchOrdering o (m < n) (m ≡ n) (n < m) →
+    MatchOrdering o (a * 256 + m < b * 256 + n) (a * 256 + m ≡ b * 256 + n)
+    (b * 256 + n < a * 256 + m)
+shifted Less a b m n same is = omega (arith, same, is)
+shifted Equal a b m n same is = omega (arith, same, is)
+shifted Greater a b m n same is = omega (arith, same, is)
+
 -- keys' bytes are ordered as their numbers are, unless both are long and begin alike
 pub ordered : (xs ys : List ℕ) → AreBytes xs → AreBytes ys → length xs < 256 → length ys < 256 →
     (lead_from 15 0 xs ≡ lead_from 15 0 ys → (length xs ≤ 15) ⊎ (length ys ≤ 15)) →
@@ -123,13 +131,6 @@ ordered xs ys small others few less apart = elim (cases_eq (lead_from 15 0 xs) (
         ∙ sym (behind 15 0 xs ys small others gt))
   ]
 ]
-  where
-    shifted : (o : Ordering) (a b m n : ℕ) → a ≡ b → MatchOrdering o (m < n) (m ≡ n) (n < m) →
-        MatchOrdering o (a * 256 + m < b * 256 + n) (a * 256 + m ≡ b * 256 + n)
-        (b * 256 + n < a * 256 + m)
-    shifted Less a b m n same is = omega (arith, same, is)
-    shifted Equal a b m n same is = omega (arith, same, is)
-    shifted Greater a b m n same is = omega (arith, same, is)
 
 -- the number without the length
 pub begun : (bytes : List ℕ) → length bytes < 256 → number_of bytes / 256 ≡ lead_from 15 0 bytes

@@ -1,4 +1,5 @@
 pub mod Leads
+pub mod Words
 pub mod Lones
 pub mod Besided
 pub mod Histories

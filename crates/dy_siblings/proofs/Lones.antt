@@ -3,6 +3,7 @@ use Rattle.std.proofs.Common.{Bool, ◌||◌, ◌≡◌, ◌-◌, ℕ, true, fal
 use Rattle.std.specs.Prelude.{IfSome, IfNone}
 use Rattle.std.specs.List.{Contains, list_any}
 use Rattle.std.proofs.lemmas.Bool.{true≢false}
+use Rattle.std.proofs.lemmas.List.{append-nil}
 use Rattle.std.proofs.lemmas.List.Elements.{Contains-append_right, Contains-append_cases}
 use Rattle.dy_dots.specs.Dots.{DotNumbers, IsDotBefore, same_dot}
 use Rattle.dy_dots.proofs.SameDots.{same_dot_is, same_dot_self}
@@ -166,6 +167,25 @@ skip_both a b left right found m t l r left_is right_is same s =
 
     next : Lones a b left r found
     next = skip_theirs a b left right found s t r right_is (has_it a t.dot m in_a same)
+
+-- all of a come before the only one of b
+module _ (a : List VersionParts) (t : VersionParts) (earlier : (u : VersionParts) → Contains a u → IsDotBefore u.dot t.dot) where
+  pub last_is_lone : (b : List VersionParts) → b ≡ t ∷ [] → IsLone a b t
+  last_is_lone b is = record {
+    in_b = subst (λ l. Contains l t) (sym is) (in_head t []);
+    not_in_a = lacks_it a t.dot (λ u h same. before_not_self t.dot (subst (λ d. IsDotBefore d t.dot) same (earlier u h)));
+    others = λ w h. ⊎_elim inl (λ none. absurd (not_in_nil w none)) (in_cases t w [] (subst (λ l. Contains l w) is h));
+  }
+
+  pub last_has_place : (at : ℕ) → at ≡ length a → IsPlaceOf a t.dot at
+  last_has_place at is = record {
+    front = a;
+    back = [];
+    both = sym (append-nil a);
+    length_is = sym is;
+    before = earlier;
+    after = tt;
+  }
 
 -- where nothing is left of b
 module _ (a b left : List VersionParts) where

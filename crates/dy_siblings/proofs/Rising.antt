@@ -3,7 +3,7 @@ use Rattle.std.proofs.Common.{◌≡◌, ℕ, Bool, true, false, ◌||◌, cond,
 use Rattle.std.specs.List.{list_any, filter, Contains}
 use Rattle.std.specs.FinSet as set
 use Rattle.std.proofs.lemmas.Bool.{true≢false}
-use Rattle.std.proofs.lemmas.List.Elements.{All-filter, All-weaker}
+use Rattle.std.proofs.lemmas.List.Elements.{All-filter, All-weaker, Contains-append_cases}
 use Rattle.dy_dots.specs.Dots.{DotNumbers, IsDotBefore}
 use Rattle.dy_siblings.specs.Versions.{VersionParts, IsVersion}
 use Rattle.dy_siblings.specs.inside.Merging.{IsFirst}
@@ -156,3 +156,24 @@ one_in_rising (x ∷ xs) rise u v in_u in_v same =
     (λ v_later. one_in_rising xs (tail_rises x xs rise) u v u_later v_later same)
     (in_cases x v xs in_v))
     (in_cases x u xs in_u)
+
+-- in a list that rises all before the last one come before it
+module _ (v : VersionParts) where
+  last_after : (d : DotNumbers) (out : List VersionParts) → RiseAfter d (out ++ v ∷ []) → IsDotBefore d v.dot
+  last_after d [] rise = rise.0
+  last_after d (x ∷ xs) rise = before_trans d x.dot v.dot rise.0 (last_after x.dot xs rise.1)
+
+  before_last : (out : List VersionParts) → Rise (out ++ v ∷ []) → (u : VersionParts) → Contains out u → IsDotBefore u.dot v.dot
+  before_last [] rise u h = absurd (not_in_nil u h)
+  before_last (x ∷ xs) rise u h =
+      ⊎_elim
+      (λ same. subst (λ y. IsDotBefore y.dot v.dot) (sym same) (last_after x.dot xs rise))
+      (λ later. before_last xs (tail_rises x (xs ++ v ∷ []) rise) u later)
+      (in_cases x u xs h)
+
+  pub all_before : (vs out : List VersionParts) → vs ≡ out ++ v ∷ [] → Rise vs → (d : DotNumbers) → IsDotBefore v.dot d → (u : VersionParts) → Contains vs u → IsDotBefore u.dot d
+  all_before vs out is rise d last u h =
+      ⊎_elim
+      (λ early. before_trans u.dot v.dot d (before_last out (subst Rise is rise) u early) last)
+      (λ here. ⊎_elim (λ same. subst (λ y. IsDotBefore y.dot d) (sym same) last) (λ none. absurd (not_in_nil u none)) (in_cases v u [] here))
+      (Contains-append_cases out (v ∷ []) u (subst (λ l. Contains l u) is h))

@@ -1,11 +1,13 @@
 // The one version that a row has more than another, side by side with all of that.
 ghost use Rattle.std.specs.Prelude.{◌≡◌, ◌↔◌, ◌||◌, IfSome, IfNone, true, false};
-ghost use Rattle.std.specs.List.{list_any};
+ghost use Rattle.std.specs.List.{Contains, list_any};
+ghost use Rattle.dy_dots.specs.Dots.{IsDotBefore};
 ghost use Rattle.dy_siblings.specs.Siblings.{IsBeside, IsLone, Rise};
 ghost use Rattle.dy_siblings.specs.Versions.{VersionParts, precedes};
 ghost use Rattle.dy_siblings.specs.inside.Lists.{FollowNothing};
 ghost use Rattle.dy_siblings.specs.inside.Merging.{IsPlaceOf};
 
+use crate::merging;
 use crate::versions::Version;
 
 /// The one version of the second list whose dot none of the first has, and its place among those
@@ -17,8 +19,14 @@ fn lone<'a>(a: &[Version], b: &'a [Version]) -> Option<(usize, &'a Version)>
     ensures place { IfSome result (λ p. IsPlaceOf a.now p.1.now.dot p.0) }
     ensures none { IfNone result ((v : VersionParts) → IsLone a.now b.now v → ⊥) }
 {
-    let mut left = a;
-    let mut right = b;
+    // Mostly both begin alike.
+    let both = a.len().min(b.len());
+    let mut same = 0;
+    while same < both && a[same].dot() == b[same].dot() {
+        same += 1;
+    }
+    let mut left = &a[same..];
+    let mut right = &b[same..];
     let mut found = None;
     while let Some((theirs, others)) = right.split_first() {
         match left.split_first() {
@@ -39,6 +47,35 @@ fn lone<'a>(a: &[Version], b: &'a [Version]) -> Option<(usize, &'a Version)>
         }
     }
     found
+}
+
+// Whether all of the versions come before the other.
+fn are_before(versions: &[Version], other: &Version) -> bool
+    requires { Rise versions.now }
+    ensures { result ≡ true → ((v : VersionParts) →
+        Contains versions.now v → IsDotBefore v.dot other.now.dot) }
+{
+    match versions.split_last() {
+        Some((last, _)) => last.comes_before(other),
+        None => true,
+    }
+}
+
+// The same, without a pass where the second list is one version that comes last, as a put mostly
+// makes it.
+fn last_or_lone<'a>(a: &[Version], b: &'a [Version]) -> Option<(usize, &'a Version)>
+    requires a_rises { Rise a.now }
+    requires b_rises { Rise b.now }
+    ensures some { IfSome result (λ p. IsLone a.now b.now p.1.now) }
+    ensures place { IfSome result (λ p. IsPlaceOf a.now p.1.now.dot p.0) }
+    ensures none { IfNone result ((v : VersionParts) → IsLone a.now b.now v → ⊥) }
+{
+    if let Some(theirs) = merging::only(b) {
+        if are_before(a, theirs) {
+            return Some((a.len(), theirs));
+        }
+    }
+    lone(a, b)
 }
 
 /// Whether one of the versions follows any dot at all.
@@ -107,7 +144,7 @@ pub(crate) fn beside<'a>(
     if is_overtaken(a, b) {
         return None;
     }
-    let (at, version) = lone(a, b)?;
+    let (at, version) = last_or_lone(a, b)?;
     if is_related(a, may_follow, version) {
         return None;
     }

@@ -1,23 +1,25 @@
 ghost use Rattle.std.specs.Prelude.{◌≡◌, ◌<◌, ◌≤◌, ◌==◌, true, false, ◌⊎◌, ◌↔◌, ℕ, List};
-ghost use Rattle.std.specs.Prelude.{length, get_or, IfOk, IfErr, IfSome, IsErrOf, IsOk, IsOkUnless};
-ghost use Rattle.std.specs.Prelude.{◌/◌, ◌^◌, IsSome};
+ghost use Rattle.std.specs.Prelude.{length, IfOk, IfErr, IfSome, IfNone, IsErrOf, IsOk};
+ghost use Rattle.std.specs.Prelude.{IsOkUnless};
+ghost use Rattle.std.specs.Prelude.{◌+◌, ◌/◌, ◌^◌, ◌++◌, ◌∷◌, [], drop, IsSome};
 ghost use Rattle.std.specs.Cmp.{partial_order_from_own_ties};
 ghost use Rattle.std.specs.Cmp.Lexicographic.{pointwise, slice_cmp};
 ghost use Rattle.std.specs.Cmp.Rules.{comparing};
 ghost use Rattle.std.specs.Ordering.{nat_cmp, as_partial_cmp};
 ghost use Rattle.std.proofs.Common.{rules};
-ghost use Rattle.std.specs.Arc.{arc_slice_items};
+ghost use Rattle.std.specs.Arc.{arc_value};
 ghost use Rattle.dy_siblings.specs.Sizes.{IsKey};
 ghost use Rattle.std.specs.Option.{option_map};
-ghost use Rattle.dy_siblings.specs.inside.Leads.{AreBytes, IsFronted, bytes_of, front_of};
-ghost use Rattle.dy_siblings.specs.inside.Leads.{number_of};
+ghost use Rattle.dy_siblings.specs.inside.Leads.{AreBytes, AreFilled, IsFronted, bytes_from};
+ghost use Rattle.dy_siblings.specs.inside.Leads.{bytes_of, lead_from, number_of};
+ghost use Rattle.dy_siblings.specs.inside.Leads.{whole_of};
 ghost use Rattle.dy_siblings.specs.declared.keys.TheConstants.{MAX_KEY_BYTES, SHORT_KEY_BYTES};
 
 use dy_dots::Fault;
 use std::alloc::Global;
 use std::cmp::Ordering;
 use std::marker::Model;
-use std::sync::ArcSlice;
+use std::sync::Arc;
 
 /// How many bytes a key has at most.
 pub const MAX_KEY_BYTES: usize = 64;
@@ -31,49 +33,94 @@ pub const SHORT_KEY_BYTES: usize = 15;
 pub struct Key {
     // The first fifteen bytes, filled up with zeros, and how many there are in all.
     front: [u8; 16],
-    whole: Option<ArcSlice<u8>>,
+    // All bytes of a longer one, filled up with zeros, which its copies share.
+    whole: Option<Arc<[u8; MAX_KEY_BYTES]>>,
 }
 
-// The byte at this place, or 0.
-fn byte_at(bytes: &[u8], place: usize) -> u8
-    ensures { result ≡ get_or bytes.now place 0 }
+// These bytes, and zeros behind them.
+fn filled(bytes: &[u8]) -> [u8; MAX_KEY_BYTES]
+    requires { length bytes.now ≤ MAX_KEY_BYTES }
+    ensures value { AreFilled bytes.now result }
+    ensures size { length result ≡ MAX_KEY_BYTES }
 {
-    bytes.get(place).copied().unwrap_or(0)
+    let mut all = [0u8; MAX_KEY_BYTES];
+    all[..bytes.len()].copy_from_slice(bytes);
+    all
 }
 
-// The first fifteen bytes, where 0 stands for each that lacks, and how many there are in all.
-fn front_of(bytes: &[u8]) -> [u8; 16]
-    requires { length bytes.now < 256 }
-    ensures { result ≡ front_of bytes.now }
+// The first fifteen bytes, and how many there are in all.
+fn front_of(all: &[u8; MAX_KEY_BYTES], count: usize) -> [u8; 16]
+    requires { count < 256 }
+    ensures { result ≡ bytes_from 15 0 all.now ++ count ∷ [] }
 {
     [
-        byte_at(bytes, 0),
-        byte_at(bytes, 1),
-        byte_at(bytes, 2),
-        byte_at(bytes, 3),
-        byte_at(bytes, 4),
-        byte_at(bytes, 5),
-        byte_at(bytes, 6),
-        byte_at(bytes, 7),
-        byte_at(bytes, 8),
-        byte_at(bytes, 9),
-        byte_at(bytes, 10),
-        byte_at(bytes, 11),
-        byte_at(bytes, 12),
-        byte_at(bytes, 13),
-        byte_at(bytes, 14),
-        bytes.len() as u8,
+        all[0],
+        all[1],
+        all[2],
+        all[3],
+        all[4],
+        all[5],
+        all[6],
+        all[7],
+        all[8],
+        all[9],
+        all[10],
+        all[11],
+        all[12],
+        all[13],
+        all[14],
+        count as u8,
     ]
+}
+
+// The number of the eight bytes from this place on.
+fn word_at(all: &[u8; MAX_KEY_BYTES], place: usize) -> u64
+    requires { place + 8 ≤ MAX_KEY_BYTES }
+    ensures { result ≡ lead_from 8 0 (drop place all.now) }
+{
+    u64::from_be_bytes([
+        all[place],
+        all[place + 1],
+        all[place + 2],
+        all[place + 3],
+        all[place + 4],
+        all[place + 5],
+        all[place + 6],
+        all[place + 7],
+    ])
+}
+
+// How all bytes stand to others, of which the first eight are the same: as the first eight of them
+// do that differ.
+fn order_of_words(all: &[u8; MAX_KEY_BYTES], others: &[u8; MAX_KEY_BYTES]) -> Ordering
+    requires { lead_from 8 0 all.now ≡ lead_from 8 0 others.now }
+    ensures { result ≡ nat_cmp (whole_of all.now) (whole_of others.now) }
+{
+    for word in 1..8 {
+        let (mine, theirs) = (word_at(all, 8 * word), word_at(others, 8 * word));
+        if mine != theirs {
+            return mine.cmp(&theirs);
+        }
+    }
+    Ordering::Equal
+}
+
+// Whether the bytes are the same.
+fn are_same(all: &[u8; MAX_KEY_BYTES], others: &[u8; MAX_KEY_BYTES]) -> bool
+    ensures value { result ≡ pointwise ◌==◌ all.now others.now }
+    ensures size { length all.now ≡ length others.now }
+{
+    *all == *others
 }
 
 impl Model for Key {
     ghost Value = { List ℕ };
 
-    ghost view = { λ key. bytes_of key.front (option_map arc_slice_items key.whole) };
+    ghost view = { λ key. bytes_of key.front (option_map arc_value key.whole) };
 
     ghost invariant = { λ key.
-        IsFronted key.front (option_map arc_slice_items key.whole)
-        (bytes_of key.front (option_map arc_slice_items key.whole)) };
+        IsFronted key.front (option_map arc_value key.whole)
+        (bytes_of key.front (option_map arc_value key.whole)) };
 }
 
 impl Key {
@@ -90,11 +137,12 @@ impl Key {
         if bytes.is_empty() || bytes.len() > MAX_KEY_BYTES {
             return Err(Fault::KeySize);
         }
-        let front = front_of(bytes);
+        let all = filled(bytes);
+        let front = front_of(&all, bytes.len());
         if bytes.len() <= SHORT_KEY_BYTES {
             return Ok(Key { front, whole: None });
         }
-        let shared = ArcSlice::from_slice(alloc, bytes)?;
+        let shared = Arc::new(alloc, all)?;
         Ok(Key {
             front,
             whole: Some(shared),
@@ -106,9 +154,10 @@ impl Key {
         ensures value { result.now ≡ self.now }
         ensures size { IsKey self.now }
     {
+        let count = self.front[SHORT_KEY_BYTES] as usize;
         match &self.whole {
-            Some(bytes) => bytes.as_slice(),
-            None => &self.front[..self.front[SHORT_KEY_BYTES] as usize],
+            Some(whole) => &whole[..count],
+            None => &self.front[..count],
         }
     }
 
@@ -153,6 +202,17 @@ impl Key {
         self.whole.is_some()
     }
 
+    // All of its bytes with zeros behind them, where not all lie in place.
+    fn long_bytes(&self) -> Option<&[u8; MAX_KEY_BYTES]>
+        ensures long { IfSome result (λ all. AreFilled self.now all.now) }
+        ensures short { IfNone result (length self.now ≤ SHORT_KEY_BYTES) }
+        ensures small { AreBytes self.now }
+        ensures size { IsKey self.now }
+    {
+        let whole = self.whole.as_ref()?;
+        Some(whole.as_ref())
+    }
+
     // How it stands to another where both are long. It is a call, so that a look-up has the order
     // of short keys in itself.
     #[inline(never)]
@@ -161,18 +221,25 @@ impl Key {
     {
         let mine = self.number();
         let theirs = other.number();
-        if mine / 256 == theirs / 256 {
-            return self.as_bytes().cmp(other.as_bytes());
+        if mine / 256 != theirs / 256 {
+            return mine.cmp(&theirs);
         }
-        mine.cmp(&theirs)
+        let (Some(all), Some(others)) = (self.long_bytes(), other.long_bytes()) else {
+            return mine.cmp(&theirs);
+        };
+        order_of_words(all, others).then(mine.cmp(&theirs))
     }
 
-    // Whether the other has the same bytes, by all of them.
+    // Whether the other, which has its number, has the same bytes, by all of them.
     #[inline(never)]
     fn has_bytes_of(&self, other: &Key) -> bool
+        requires { number_of self.now ≡ number_of other.now }
         ensures { result ≡ pointwise ◌==◌ self.now other.now }
     {
-        self.as_bytes() == other.as_bytes()
+        match (self.long_bytes(), other.long_bytes()) {
+            (Some(all), Some(others)) => are_same(all, others),
+            _ => true,
+        }
     }
 
     /// A copy. Where the bytes lie in place it takes no memory, and else it shares them.

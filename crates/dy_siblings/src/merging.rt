@@ -9,6 +9,7 @@ ghost use Rattle.dy_siblings.specs.inside.Merging.{with_dots, with_histories};
 ghost use Rattle.dy_siblings.specs.Siblings.{AreOneByDot, Rise, is_past, present_values};
 
 use crate::lists::Versions;
+use crate::pasts;
 use crate::pasts::Pasts;
 use crate::values::Value;
 use crate::versions::Version;
@@ -95,7 +96,7 @@ pub(crate) fn lists_conflict(a: &[Version], b: &[Version]) -> bool
 }
 
 /// The version of a list that has no other.
-fn only(versions: &[Version]) -> Option<&Version>
+pub(crate) fn only(versions: &[Version]) -> Option<&Version>
     ensures { IfSome result (λ version. versions.now ≡ version.now ∷ []) }
 {
     match versions.split_first() {
@@ -207,7 +208,7 @@ pub(crate) fn context_of(alloc: Global, versions: &[Version]) -> Result<Context,
 {
     let mut context = Context::new(alloc);
     for version in versions {
-        context.union(alloc, version.past())?;
+        pasts::add_past(alloc, &mut context, version)?;
         context.insert(version.dot())?;
     }
     Ok(context)

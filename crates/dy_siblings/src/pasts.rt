@@ -82,8 +82,8 @@ fn add_pasts(alloc: Global, past: &mut Context, versions: &[Version]) -> Result<
     Ok(())
 }
 
-// Adds the version's past.
-fn add_past(alloc: Global, past: &mut Context, version: &Version) -> Result<(), Fault>
+/// Adds the version's past.
+pub(crate) fn add_past(alloc: Global, past: &mut Context, version: &Version) -> Result<(), Fault>
     ensures ok { OnOk result (past.new ≡ set.union past.old version.now.past) }
     ensures memory { IsOkUnless result Fault.OutOfMemory }
 {

@@ -1,13 +1,14 @@
-ghost use Rattle.std.specs.Prelude.{◌≡◌, ◌<◌, ◌==◌, ◌⊎◌, ◌↔◌, ℕ, List, length, IfOk, IfErr};
-ghost use Rattle.std.specs.Prelude.{IsErrOf, IsOkUnless};
+ghost use Rattle.std.specs.Prelude.{◌≡◌, ◌<◌, ◌≤◌, ◌==◌, ◌⊎◌, ◌↔◌, ℕ, List, length, IfOk, IfErr};
+ghost use Rattle.std.specs.Prelude.{IsErrOf, IsOk, IsOkUnless};
 ghost use Rattle.std.specs.Cmp.Lexicographic.{pointwise};
 ghost use Rattle.std.specs.Cmp.Rules.{comparing};
 ghost use Rattle.std.proofs.Common.{rules};
 ghost use Rattle.dy_siblings.specs.Sizes.{IsValue};
-ghost use Rattle.dy_siblings.specs.inside.Values.{bytes_in};
+ghost use Rattle.dy_siblings.specs.inside.Values.{AreMany, bytes_in};
+ghost use Rattle.dy_siblings.specs.declared.keys.TheConstants.{SHORT_KEY_BYTES};
 ghost use Rattle.dy_siblings.specs.declared.values.TheConstants.{MAX_VALUE_BYTES};
 
-use crate::keys::{Key, SHORT_KEY_BYTES};
+use crate::keys::{Key, MAX_KEY_BYTES};
 use dy_dots::Fault;
 use std::alloc::Global;
 use std::marker::Model;
@@ -16,7 +17,8 @@ use std::sync::ArcSlice;
 /// How many bytes a value has at most.
 pub const MAX_VALUE_BYTES: usize = 4_096;
 
-// Bytes, of which up to fifteen lie in place, as those of a short key. Copies share more.
+// Bytes, of which so many as a key may have are kept as those of a key: up to fifteen lie in place.
+// Copies share more.
 #[derive(Debug, Drop)]
 pub enum Bytes {
     Nothing,
@@ -35,19 +37,21 @@ impl Model for Value {
 
     ghost view = { λ value. bytes_in value.bytes };
 
-    ghost invariant = { λ value. IsValue (bytes_in value.bytes) };
+    ghost invariant = { λ value. IsValue (bytes_in value.bytes) × AreMany value.bytes };
 }
 
 impl Bytes {
     // These bytes.
     fn of(alloc: Global, bytes: &[u8]) -> Result<Bytes, Fault>
         ensures value { IfOk result (λ kept. bytes_in kept ≡ bytes.now) }
+        ensures many { IfOk result (λ kept. AreMany kept) }
+        ensures spared { length bytes.now ≤ SHORT_KEY_BYTES → IsOk result }
         ensures memory { IsOkUnless result Fault.OutOfMemory }
     {
         if bytes.is_empty() {
             return Ok(Bytes::Nothing);
         }
-        if bytes.len() <= SHORT_KEY_BYTES {
+        if bytes.len() <= MAX_KEY_BYTES {
             let few = Key::new(alloc, bytes)?;
             return Ok(Bytes::Few(few));
         }
@@ -67,7 +71,10 @@ impl Bytes {
 
     // A copy.
     fn try_clone(&self, alloc: Global) -> Result<Bytes, Fault>
+        requires { AreMany self.now }
         ensures value { IfOk result (λ copy. bytes_in copy ≡ bytes_in self.now) }
+        ensures many { IfOk result (λ copy. AreMany copy) }
+        ensures spared { length (bytes_in self.now) ≤ SHORT_KEY_BYTES → IsOk result }
         ensures memory { IsOkUnless result Fault.OutOfMemory }
     {
         match self {
@@ -79,12 +86,14 @@ impl Bytes {
 }
 
 impl Value {
-    /// A value of these bytes; ValueSize where they are more than 4,096.
+    /// A value of these bytes; ValueSize where they are more than 4,096. Up to fifteen take no
+    /// memory.
     pub fn new(alloc: Global, bytes: &[u8]) -> Result<Value, Fault>
         ensures size { IsErrOf result Fault.ValueSize ↔ (MAX_VALUE_BYTES < length bytes.now) }
         ensures value { IfOk result (λ value. value ≡ bytes.now) }
         ensures errors { IfErr result (λ fault.
             (fault ≡ Fault.ValueSize) ⊎ (fault ≡ Fault.OutOfMemory)) }
+        ensures spared { length bytes.now ≤ SHORT_KEY_BYTES → IsOk result }
     {
         if bytes.len() > MAX_VALUE_BYTES {
             return Err(Fault::ValueSize);
@@ -102,9 +111,10 @@ impl Value {
         self.bytes.as_slice()
     }
 
-    /// A copy. Where the bytes are more than fifteen it shares them.
+    /// A copy. Where the bytes are more than fifteen it shares them, and else it takes no memory.
     pub fn try_clone(&self, alloc: Global) -> Result<Value, Fault>
         ensures value { IfOk result (λ value. value ≡ self.now) }
+        ensures spared { length self.now ≤ SHORT_KEY_BYTES → IsOk result }
         ensures memory { IsOkUnless result Fault.OutOfMemory }
     {
         Ok(Value {

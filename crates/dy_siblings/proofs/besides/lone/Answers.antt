@@ -1,3 +1,4 @@
+use Rattle.std.proofs.Common.{◌<◌, ◌+◌, ℕ, suc, List, None, length, get_or, drop, ap, arith, add-one, drop-cons}
 use Rattle.std.proofs.Common.{◌≡◌, ◌∷◌, true, option_map, rules, sym, subst, ◌∙◌, ◌⊎◌, false, ⊎_elim}
 use Rattle.std.proofs.lemmas.Bool.{true≢false}
 use Rattle.std.proofs.lemmas.List.{nil_from_length}
@@ -17,9 +18,27 @@ later d e differ cases =
     (λ same. absurd (true≢false (sym (subst (λ x. same_dot e x ≡ true) (sym same) (same_dot_self e)) ∙ differ)))
     cases
 
+-- what is left begins with the version at hand
+begins : (vs : List VersionParts) (i : ℕ) (v : VersionParts) → i < length vs → v ≡ get_or vs i v → drop i vs ≡ v ∷ drop (i + 1) vs
+begins vs i v lt is =
+    drop-cons vs i v lt ∙ ap (λ x. x ∷ drop (suc i) vs) (sym is) ∙ ap (λ n. v ∷ drop n vs) (sym (add-one i))
+
+-- both begin alike
+pub loop-same-preserved : goal.loop-same-preserved
+loop-same-preserved c =
+    let i = c.loop-same.same in
+    let mine = begins c.args.a.now i c.index-a-same.result (omega (arith, c.min-both.ensures, c.loop-same-test.true)) c.index-a-same.is in
+    let theirs = begins c.args.b.now i c.index-b-same.result (omega (arith, c.min-both.ensures, c.loop-same-test.true)) c.index-b-same.is in
+    let same : c.index-a-same.result.dot ≡ c.index-b-same.result.dot = search rules in (
+      omega (arith, c.loop-same-test.true),
+      skip_both c.args.a.now c.args.b.now (drop i c.args.a.now) (drop i c.args.b.now) None
+          c.index-a-same.result c.index-b-same.result (drop (i + 1) c.args.a.now) (drop (i + 1) c.args.b.now)
+          mine theirs same c.loop-same.invariant.1,
+    )
+
 -- both have one dot
-pub loop-theirs-preserved-then-eq : goal.loop-theirs-preserved-then-eq
-loop-theirs-preserved-then-eq c =
+pub loop-theirs-preserved-then-eq-2 : goal.loop-theirs-preserved-then-eq-2
+loop-theirs-preserved-then-eq-2 c =
     let left_is : c.loop-theirs.left.now ≡ c.in-Some-split_first.mine.now ∷ c.in-Some-split_first.rest.now = search rules in
     let right_is : c.loop-theirs.right.now ≡ c.in-Some.theirs.now ∷ c.in-Some.others.now = search rules in
     let same : c.in-Some-split_first.mine.now.dot ≡ c.in-Some.theirs.now.dot = search rules in
