@@ -1,5 +1,4 @@
 -- They rise, so what comes after the last comes after all.
-use Rattle.std.proofs.Common.{◌≡◌, sym, ◌∙◌}
 use Rattle.dy_siblings.proofs.Rising.{all_before}
 use Rattle.dy_siblings.proofs.besides.are_before.Goals as goal
 

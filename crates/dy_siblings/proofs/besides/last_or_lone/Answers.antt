@@ -1,5 +1,5 @@
 -- The only version of the second list comes after all of the first.
-use Rattle.std.proofs.Common.{◌≡◌, refl}
+use Rattle.std.proofs.Common.{refl}
 use Rattle.dy_siblings.proofs.Lones.{last_is_lone, last_has_place}
 use Rattle.dy_siblings.proofs.besides.last_or_lone.Goals as goal
 

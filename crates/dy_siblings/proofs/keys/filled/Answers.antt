@@ -1,5 +1,5 @@
 -- The bytes stand before zeros.
-use Rattle.std.proofs.Common.{◌≡◌, ◌++◌, drop, length, replicate, get_or, ap, ◌∙◌}
+use Rattle.std.proofs.Common.{◌++◌, drop, length, replicate, get_or, ap, ◌∙◌}
 use Rattle.dy_siblings.proofs.Words.{before_zeros}
 use Rattle.dy_siblings.proofs.keys.filled.Goals as goal
 

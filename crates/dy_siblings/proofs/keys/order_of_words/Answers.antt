@@ -1,8 +1,8 @@
 -- The first words that differ decide, and else all are the same.
-use Rattle.std.proofs.Common.{◌≡◌, ◌<◌, ◌*◌, ◌+◌, ◌∙◌, sym, ap, subst, arith, rules, nat_cmp}
+use Rattle.std.proofs.Common.{◌≡◌, ◌*◌, ◌+◌, ◌∙◌, sym, subst, arith}
 use Rattle.std.specs.Cmp.{nat_cmp_is}
 use Rattle.std.specs.declared.cmp.Ordering.TheVariants.{Equal}
-use Rattle.dy_siblings.specs.inside.Leads.{AreBytes, lead_from, whole_of}
+use Rattle.dy_siblings.specs.inside.Leads.{lead_from, whole_of}
 use Rattle.dy_siblings.proofs.Words.{by_word, same_word}
 use Rattle.dy_siblings.proofs.keys.order_of_words.Goals as goal
 

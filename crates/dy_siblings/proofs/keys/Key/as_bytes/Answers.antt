@@ -1,5 +1,5 @@
 -- The front says how many there are.
-use Rattle.std.proofs.Common.{◌≡◌, get_or, ap, arith}
+use Rattle.std.proofs.Common.{get_or, ap, arith}
 use Rattle.dy_siblings.specs.inside.Leads.{front_of}
 use Rattle.dy_siblings.proofs.keys.Key.as_bytes.Goals as goal
 

@@ -1,5 +1,5 @@
 -- With zeros behind them they are equal as they are, and short ones of one number are.
-use Rattle.std.proofs.Common.{◌≡◌, ◌<◌, ◌≤◌, ◌∙◌, length, sym, arith}
+use Rattle.std.proofs.Common.{◌<◌, ◌∙◌, length, sym, arith}
 use Rattle.dy_siblings.proofs.Leads.{short_eq}
 use Rattle.dy_siblings.proofs.Words.{same_bytes, same_count}
 use Rattle.dy_siblings.proofs.keys.Key.has_bytes_of.Goals as goal

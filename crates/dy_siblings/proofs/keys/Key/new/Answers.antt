@@ -1,7 +1,7 @@
 -- Short bytes lie in place, and what is shown of them is all.
-use Rattle.std.proofs.Common.{◌≡◌, ◌∙◌, ◌<◌, ◌≤◌, ◌++◌, ◌∷◌, [], List, ℕ, None, Some, length, take, get_or, sym, ap, subst, arith, rules, refl}
+use Rattle.std.proofs.Common.{◌≡◌, ◌∙◌, ◌<◌, ◌++◌, ◌∷◌, [], List, ℕ, None, Some, length, take, get_or, sym, ap, subst, arith, rules}
 use Rattle.std.specs.Arc.{arc_value}
-use Rattle.dy_siblings.specs.inside.Leads.{AreBytes, AreFilled, IsFronted, bytes_from, front_of}
+use Rattle.dy_siblings.specs.inside.Leads.{AreFilled, IsFronted, bytes_from, front_of}
 use Rattle.dy_siblings.proofs.Leads.{front_take}
 use Rattle.dy_siblings.proofs.Words.{same_front, taken}
 use Rattle.dy_siblings.proofs.keys.Key.new.Goals as goal

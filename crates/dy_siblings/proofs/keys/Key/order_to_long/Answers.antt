@@ -1,7 +1,7 @@
 -- Long keys are ordered by their numbers, unless they begin alike: then by their words.
-use Rattle.std.proofs.Common.{◌≡◌, ◌<◌, ◌≤◌, ◌⊎◌, ◌∙◌, ◌/◌, nat_cmp, length, sym, ap, arith, inl, inr}
+use Rattle.std.proofs.Common.{◌<◌, ◌≤◌, ◌⊎◌, ◌∙◌, ◌/◌, nat_cmp, length, sym, ap, arith, inl, inr}
 use Rattle.std.specs.Ordering.{ordering_then}
-use Rattle.dy_siblings.specs.inside.Leads.{lead_from, number_of, whole_of}
+use Rattle.dy_siblings.specs.inside.Leads.{whole_of}
 use Rattle.dy_siblings.proofs.Leads.{begun, ordered}
 use Rattle.dy_siblings.proofs.Words.{ordered_behind, same_first, same_lead}
 use Rattle.dy_siblings.proofs.keys.Key.order_to_long.Goals as goal
