@@ -6,12 +6,10 @@ use Rattle.std.specs.declared.cmp.Ordering.TheVariants.{Less, Greater}
 use Rattle.std.specs.Ordering.{match_ordering, ordering_reverse}
 use Rattle.std.specs.List.{AllByRecursion, list_any}
 use Rattle.std.specs.List.Sorted.{IsStrictlySortedBy}
-use Rattle.dy_dots.specs.declared.dots.Dot.{Dot}
 use Rattle.dy_core.specs.Orders.{holding_cmp, put}
 use Rattle.dy_core.specs.declared.holdings.Holding.{Holding}
 use Rattle.dy_core.specs.inside.Meanings.{is_at, row_in}
 use Rattle.dy_core.proofs.Held.{IsSameSpot, holding_cmp_total, tie_from_spots}
-use Rattle.dy_book.specs.inside.Lists.{taken_out, taken_out_at}
 
 -- what holds of each holding holds of that at an index
 all_at : (P : Holding → Type 0) (hs : List Holding) (at : ℕ) (d : Holding) →
@@ -50,22 +48,6 @@ put_there (y ∷ ys) (suc at) d x sorted lt same =
     ∙ (holding_cmp_total.antisymm h y ∙ ap ordering_reverse below) in
     ap (λ zs. y ∷ zs) (put_there ys at d x sorted.1 (omega (arith, lt)) same)
     ∙ sym (ap (λ r. match_ordering r (x ∷ y ∷ ys) (x ∷ ys) (y ∷ put holding_cmp ys x)) above)
-
--- what is taken out of the holding at an index is written there
-pub taken_there : (hs : List Holding) (at : ℕ) (dot : Dot) (d : Holding) → at < length hs →
-    set hs at (taken_out dot (get_or hs at d)) ≡ taken_out_at hs at dot
-taken_there [] at dot d lt = absurd (omega (arith, lt))
-taken_there (y ∷ ys) zero dot d lt = refl
-taken_there (y ∷ ys) (suc at) dot d lt =
-    ap (λ zs. y ∷ zs) (taken_there ys at dot d (omega (arith, lt)))
-
--- taking out what was put in gives back what was there
-pub taken_again : (hs : List Holding) (at : ℕ) (dot : Dot) (d x : Holding) → at < length hs →
-    taken_out dot x ≡ get_or hs at d → taken_out_at (set hs at x) at dot ≡ hs
-taken_again [] at dot d x lt back = absurd (omega (arith, lt))
-taken_again (y ∷ ys) zero dot d x lt back = ap (λ z. z ∷ ys) back
-taken_again (y ∷ ys) (suc at) dot d x lt back =
-    ap (λ zs. y ∷ zs) (taken_again ys at dot d x (omega (arith, lt)) back)
 
 -- what the items give, where one is inserted
 pub map-insert : {X Y : Type 0} (f : X → Y) (xs : List X) (at : ℕ) (x : X) → at ≤ length xs →

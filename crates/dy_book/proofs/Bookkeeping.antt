@@ -62,6 +62,24 @@ hold_receipts layout log legal holder home row of_row may log2 log_is m holder_i
     (receipt_parts row.key v.dot holder home)) row.versions (λ v inside.
     hold_covers layout log legal holder home row of_row may v inside)))
 
+-- the receipt of an issue
+pub issue_receipt : (layout : Layout) (log : List Entry) → IsLegal layout (steps_of log) →
+    (node home : ℕ) (v : Version) → IsNext (world_after (steps_of log)) node v →
+    (world_after (steps_of log)).counters node v.key < 1000000 →
+    IsTrue (may_hold (layout.homes v.key) node home) → (log2 : List Entry) →
+    log2 ≡ log ++ map untold (issue_steps node home v) →
+    (k : List ℕ) → k ≡ v.key → (d : Dot) → d ≡ v.dot → (m : ℕ) → m ≡ node →
+    IsReceipt (steps_of log2) (receipt_parts k d m home)
+issue_receipt layout log legal node home v next few may log2 log_is k key_is d dot_is m node_is =
+    subst (λ (l : List Entry). IsReceipt (steps_of l) (receipt_parts k d m home)) (sym log_is)
+    (subst (λ j. IsReceipt (steps_of (log ++ map untold (issue_steps node home v)))
+    (receipt_parts j d m home)) (sym key_is)
+    (subst (λ (e : Dot). IsReceipt (steps_of (log ++ map untold (issue_steps node home v)))
+    (receipt_parts v.key e m home)) (sym dot_is)
+    (subst (λ o. IsReceipt (steps_of (log ++ map untold (issue_steps node home v)))
+    (receipt_parts v.key v.dot o home)) (sym node_is)
+    (issue_covers layout log legal node home v next few may))))
+
 module _ (ring : Tokens) (n r : ℕ) (log : List Entry) (options : Options)
     (versions : ℕ) (es : List (List ℕ × KeyPart))
     (book : IsBook ring n r log options versions es) where
@@ -145,20 +163,6 @@ module _ (ring : Tokens) (n r : ℕ) (log : List Entry) (options : Options)
         key_is)
         (subst (λ (l : List Entry). IsPart (world_after (steps_of l)) v.key (Some p)) log_is here)
         book.index))
-
-    -- its receipt
-    pub issue_receipt : (log2 : List Entry) → log2 ≡ log ++ map untold (issue_steps node home v) →
-        (k : List ℕ) → k ≡ v.key → (d : Dot) → d ≡ v.dot → (m : ℕ) → m ≡ node →
-        IsReceipt (steps_of log2) (receipt_parts k d m home)
-    issue_receipt log2 log_is k key_is d dot_is m node_is =
-        subst (λ (l : List Entry). IsReceipt (steps_of l) (receipt_parts k d m home)) (sym log_is)
-        (subst (λ j. IsReceipt (steps_of (log ++ map untold (issue_steps node home v)))
-        (receipt_parts j d m home)) (sym key_is)
-        (subst (λ (e : Dot). IsReceipt (steps_of (log ++ map untold (issue_steps node home v)))
-        (receipt_parts v.key e m home)) (sym dot_is)
-        (subst (λ o. IsReceipt (steps_of (log ++ map untold (issue_steps node home v)))
-        (receipt_parts v.key v.dot o home)) (sym node_is)
-        (issue_covers (layout_of ring n) log book.legal node home v next counter_few may))))
 
   module _ (holder home : ℕ) (row : Siblings)
       (of_row : AreMadeOf (world_after (steps_of log)) row.key row.versions)

@@ -76,7 +76,8 @@ least_is issued vs key rise i u lt is before not_issued d dot_is =
           (earlier_in vs rise i u lt is v inside (subst (IsDotBefore v.dot) dot_is earlier))).1;
     }
 
-map_last : (holder home : ℕ) (xs : List Version) (v : Version) →
+-- the receipts of a list with a version at its end
+pub map_last : (holder home : ℕ) (xs : List Version) (v : Version) →
     receipts_of (xs ++ v ∷ []) holder home ≡ receipts_of xs holder home ++ receipt_parts v.key v.dot
     holder home ∷ []
 map_last holder home [] v = refl

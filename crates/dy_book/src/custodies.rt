@@ -3,14 +3,12 @@ ghost use Rattle.std.specs.Prelude.{◌≡◌, ◌<◌, ◌++◌, map, length, s
 ghost use Rattle.std.specs.Prelude.{vec_len, vec_capacity, IfOk, OnOk, OnErr, IfSome, IfNone};
 ghost use Rattle.std.specs.Prelude.{IsOkUnless, MatchOption};
 ghost use Rattle.std.specs.List.{list_any};
-ghost use Rattle.std.specs.List.Sorted.{IsStrictlySortedBy};
 ghost use Rattle.dy_siblings.specs.Siblings.{AreOneByDot, IsBeside, IsSameRow, merge};
 ghost use Rattle.dy_siblings.specs.Versions.{VersionParts};
 ghost use Rattle.dy_core.specs.Orders.{holding_cmp, put};
 ghost use Rattle.dy_core.specs.inside.Meanings.{is_at, row_in};
 ghost use Rattle.dy_core.specs.declared.holdings.Holding.{Holding as HoldingParts};
-ghost use Rattle.dy_book.specs.inside.Lists.{is_hint_here, listed_from, released, taken_out_at};
-ghost use Rattle.dy_book.specs.inside.Lists.{IsHeldAt};
+ghost use Rattle.dy_book.specs.inside.Lists.{is_hint_here, listed_from, released};
 ghost use Rattle.dy_book.specs.Books.{DotsRise};
 
 use crate::dots::Dots;
@@ -115,7 +113,7 @@ impl Custody {
 
     // Inserts the row's version, if the row has exactly one that is not held, and it is concurrent
     // with all that is held. That makes the merge of both. Gives the version's dot.
-    fn put_beside(&mut self, alloc: Global, row: &Row) -> Result<Option<Dot>, Fault>
+    pub(crate) fn put_beside(&mut self, alloc: Global, row: &Row) -> Result<Option<Dot>, Fault>
         requires one_key { self.old.row.key ≡ row.now.key }
         requires agree { AreOneByDot (self.old.row.versions ++ row.now.versions) }
         ensures holder { self.new.holder ≡ self.old.holder }
@@ -145,8 +143,24 @@ impl Custody {
         }
     }
 
-    // The version of the dot is no longer held.
-    fn take_out(&mut self, dot: Dot)
+    // What is held once the row is merged into it.
+    pub(crate) fn merged(&self, alloc: Global, row: &Row) -> Result<Custody, Fault>
+        requires one_key { self.now.row.key ≡ row.now.key }
+        requires agree { AreOneByDot (self.now.row.versions ++ row.now.versions) }
+        ensures holder { IfOk result (λ c. c.holder ≡ self.now.holder) }
+        ensures home { IfOk result (λ c. c.home ≡ self.now.home) }
+        ensures key { IfOk result (λ c. c.row.key ≡ self.now.row.key) }
+        ensures row { IfOk result (λ c. IsSameRow c.row.versions
+            (merge self.now.row.versions row.now.versions)) }
+        ensures memory { IsOkUnless result Fault.OutOfMemory }
+    {
+        let merged = self.row.merged(alloc, row)?;
+        let custody = Custody::new(alloc, self.holder, self.home, merged)?;
+        Ok(custody)
+    }
+
+    // The version of the dot is no longer held. Takes no memory.
+    pub(crate) fn take_out(&mut self, dot: Dot)
         ensures { self.new ≡ taken_out dot self.old }
     {
         self.row.remove(dot);
@@ -195,7 +209,7 @@ pub(crate) fn find<'a>(
 }
 
 // The index of the place's custody in the list.
-fn index_of(places: &[Custody], holder: NodeId, home: NodeId, key: &Key) -> Option<usize>
+pub(crate) fn index_of(places: &[Custody], holder: NodeId, home: NodeId, key: &Key) -> Option<usize>
     ensures bound { IfSome result (λ at. at < length places.now) }
     ensures there { IfSome result (λ at. (c : HoldingParts) →
         is_at holder home key.now (slice_index_or places.now at c) ≡ true) }
@@ -209,48 +223,6 @@ fn index_of(places: &[Custody], holder: NodeId, home: NodeId, key: &Key) -> Opti
         }
     }
     None
-}
-
-// Inserts the row's version into what is held at the place. The row must have exactly one that is
-// not held there, and it must be concurrent with all that is; else nothing changes. Gives the
-// custody's index in the list, and the dot.
-pub(crate) fn put_beside(
-    alloc: Global,
-    places: &mut [Custody],
-    holder: NodeId,
-    home: NodeId,
-    row: &Row,
-) -> Result<Option<(usize, Dot)>, Fault>
-    requires in_order { IsStrictlySortedBy holding_cmp places.old }
-    requires agree { AreOneByDot
-        (row_in places.old holder home row.now.key ++ row.now.versions) }
-    ensures put { IfOk result (λ put. IfSome put (λ p.
-        IsHeldAt places.old holder home row.now places.new)) }
-    ensures back { IfOk result (λ put. IfSome put (λ p.
-        taken_out_at places.new p.0 p.1 ≡ places.old)) }
-    ensures bound { IfOk result (λ put. IfSome put (λ p. p.0 < length places.new)) }
-    ensures none { IfOk result (λ put. IfNone put ((v : VersionParts) →
-        list_any (is_at holder home row.now.key) places.old ≡ true →
-        IsBeside (row_in places.old holder home row.now.key) row.now.versions v → ⊥)) }
-    ensures same { IfOk result (λ put. IfNone put (places.new ≡ places.old)) }
-    ensures err { OnErr result (places.new ≡ places.old) }
-    ensures memory { IsOkUnless result Fault.OutOfMemory }
-{
-    let Some(at) = index_of(places, holder, home, row.key()) else {
-        return Ok(None);
-    };
-    match places[at].put_beside(alloc, row)? {
-        Some(dot) => Ok(Some((at, dot))),
-        None => Ok(None),
-    }
-}
-
-// The version of the dot is no longer held there in the list. Takes no memory.
-pub(crate) fn take_out_at(places: &mut [Custody], at: usize, dot: Dot)
-    requires { at < length places.old }
-    ensures { places.new ≡ taken_out_at places.old at dot }
-{
-    places[at].take_out(dot);
 }
 
 // A copy of the row at the place.
@@ -268,33 +240,6 @@ pub(crate) fn copy_at(
     match find(places, holder, home, key) {
         Some(custody) => custody.row.try_clone(alloc),
         None => Ok(Row::new(alloc, key.try_clone(alloc)?)),
-    }
-}
-
-// The merge of the row at the place with this one.
-pub(crate) fn merged_at(
-    alloc: Global,
-    places: &[Custody],
-    holder: NodeId,
-    home: NodeId,
-    row: &Row,
-) -> Result<Row, Fault>
-    requires { AreOneByDot (row_in places.now holder home row.now.key ++ row.now.versions) }
-    ensures ok { IfOk result (λ merged. IsSameRow merged.versions
-        (merge (row_in places.now holder home row.now.key) row.now.versions)) }
-    ensures key { IfOk result (λ merged. merged.key ≡ row.now.key) }
-    ensures memory { IsOkUnless result Fault.OutOfMemory }
-{
-    match find(places, holder, home, row.key()) {
-        Some(custody) => {
-            let merged = custody.row.merged(alloc, row)?;
-            Ok(merged)
-        }
-        None => {
-            let none = Row::new(alloc, row.key().try_clone(alloc)?);
-            let merged = none.merged(alloc, row)?;
-            Ok(merged)
-        }
     }
 }
 

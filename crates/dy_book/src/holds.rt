@@ -58,25 +58,59 @@ fn make_part_of(alloc: Global, keys: &mut BTreeMap<Key, KeyPart>, row: &Row) -> 
     Ok(())
 }
 
-// What the holder holds for the home once the row is merged into it.
-fn held_after(
-    alloc: Global,
-    places: &[Custody],
-    holder: NodeId,
-    home: NodeId,
-    row: &Row,
-) -> Result<Custody, Fault>
-    requires { AreOneByDot (row_in places.now holder home row.now.key ++ row.now.versions) }
+// What is held of the row at a place where nothing was held.
+fn held_first(alloc: Global, holder: NodeId, home: NodeId, row: &Row) -> Result<Custody, Fault>
+    requires { AreOneByDot row.now.versions }
     ensures holder { IfOk result (λ c. c.holder ≡ holder) }
     ensures home { IfOk result (λ c. c.home ≡ home) }
     ensures key { IfOk result (λ c. c.row.key ≡ row.now.key) }
-    ensures row { IfOk result (λ c. IsSameRow c.row.versions
-        (merge (row_in places.now holder home row.now.key) row.now.versions)) }
+    ensures row { IfOk result (λ c. IsSameRow c.row.versions (merge [] row.now.versions)) }
     ensures memory { IsOkUnless result Fault.OutOfMemory }
 {
-    let merged = custodies::merged_at(alloc, places, holder, home, row)?;
+    let none = Row::new(alloc, row.key().try_clone(alloc)?);
+    let merged = none.merged(alloc, row)?;
     let custody = Custody::new(alloc, holder, home, merged)?;
     Ok(custody)
+}
+
+// Merges the row into what is held, and adds these steps to the ledger, or does neither.
+fn hold_more<J: Naming>(
+    alloc: Global,
+    ledger: &mut Ledger<J>,
+    held: &mut Custody,
+    share: &mut NodeShare<J>,
+    row: &Row,
+    steps: &[StepRef<'_>],
+) -> Result<(), Fault>
+    requires one_key { held.old.row.key ≡ row.now.key }
+    requires agree { AreOneByDot (held.old.row.versions ++ row.now.versions) }
+    requires own { All (λ s. node_of s ≡ Some share.old.node) steps.now }
+    requires allowed { MayFollow J.ring J.n ledger.old.log steps.now }
+    ensures holder { held.new.holder ≡ held.old.holder }
+    ensures home { held.new.home ≡ held.old.home }
+    ensures key { held.new.row.key ≡ held.old.row.key }
+    ensures row { OnOk result (IsSameRow held.new.row.versions
+        (merge held.old.row.versions row.now.versions)) }
+    ensures log { OnOk result (ledger.new ≡ with_entries ledger.old (map untold steps.now)) }
+    ensures share { OnOk result (share.new ≡ with_steps share.old steps.now) }
+    ensures stay { OnErr result (held.new ≡ held.old) }
+    ensures err { OnErr result ((ledger.new ≡ ledger.old) × (share.new ≡ share.old)) }
+    ensures memory { IsOkUnless result Fault.OutOfMemory }
+    ensures nodes { (node : ℕ) → node ≢ share.old.node →
+        NodeStays ledger.old.log ledger.new.log node }
+    ensures sessions { (session : ℕ) → SessionStays ledger.old.log ledger.new.log session }
+{
+    if let Some(dot) = held.put_beside(alloc, row)? {
+        if let Err(fault) = ledger.node_steps(share, steps) {
+            held.take_out(dot);
+            return Err(fault);
+        }
+        return Ok(());
+    }
+    let merged = held.merged(alloc, row)?;
+    ledger.node_steps(share, steps)?;
+    *held = merged;
+    Ok(())
 }
 
 // Holds the row at its place, and adds these steps to the ledger, or does neither.
@@ -106,15 +140,11 @@ pub(crate) fn hold_at<J: Naming>(
     ensures sessions { (session : ℕ) → SessionStays ledger.old.log ledger.new.log session }
 {
     let holder = share.node();
-    let beside = custodies::put_beside(alloc, places.as_mut_slice(), holder, home, row)?;
-    if let Some((at, dot)) = beside {
-        if let Err(fault) = ledger.node_steps(share, steps) {
-            custodies::take_out_at(places.as_mut_slice(), at, dot);
-            return Err(fault);
-        }
+    if let Some(at) = custodies::index_of(places.as_slice(), holder, home, row.key()) {
+        hold_more(alloc, ledger, &mut places[at], share, row, steps)?;
         return Ok(());
     }
-    let custody = held_after(alloc, places.as_slice(), holder, home, row)?;
+    let custody = held_first(alloc, holder, home, row)?;
     places.reserve(1)?;
     ledger.node_steps(share, steps)?;
     custodies::put(places, custody);

@@ -74,6 +74,48 @@ fn issue_in<J: Naming>(
     Ok(())
 }
 
+// Issues the version and holds it alone, in the log and in the part of its key, or does neither.
+// Gives the receipt.
+fn issue_alone<J: Naming>(
+    alloc: Global,
+    ledger: &mut Ledger<J>,
+    part: &mut KeyPart,
+    share: &mut NodeShare<J>,
+    home: NodeId,
+    version: &Version,
+) -> Result<Receipt<J>, Fault>
+    requires legal { IsLegal (layout_of J.ring J.n) (steps_of ledger.old.log) }
+    requires part { IsPart (world_after (steps_of ledger.old.log)) version.now.key
+        (Some part.old) }
+    requires may_hold { IsTrue
+        (may_hold (homes_of J.ring J.n version.now.key) share.old.node home) }
+    requires next { IsNext (world_after (steps_of ledger.old.log)) share.old.node version.now }
+    requires room { (world_after (steps_of ledger.old.log)).counters share.old.node
+        version.now.key < MAX_COUNTER }
+    ensures log { OnOk result (ledger.new ≡ with_entries ledger.old
+        (map untold (issue_steps share.old.node home version.now))) }
+    ensures share { OnOk result
+        (share.new ≡ with_steps share.old (issue_steps share.old.node home version.now)) }
+    ensures receipt { IfOk result (λ r.
+        r ≡ receipt_parts version.now.key version.now.dot share.old.node home) }
+    ensures err { OnErr result ((ledger.new ≡ ledger.old) × (share.new ≡ share.old)) }
+    ensures memory { IsOkUnless result Fault.OutOfMemory }
+    ensures part { IsPart (world_after (steps_of ledger.new.log)) version.now.key
+        (Some part.new) }
+    ensures nodes { (node : ℕ) → node ≢ share.old.node →
+        NodeStays ledger.old.log ledger.new.log node }
+    ensures sessions { (session : ℕ) → SessionStays ledger.old.log ledger.new.log session }
+{
+    let node = share.node();
+    let key = version.key().try_clone(alloc)?;
+    let row = Row::of(alloc, version.try_clone(alloc)?)?;
+    let copy = version.try_clone(alloc)?;
+    let steps = steps_of_issue(node, home, version, &row);
+    issue_in(alloc, ledger, part, share, home, copy, &row, &steps)?;
+    let place = Place { holder: node, home };
+    Ok(ledger.receipt(key, version.dot(), place))
+}
+
 impl<J: Naming> Book<J> {
     /// Issues the version and holds it alone, or does neither. Gives the receipt.
     pub fn issue(
@@ -101,26 +143,11 @@ impl<J: Naming> Book<J> {
         ensures sessions { (session : ℕ) → SessionStays self.old.log self.new.log session }
     {
         self.ledger.agree(share);
-        let node = share.node();
         let key = version.key().try_clone(self.alloc)?;
-        let row = Row::of(self.alloc, version.try_clone(self.alloc)?)?;
-        let copy = version.try_clone(self.alloc)?;
-        let of_part = key.try_clone(self.alloc)?;
-        let steps = steps_of_issue(node, home, version, &row);
-        let entry = self.keys.entry(of_part)?;
+        let entry = self.keys.entry(key)?;
         let part = entry.or_insert(KeyPart::new(self.alloc));
-        issue_in(
-            self.alloc,
-            &mut self.ledger,
-            part,
-            share,
-            home,
-            copy,
-            &row,
-            &steps,
-        )?;
+        let receipt = issue_alone(self.alloc, &mut self.ledger, part, share, home, version)?;
         self.versions += 1;
-        let place = Place { holder: node, home };
-        Ok(self.ledger.receipt(key, version.dot(), place))
+        Ok(receipt)
     }
 }

@@ -184,6 +184,13 @@ impl KeyPart {
     }
 }
 
+// The version of this dot, of those that its node made.
+pub(crate) fn version_of(made: &[Version], dot: Dot) -> Option<&Version>
+    ensures { option_copied result ≡ slice_get made.now (dot.counter - 1) }
+{
+    made.get(dot.counter() as usize - 1)
+}
+
 // Adds empty lists, until there is one for the node.
 fn make_room(alloc: Global, made: &mut Vec<Made>, node: usize) -> Result<(), Fault>
     requires { node < MAX_NODES }

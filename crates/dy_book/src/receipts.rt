@@ -66,10 +66,14 @@ pub(crate) fn give_receipts<J: Naming>(
     ensures { receipts.new.items ≡ receipts_of row.now.versions place.now.holder place.now.home }
 {
     let versions = row.versions();
-    let mut next = Some(key);
-    for version in versions {
-        let Some(key) = next else { unreachable!() };
-        receipts.push_reserved(ledger.receipt(key, version.dot(), *place));
-        next = next_key(row, keys);
+    let Some((last, others)) = versions.split_last() else {
+        return;
+    };
+    for version in others {
+        let Some(copy) = next_key(row, keys) else {
+            unreachable!()
+        };
+        receipts.push_reserved(ledger.receipt(copy, version.dot(), *place));
     }
+    receipts.push_reserved(ledger.receipt(key, last.dot(), *place));
 }

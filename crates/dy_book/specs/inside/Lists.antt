@@ -1,6 +1,6 @@
 -- The versions of a key, node by node.
 use Rattle.std.specs.Prelude.{◌≡◌, ℕ, ◌+◌, List, [], ◌∷◌, ◌++◌, slice_index_or, if◌then◌else◌, Bool}
-use Rattle.std.specs.Prelude.{◌&&◌, not, eqb, fold, Option, None, Some, zero, suc}
+use Rattle.std.specs.Prelude.{◌&&◌, not, eqb, fold, Option, None, Some}
 use Rattle.std.specs.Coded.{Coded}
 use Rattle.std.specs.List.{Contains}
 use Rattle.std.specs.List.Sorted.{IsStrictlySortedBy}
@@ -72,12 +72,6 @@ taken_out d h = record {
   home = h.home;
   row = record { key = h.row.key; versions = without h.row.versions d };
 }
-
--- the list with the version of the dot out of the holding there
-abbrev pub taken_out_at : List Holding → ℕ → Dot → List Holding
-taken_out_at [] at d = []
-taken_out_at (h ∷ hs) zero d = taken_out d h ∷ hs
-taken_out_at (h ∷ hs) (suc at) d = h ∷ taken_out_at hs at d
 
 -- the merge with the row is put in its place in the list
 pub record IsHeldAt (hs : List Holding) (holder home : ℕ) (row : Siblings) (new : List Holding)

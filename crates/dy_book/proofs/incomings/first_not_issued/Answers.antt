@@ -19,14 +19,14 @@ returns-then-not-is_issued_as g c =
     let vs = c.versions-versions.result.now in
     let rise = subst Rise
     (sym c.versions-versions.ensures.value) c.versions-versions.ensures.valid.rise in
-    subst (λ us. IsLeastNotIssued (world_after (steps_of c.args.ledger.now.log)).versions us c.dot.result)
+    subst (λ us. IsLeastNotIssued (world_after (steps_of c.args.ledger.now.log)).versions us c.dot-then-not-is_issued_as.result)
     c.versions-versions.ensures.value
     (least_is (world_after (steps_of c.args.ledger.now.log)).versions vs c.args.row.now.key rise
     c.loop-version.version-index c.version-item.result c.loop-version-test.true
     c.version-item.is
-    c.loop-version.invariant
+    c.loop-version.invariant.issued
     (λ inside. true≢false (sym (c.is_issued_as.ensures.1 inside) ∙ c.if-not-is_issued_as.true))
-    c.dot.result c.dot.ensures.value)
+    c.dot-then-not-is_issued_as.result c.dot-then-not-is_issued_as.ensures.value)
 
 pub is_issued_as-requires-clause-part : goal.is_issued_as-requires-clause-part
 is_issued_as-requires-clause-part g c =
@@ -53,9 +53,14 @@ loop-version-preserved g c =
     let own_key : v.key ≡ k =
     All-contains (λ (u : Version). u.key ≡ k) vs v of_row
     (c.loop-version.version-index, c.loop-version-test.true, sym c.version-item.is) in
-    issued_more (λ u. (u.key ≡ k) × Contains (world_after (steps_of c.args.ledger.now.log)).versions u) vs
-    c.loop-version.version-index v c.loop-version-test.true c.version-item.is
-    c.loop-version.invariant (own_key, c.is_issued_as.ensures.0 c.if-not-is_issued_as.false)
+    record {
+      issued = issued_more
+          (λ u. (u.key ≡ k) × Contains (world_after (steps_of c.args.ledger.now.log)).versions u) vs
+          c.loop-version.version-index v c.loop-version-test.true c.version-item.is
+          c.loop-version.invariant.issued
+          (own_key, c.is_issued_as.ensures.0 c.if-not-is_issued_as.false);
+      made = c.made_next-made.ensures;
+    }
 
 pub returns : goal.returns
 returns g c =
@@ -63,4 +68,4 @@ returns g c =
     c.versions-versions.ensures.value
     (subst (AreMadeOf (world_after (steps_of c.args.ledger.now.log)) c.args.row.now.key)
     (take_all c.loop-version.version-index c.versions-versions.result.now
-    c.loop-version-test.false) c.loop-version.invariant)
+    c.loop-version-test.false) c.loop-version.invariant.issued)

@@ -1,4 +1,4 @@
-use Rattle.std.proofs.Common.{◌≡◌, ◌+◌, ◌<◌, List, ℕ, length, take, vec_capacity, IsSome, Some}
+use Rattle.std.proofs.Common.{◌≡◌, ◌+◌, ◌<◌, length, take, vec_capacity}
 use Rattle.std.specs.List.{All}
 use Rattle.dy_siblings.specs.declared.keys.TheConstants.{SHORT_KEY_BYTES}
 use Rattle.dy_book.specs.Books.{receipts_of}
@@ -7,11 +7,9 @@ use Rattle.dy_book.proofs.receipts.give_receipts.Given as goal
 abbrev pub invariant-loop-version : goal.invariant-loop-version
 invariant-loop-version g l = record {
   given : l.receipts.items ≡ receipts_of
-      (take l.version-index l.versions) l.place.holder l.place.home;
-  some : l.version-index < length l.versions → IsSome l.next;
-  left : SHORT_KEY_BYTES < length l.row.key → l.version-index < length l.versions →
-      length l.keys.items + l.version-index + 1 ≡ length l.versions;
-  next : (key : List ℕ) → l.next ≡ Some key → key ≡ l.row.key;
+      (take l.version-index l.others) l.place.holder l.place.home;
+  left : SHORT_KEY_BYTES < length l.row.key →
+      length l.keys.items + l.version-index ≡ length l.others;
   same : All (λ key. key ≡ l.row.key) l.keys.items;
   room : vec_capacity l.receipts ≡ vec_capacity l.initial.receipts;
 }

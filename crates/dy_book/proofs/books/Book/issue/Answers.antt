@@ -13,8 +13,7 @@ use Rattle.dy_shares.specs.Shares.{Account, steps_of, untold}
 use Rattle.dy_book.specs.Books.{MayIssue, issue_steps, world_of}
 use Rattle.dy_book.specs.inside.Kept.{IsBook}
 use Rattle.dy_book.specs.inside.Indexes.{IsPart, part_at}
-use Rattle.dy_book.proofs.Bookkeeping.{book_rewritten, issue_book, issue_receipt}
-use Rattle.dy_book.proofs.Bookkeeping.{counter_few}
+use Rattle.dy_book.proofs.Bookkeeping.{book_rewritten, counter_few, issue_book}
 use Rattle.dy_book.proofs.Holding.{issue_makes}
 use Rattle.dy_book.proofs.Parting.{part_or_none}
 use Rattle.dy_book.proofs.books.Book.issue.Goals as goal
@@ -30,15 +29,13 @@ invariant_of-self-in_err-entry g c =
     (subst (λ (a : Account). IsBook g.J.Naming.ring g.J.Naming.n g.J.Naming.r a.log b.options
     b.versions b.keys.entries) (sym c.agree.ensures.log) c.self.invariant)
 
-pub issue_in-requires-clause-part : goal.issue_in-requires-clause-part
-issue_in-requires-clause-part g c =
+pub issue_alone-requires-clause-part : goal.issue_alone-requires-clause-part
+issue_alone-requires-clause-part g c =
     let b = c.self.inside in
     let w = world_after (steps_of b.ledger.log) in
-    let key = c.in_ok-of_part.of_part in
-    let key_is = c.in_ok-of_part.ensures.value
-    ∙ (c.in_ok-key.ensures.value
-    ∙ (c.key.ensures.value ∙ sym (ap (λ v. v.key) c.in_ok-copy.ensures.value))) in
-    subst (λ (a : Account). IsPart (world_after (steps_of a.log)) c.in_ok-copy.copy.key
+    let key = c.in_ok-key.key in
+    let key_is = c.in_ok-key.ensures.value ∙ c.key.ensures.value in
+    subst (λ (a : Account). IsPart (world_after (steps_of a.log)) c.args.version.now.key
     (Some c.or_insert-part.result.now)) (sym c.agree.ensures.log)
     (subst (λ k. IsPart w k (Some c.or_insert-part.result.now)) key_is
     (subst (λ p. IsPart w key (Some p))
@@ -47,41 +44,22 @@ issue_in-requires-clause-part g c =
     (part_or_none w key (part_at b.keys.entries key) c.new.result
     c.new.ensures.made c.new.ensures.places (c.self.invariant.index key))))
 
-pub invariant_of-self-in_err-issue_in : goal.invariant_of-self-in_err-issue_in
-invariant_of-self-in_err-issue_in g c =
+pub invariant_of-self-in_err-receipt : goal.invariant_of-self-in_err-receipt
+invariant_of-self-in_err-receipt g c =
     let b = c.self.inside in
-    let key_is = c.in_ok-of_part.ensures.value
-    ∙ (c.in_ok-key.ensures.value
-    ∙ (c.key.ensures.value ∙ sym (ap (λ v. v.key) c.in_ok-copy.ensures.value))) in
-    let keys = map_with_value c.in_ok-entry.entry c.issue_in.new.part in
+    let keys = map_with_value c.in_ok-entry.entry c.issue_alone.new.part in
     let same : c.entry.follows.lender keys ≡ keys =
     subst (λ r. OnOk r (c.entry.follows.lender keys ≡ keys)) c.in_ok-entry.was
     (c.entry.follows.holds keys) in
     book_rewritten g.J.Naming.ring g.J.Naming.n g.J.Naming.r b.ledger.log b.options
     b.versions b.keys.entries c.self.invariant
-    c.in_ok-of_part.of_part c.in_ok-copy.copy.key key_is c.issue_in.new.part _
-    (λ q. let written = (c.in_ok-entry.ensures.update.0 c.issue_in.new.part).0 q in
+    c.in_ok-key.key c.args.version.now.key (c.in_ok-key.ensures.value ∙ c.key.ensures.value)
+    c.issue_alone.new.part _
+    (λ q. let written = (c.in_ok-entry.ensures.update.0 c.issue_alone.new.part).0 q in
     grind (arith, common_steps, written, same))
-    c.issue_in.new.ledger.log
-    (ap (λ a. a.log) (c.in_err-issue_in.ensures.err.0 ∙ c.agree.ensures.log))
-    c.issue_in.ensures.part
-
-pub receipt-requires : goal.receipt-requires
-receipt-requires g c =
-    let b = c.self.inside in
-    let v = c.args.version.now in
-    let node = c.args.share.now.node in
-    let may = subst (λ s. MayIssue s node v) (sym c.self.view_is) c.requires.may in
-    let node_is = c.node-node.ensures.value ∙ ap (λ p. p.node) c.agree.ensures.share in
-    let steps_are = c.steps_of_issue-steps.ensures ∙ ap (λ m. issue_steps m c.args.home v) node_is in
-    let log_is = ap (λ a. a.log) c.in_ok-issue_in.ensures.log
-    ∙ (λ i. (c.agree.ensures.log i).log ++ map untold (steps_are i)) in
-    issue_receipt g.J.Naming.ring g.J.Naming.n g.J.Naming.r b.ledger.log b.options b.versions
-    b.keys.entries c.self.invariant
-    node c.args.home v may.next may.counter_left c.requires.may_hold c.issue_in.new.ledger.log
-    log_is
-    c.in_ok-key.key (c.in_ok-key.ensures.value ∙ c.key.ensures.value) c.dot.result
-    c.dot.ensures.value c.node-node.result node_is
+    c.issue_alone.new.ledger.log
+    (ap (λ a. a.log) (c.in_err-receipt.ensures.err.0 ∙ c.agree.ensures.log))
+    c.issue_alone.ensures.part
 
 pub invariant_of-self-2 : goal.invariant_of-self-2
 invariant_of-self-2 g c =
@@ -89,25 +67,21 @@ invariant_of-self-2 g c =
     let v = c.args.version.now in
     let node = c.args.share.now.node in
     let may = subst (λ s. MayIssue s node v) (sym c.self.view_is) c.requires.may in
-    let node_is = c.node-node.ensures.value ∙ ap (λ p. p.node) c.agree.ensures.share in
-    let steps_are = c.steps_of_issue-steps.ensures ∙ ap (λ m. issue_steps m c.args.home v) node_is in
-    let log_is = ap (λ a. a.log) c.in_ok-issue_in.ensures.log
-    ∙ (λ i. (c.agree.ensures.log i).log ++ map untold (steps_are i)) in
-    let keys = map_with_value c.in_ok-entry.entry c.issue_in.new.part in
+    let node_is = ap (λ p. p.node) c.agree.ensures.share in
+    let log_is = ap (λ a. a.log) c.in_ok-receipt.ensures.log
+    ∙ (λ i. (c.agree.ensures.log i).log ++ map untold (issue_steps (node_is i) c.args.home v)) in
+    let keys = map_with_value c.in_ok-entry.entry c.issue_alone.new.part in
     let same : c.entry.follows.lender keys ≡ keys =
     subst (λ r. OnOk r (c.entry.follows.lender keys ≡ keys)) c.in_ok-entry.was
     (c.entry.follows.holds keys) in
     issue_book g.J.Naming.ring g.J.Naming.n g.J.Naming.r b.ledger.log b.options b.versions
     b.keys.entries c.self.invariant
     node c.args.home v may.next may.counter_left c.requires.may_hold may.versions_left may.room
-    c.in_ok-of_part.of_part
-    (c.in_ok-of_part.ensures.value ∙ (c.in_ok-key.ensures.value ∙ c.key.ensures.value))
-    c.issue_in.new.part _
-    (λ q. let written = (c.in_ok-entry.ensures.update.0 c.issue_in.new.part).0 q in
+    c.in_ok-key.key (c.in_ok-key.ensures.value ∙ c.key.ensures.value)
+    c.issue_alone.new.part _
+    (λ q. let written = (c.in_ok-entry.ensures.update.0 c.issue_alone.new.part).0 q in
     grind (arith, common_steps, written, same))
-    c.issue_in.new.ledger.log log_is
-    (subst (λ (u : Version). IsPart (world_after (steps_of c.issue_in.new.ledger.log)) u.key
-    (Some c.issue_in.new.part)) c.in_ok-copy.ensures.value c.issue_in.ensures.part)
+    c.issue_alone.new.ledger.log log_is c.issue_alone.ensures.part
 
 pub returns-clause-issued : goal.returns-clause-issued
 returns-clause-issued g c =
