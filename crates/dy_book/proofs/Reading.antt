@@ -1,6 +1,6 @@
 -- The versions of a key that have the dots of a row are the row's, in its order.
-use Rattle.std.proofs.Common.{◌≡◌, ℕ, zero, suc, ◌+◌, ◌-◌, ◌<◌, ◌≤◌, ◌↔◌, Bool, true, false, cond, ◌&&◌, ◌||◌, eqb, leb, ◌⊎◌, List, [], ◌∷◌, ◌++◌, length, get_or, take, drop, slice_get, Option, None, Some, IsTrue, refl, sym, ap, ◌∙◌, subst, inl, inr, ⊎_elim, arith}
-use Rattle.std.specs.List.{All, Contains, filter, flat_map}
+use Rattle.std.proofs.Common.{◌≡◌, ℕ, zero, suc, ◌+◌, ◌-◌, ◌<◌, ◌≤◌, true, cond, ◌&&◌, eqb, leb, ◌⊎◌, List, [], ◌∷◌, ◌++◌, length, get_or, take, drop, slice_get, None, Some, refl, sym, ap, ◌∙◌, subst, inl, inr, ⊎_elim, arith}
+use Rattle.std.specs.List.{Contains, filter}
 use Rattle.std.specs.FinSet as set
 use Rattle.std.proofs.lemmas.Bool.{or_cases, or_left, or_right, and_parts, and_from, cases_Bool, cond-true, cond-false, true≢false, eqb-true, eq-eqb, leb-true, le-leb}
 use Rattle.std.proofs.lemmas.List.{take-append-drop, take_more}
@@ -11,12 +11,12 @@ use Rattle.dy_dots.specs.Runs.{AreRunsOf, RiseFrom, in_run, in_runs}
 use Rattle.dy_dots.specs.declared.dots.Dot.{Dot}
 use Rattle.dy_dots.specs.declared.runs.Run.{Run}
 use Rattle.dy_dots.proofs.SameDots.{same_dot_is, same_dot_self}
-use Rattle.dy_siblings.specs.Siblings.{IsSiblingSet, Rise, RiseAfter, Siblings, has_dot, own_dots}
+use Rattle.dy_siblings.specs.Siblings.{Rise, RiseAfter, Siblings}
 use Rattle.dy_siblings.specs.declared.versions.Version.{Version}
 use Rattle.dy_siblings.proofs.Histories.{in_own_dots}
-use Rattle.dy_siblings.proofs.Members.{not_in_nil, in_head, in_tail, in_cases, any_gives, any_from, filter_in, filter_from}
+use Rattle.dy_siblings.proofs.Members.{not_in_nil, in_head, in_tail, any_gives, any_from, filter_in, filter_from}
 use Rattle.dy_siblings.proofs.Rising.{filter_rises, same_rising}
-use Rattle.dy_core.specs.Worlds.{AreMadeOf, Layout, World, empty_world}
+use Rattle.dy_core.specs.Worlds.{Layout, World}
 use Rattle.dy_core.specs.Logs.{IsLegal, world_after}
 use Rattle.dy_core.specs.declared.steps.Step.{Step}
 use Rattle.dy_core.specs.declared.steps.Step.TheVariants.{Hold}
@@ -28,8 +28,8 @@ use Rattle.dy_shares.specs.Trails.{AreKept, HasDots, Keeps}
 use Rattle.dy_shares.specs.declared.kept_steps.KeptStep.{KeptStep}
 use Rattle.dy_shares.proofs.Keeping.{kept_at}
 use Rattle.dy_book.specs.declared.parts.KeyPart.{KeyPart}
-use Rattle.dy_book.specs.inside.Indexes.{IsIndex, IsPart, made_in, part_at}
-use Rattle.dy_book.specs.inside.Lists.{AreCounted, made_of}
+use Rattle.dy_book.specs.inside.Indexes.{IsIndex, made_in, part_at}
+use Rattle.dy_book.specs.inside.Lists.{AreCounted}
 use Rattle.dy_book.specs.inside.Readings.{AreOfDots, IsLogged, IsLoggedRow}
 use Rattle.dy_book.proofs.Making.{by_from, by_parts, counted_at, in_made, log_counted, made_from}
 

@@ -1,5 +1,5 @@
 -- How a step that is kept is read with the index.
-use Rattle.std.specs.Prelude.{◌≡◌, ℕ, ◌↔◌, IsTrue, List, length}
+use Rattle.std.specs.Prelude.{ℕ, ◌↔◌, IsTrue, List}
 use Rattle.std.specs.List.{Contains}
 use Rattle.std.specs.FinSet as set
 use Rattle.dy_dots.specs.Dots.{DotSet}

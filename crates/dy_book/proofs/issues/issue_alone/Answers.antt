@@ -1,5 +1,5 @@
 -- The steps are those of the share's node, and the copies are of the version.
-use Rattle.std.proofs.Common.{◌≡◌, ◌++◌, map, Some, sym, ap, ◌∙◌, subst}
+use Rattle.std.proofs.Common.{◌++◌, map, Some, ap, ◌∙◌, subst}
 use Rattle.dy_siblings.specs.declared.versions.Version.{Version}
 use Rattle.dy_core.specs.Worlds.{layout_of}
 use Rattle.dy_core.specs.Logs.{world_after}

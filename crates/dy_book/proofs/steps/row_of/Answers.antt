@@ -1,7 +1,6 @@
 -- The versions of the row's dots are the row's, so they are a sibling set.
-use Rattle.std.proofs.Common.{ℕ, List, sym, ap, ◌∙◌, subst}
-use Rattle.dy_siblings.specs.Siblings.{IsSiblingSet, Siblings}
-use Rattle.dy_siblings.specs.declared.versions.Version.{Version}
+use Rattle.std.proofs.Common.{sym, ◌∙◌, subst}
+use Rattle.dy_siblings.specs.Siblings.{IsSiblingSet}
 use Rattle.dy_book.specs.inside.Indexes.{made_in}
 use Rattle.dy_book.specs.inside.Lists.{AreCounted}
 use Rattle.dy_book.specs.inside.Readings.{AreOfDots}

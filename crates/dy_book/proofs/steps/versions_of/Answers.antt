@@ -1,4 +1,4 @@
-use Rattle.std.proofs.Common.{ℕ, List, Some, take, sym, ap, ◌∙◌, subst, ◌++◌}
+use Rattle.std.proofs.Common.{List, sym, ap, ◌∙◌, subst, ◌++◌}
 use Rattle.std.specs.Option.{option_copied}
 use Rattle.std.proofs.lemmas.List.{take_all}
 use Rattle.dy_siblings.specs.declared.versions.Version.{Version}

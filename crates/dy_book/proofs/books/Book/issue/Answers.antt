@@ -6,7 +6,6 @@ use Rattle.std.proofs.Common.{arith}
 use Rattle.std.proofs.lemmas.Grind.{common_steps}
 use Rattle.std.specs.BTreeMap.Entry.{map_with_value}
 use Rattle.dy_core.specs.Worlds.{layout_of}
-use Rattle.dy_siblings.specs.declared.versions.Version.{Version}
 use Rattle.dy_core.specs.Steps.{version_made}
 use Rattle.dy_core.specs.Logs.{world_after, IsLegal}
 use Rattle.dy_shares.specs.Shares.{Account, steps_of, untold}
