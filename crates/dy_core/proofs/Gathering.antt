@@ -1,11 +1,12 @@
 -- What is gathered from a list: all that pass the test give, each once, in order.
-use Rattle.std.proofs.Common.{◌≡◌, Bool, true, false, cond, ◌⊎◌, List, [], ◌∷◌, fold, refl, sym, ap, ◌∙◌, subst, inl, inr, ⊎_elim}
+use Rattle.std.proofs.Common.{◌≡◌, ◌+◌, ◌<◌, ℕ, Bool, true, false, cond, ◌⊎◌, List, [], ◌∷◌, length, get_or, take, fold, refl, sym, ap, ◌∙◌, subst, inl, inr, ⊎_elim}
 use Rattle.std.specs.declared.cmp.Ordering.{Ordering}
 use Rattle.std.specs.Cmp.{IsTotalOrder}
 use Rattle.std.specs.FinMap.{IsAntisymmetric}
 use Rattle.std.specs.List.{Contains}
 use Rattle.std.specs.List.Sorted.{IsStrictlySortedBy}
-use Rattle.std.proofs.lemmas.Bool.{cond_both, cond-true}
+use Rattle.std.proofs.lemmas.Bool.{cond_both, cond-true, cond-false}
+use Rattle.std.proofs.lemmas.List.Sums.{fold_more}
 use Rattle.dy_core.specs.Orders.{put, gathered}
 use Rattle.dy_siblings.proofs.Members.{not_in_nil, in_head, in_tail, in_cases}
 use Rattle.dy_core.proofs.Putting.{put_cases, put_has, put_keeps, put_sorted}
@@ -69,3 +70,29 @@ module _ {X Y : Type 0} (cmp : Y → Y → Ordering) (test : X → Bool) (of : X
 
   pub gathered_sorted : IsTotalOrder cmp → (xs : List X) → IsStrictlySortedBy cmp (gathered cmp test of xs)
   gathered_sorted total xs = in_order total xs [] (empty_sorted cmp)
+
+-- one item more, which passes, is put into its place
+pub gathered_passed : {X Y : Type 0} (cmp : Y → Y → Ordering) (test : X → Bool) (of : X → Y) (xs : List X) (i : ℕ) (x : X) → i < length xs →
+    x ≡ get_or xs i x → test x ≡ true → gathered cmp test of (take (i + 1) xs) ≡ put cmp (gathered cmp test of (take i xs)) (of x)
+gathered_passed {X} {Y} cmp test of xs i x within is passes =
+    fold_more step [] xs i x within
+    ∙ (ap (step before) (sym is) ∙ cond-true (test x) (put cmp before (of x)) before passes)
+  where
+    step : List Y → X → List Y
+    step ys y = cond (test y) (put cmp ys (of y)) ys
+
+    before : List Y
+    before = gathered cmp test of (take i xs)
+
+-- and one that does not is left out
+pub gathered_skipped : {X Y : Type 0} (cmp : Y → Y → Ordering) (test : X → Bool) (of : X → Y) (xs : List X) (i : ℕ) (x : X) → i < length xs →
+    x ≡ get_or xs i x → test x ≡ false → gathered cmp test of (take (i + 1) xs) ≡ gathered cmp test of (take i xs)
+gathered_skipped {X} {Y} cmp test of xs i x within is fails =
+    fold_more step [] xs i x within
+    ∙ (ap (step before) (sym is) ∙ cond-false (test x) (put cmp before (of x)) before fails)
+  where
+    step : List Y → X → List Y
+    step ys y = cond (test y) (put cmp ys (of y)) ys
+
+    before : List Y
+    before = gathered cmp test of (take i xs)

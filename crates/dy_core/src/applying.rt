@@ -1,4 +1,5 @@
-ghost use Rattle.std.specs.Prelude.{◌≡◌, ◌≤◌, ◌++◌, ◌∷◌, [], List, IfOk, OnOk, OnErr, IsOkUnless};
+ghost use Rattle.std.specs.Prelude.{◌≡◌, ◌<◌, ◌≤◌, ◌++◌, ◌∷◌, [], List, IfOk, OnOk, OnErr, IsOkUnless};
+ghost use Rattle.std.specs.Prelude.{vec_len, vec_capacity};
 ghost use Rattle.dy_siblings.specs.Siblings.{IsSameRow};
 ghost use Rattle.dy_core.specs.Worlds.{Layout, layout_of};
 ghost use Rattle.dy_core.specs.Steps.{IsAllowed, row_answered, key_of};
@@ -31,17 +32,55 @@ impl World {
         ensures err { OnErr result (self.new ≡ self.old) }
         ensures memory { IsOkUnless result Fault.OutOfMemory }
     {
-        self.steps.reserve(1)?;
-        let row = answer(alloc, self.held.as_slice(), &step)?;
-        perform(
+        match make(
             alloc,
             &mut self.versions,
             &mut self.held,
             &mut self.acked,
+            &mut self.steps,
             &step,
-        )?;
-        self.steps.push(step)?;
-        Ok(row)
+        ) {
+            Ok(row) => {
+                self.steps.push_reserved(step);
+                Ok(row)
+            }
+            Err(fault) => Err(fault),
+        }
+    }
+}
+
+// Makes the step in the lists of a world in which it is allowed, and has room for it behind the
+// steps; its row is what it answers.
+fn make(
+    alloc: Global,
+    versions: &mut Vec<Version>,
+    held: &mut Vec<Holding>,
+    acked: &mut Vec<Acked>,
+    steps: &mut Vec<Step>,
+    step: &Step,
+) -> Result<Row, Fault>
+    requires { (layout : Layout) × IsAfter layout steps.old.items versions.old.items held.old.items
+        acked.old.items × IsAllowed layout (world_after steps.old.items) step.now }
+    ensures log { OnOk result ((layout : Layout) →
+        IsAfter layout steps.old.items versions.old.items held.old.items acked.old.items →
+        IsAllowed layout (world_after steps.old.items) step.now →
+        IsAfter layout (steps.old.items ++ step.now ∷ []) versions.new.items held.new.items
+        acked.new.items) }
+    ensures row { IfOk result
+        (λ row. IsSameRow row.versions (row_answered (world_after steps.old.items) step.now)) }
+    ensures key { IfOk result (λ row. row.key ≡ key_of step.now) }
+    ensures steps_stay { steps.new.items ≡ steps.old.items }
+    ensures room { OnOk result (vec_len steps.new < vec_capacity steps.new) }
+    ensures versions_stay { OnErr result (versions.new.items ≡ versions.old.items) }
+    ensures held_stays { OnErr result (held.new.items ≡ held.old.items) }
+    ensures acked_stays { OnErr result (acked.new.items ≡ acked.old.items) }
+    ensures memory { IsOkUnless result Fault.OutOfMemory }
+{
+    steps.reserve(1)?;
+    let row = answer(alloc, held.as_slice(), step)?;
+    match perform(alloc, versions, held, acked, step) {
+        Ok(()) => Ok(row),
+        Err(fault) => Err(fault),
     }
 }
 
@@ -126,8 +165,22 @@ pub fn run_steps(alloc: Global, ring: Ring, n: u8, steps: &[Step]) -> Result<Wor
 {
     let mut world = World::new(alloc, ring, n)?;
     for step in steps {
-        let copy = step.try_clone(alloc)?;
-        let _answer = world.apply(alloc, copy)?;
+        match apply_copy(alloc, &mut world, step) {
+            Ok(()) => {}
+            Err(fault) => return Err(fault),
+        }
     }
     Ok(world)
+}
+
+// Makes a copy of the step, which must be allowed.
+fn apply_copy(alloc: Global, world: &mut World, step: &Step) -> Result<(), Fault>
+    requires { IsAllowed (layout_of world.old.ring world.old.n)
+        (world_after world.old.steps) step.now }
+    ensures log { OnOk result (world.new ≡ with_step world.old step.now) }
+    ensures memory { IsOkUnless result Fault.OutOfMemory }
+{
+    let copy = step.try_clone(alloc)?;
+    let _answer = world.apply(alloc, copy)?;
+    Ok(())
 }

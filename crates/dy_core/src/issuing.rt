@@ -6,6 +6,7 @@ ghost use Rattle.dy_dots.specs.declared.dots.TheConstants.{MAX_COUNTER};
 ghost use Rattle.dy_core.specs.Worlds.{is_issued};
 ghost use Rattle.dy_core.specs.inside.Meanings.{is_by, is_named, last_in, named_in};
 
+use crate::steps;
 use dy_dots::{Context, Dot, Fault, NodeId};
 use dy_siblings::{Key, Value, Version};
 use std::alloc::Global;
@@ -104,9 +105,6 @@ pub(crate) fn next_version(
     let counter = last_counter(versions, node, key) + 1;
     let dot = Dot::new(node, counter).unwrap();
     let past = past_of_context(alloc, versions, key, context)?;
-    let copy = match value {
-        Some(value) => Some(value.try_clone(alloc)?),
-        None => None,
-    };
+    let copy = steps::copy_of(alloc, value)?;
     Version::new(alloc, key.try_clone(alloc)?, dot, past, copy)
 }

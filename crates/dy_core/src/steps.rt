@@ -83,8 +83,8 @@ impl Step {
     }
 }
 
-// A copy of the value, where there is one.
-fn copy_of(alloc: Global, value: &Option<Value>) -> Result<Option<Value>, Fault>
+/// A copy of the value, where there is one.
+pub(crate) fn copy_of(alloc: Global, value: &Option<Value>) -> Result<Option<Value>, Fault>
     ensures ok { IfOk result (λ copy. copy ≡ value.now) }
     ensures memory { IsOkUnless result Fault.OutOfMemory }
 {

@@ -8,20 +8,14 @@ use Rattle.dy_core.specs.declared.steps.Step.{Step}
 use Rattle.dy_core.proofs.OverLogs.{legal_at}
 use Rattle.dy_core.proofs.applying.run_steps.Goals as goal
 
-pub apply-requires : goal.apply-requires
-apply-requires c =
+pub apply_copy-requires : goal.apply_copy-requires
+apply_copy-requires c =
     let layout = layout_of c.args.ring c.args.n in
     let i = c.loop-step.step-index in
     let steps = c.args.steps.now in
-    record {
-      allowed =
-          subst (λ (log : Log). IsAllowed (layout_of log.ring log.n) (world_after log.steps) c.in_ok-copy.copy)
-          (sym c.loop-step.invariant)
-          (subst (λ (s : Step). IsAllowed layout (world_after (take i steps)) s)
-          (sym c.in_ok-copy.ensures.ok)
-          (legal_at layout steps c.requires.legal i c.step-item.result c.loop-step-test.true
-          c.step-item.is));
-    }
+    subst (λ (log : Log). IsAllowed (layout_of log.ring log.n) (world_after log.steps) c.step-item.result)
+    (sym c.loop-step.invariant)
+    (legal_at layout steps c.requires.legal i c.step-item.result c.loop-step-test.true c.step-item.is)
 
 -- one step more is made
 pub loop-step-preserved : goal.loop-step-preserved
@@ -29,8 +23,8 @@ loop-step-preserved c =
     let i = c.loop-step.step-index in
     let steps = c.args.steps.now in
     let world_of : List Step → Log = λ ss. record { ring = c.args.ring; n = c.args.n; steps = ss } in
-    c.in_ok-_answer.ensures.log ∙ ap (λ w. with_step w c.in_ok-copy.copy) c.loop-step.invariant
-    ∙ ap world_of (ap (λ s. take i steps ++ s ∷ []) (c.in_ok-copy.ensures.ok ∙ c.step-item.is)
+    c.in-Ok.ensures.log ∙ ap (λ w. with_step w c.step-item.result) c.loop-step.invariant
+    ∙ ap world_of (ap (λ s. take i steps ++ s ∷ []) c.step-item.is
     ∙ sym (take_more steps i c.step-item.result c.loop-step-test.true))
 
 -- all are made

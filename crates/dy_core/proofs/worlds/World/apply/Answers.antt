@@ -6,31 +6,29 @@ use Rattle.dy_core.specs.Logs.{world_after}
 use Rattle.dy_core.specs.inside.Meanings.{IsAfter}
 use Rattle.dy_core.proofs.worlds.World.apply.Goals as goal
 
-pub perform-requires : goal.perform-requires
-perform-requires c =
+-- the step is allowed in the world that the lists mean
+pub make-requires : goal.make-requires
+make-requires c =
     let w = c.self.inside in (
       layout_of w.ring w.n,
-      w.steps.items,
       c.self.invariant.after,
       subst (λ log. IsAllowed (layout_of log.ring log.n) (world_after log.steps) c.args.step) (sym c.self.view_is) c.requires.allowed,
     )
 
-pub invariant_of-self-2 : goal.invariant_of-self-2
-invariant_of-self-2 c =
+-- the step is pushed behind the steps, which stayed
+pub invariant_of-self : goal.invariant_of-self
+invariant_of-self c =
     let w = c.self.inside in
-    let steps_are = c.in_ok-push.ensures.items ∙ ap (λ steps. steps ++ c.args.step ∷ []) c.in_ok-reserve.ensures.items in
+    let steps_are = c.push_reserved.ensures.items ∙ ap (λ steps. steps ++ c.args.step ∷ []) c.make.ensures.steps_stay in
     let allowed = subst (λ log. IsAllowed (layout_of log.ring log.n) (world_after log.steps) c.args.step) (sym c.self.view_is) c.requires.allowed in
     record {
       some = c.self.invariant.some;
       enough = c.self.invariant.enough;
       after =
-          subst (λ steps. IsAfter (layout_of w.ring w.n) steps c.perform.new.versions.items c.perform.new.held.items c.perform.new.acked.items)
-          (sym steps_are) (c.in_ok-perform.ensures.log _ _ c.self.invariant.after allowed);
+          subst (λ steps. IsAfter (layout_of w.ring w.n) steps c.make.new.versions.items c.make.new.held.items c.make.new.acked.items)
+          (sym steps_are) (c.in-Ok.ensures.log _ c.self.invariant.after allowed);
     }
 
-pub returns-clause-row : goal.returns-clause-row
-returns-clause-row c =
-    subst (λ log. IsSameRow c.in_ok-row.row.versions (row_answered (world_after log.steps) c.args.step)) c.self.view_is
-    (c.in_ok-row.ensures.row _ _ _ _
-    (subst (λ hs. IsAfter (layout_of c.self.inside.ring c.self.inside.n) c.self.inside.steps.items c.self.inside.versions.items hs c.self.inside.acked.items)
-    (sym c.as_slice.ensures.value) c.self.invariant.after))
+pub returns-in-Ok-clause-row : goal.returns-in-Ok-clause-row
+returns-in-Ok-clause-row c =
+    subst (λ log. IsSameRow c.in-Ok.row.versions (row_answered (world_after log.steps) c.args.step)) c.self.view_is c.in-Ok.ensures.row
