@@ -1,4 +1,5 @@
 ghost use Rattle.std.specs.Prelude.{◌≡◌, ◌≢◌, ℕ, ◌+◌, ◌<◌, ◌≤◌, ◌∷◌, ◌↔◌, Option, Some, None, []};
+ghost use Rattle.std.specs.Prelude.{vec_len, vec_capacity};
 ghost use Rattle.std.specs.Prelude.{map, length, IfOk, IfErr, OnOk, OnErr, IsErrOf, IsOkUnless};
 ghost use Rattle.std.specs.Prelude.{MatchBool, MatchOption};
 ghost use Rattle.std.specs.List.{All};
@@ -30,7 +31,7 @@ use crate::parts::{Roll, Share};
 use crate::receipts::Receipt;
 use crate::session_shares::{SessionShare, Spent};
 use crate::step_refs::StepRef;
-use crate::trails::keep_all;
+use crate::trails::write;
 use dy_core::{Acked, Place};
 use dy_dots::{Dot, Fault, NodeId};
 use dy_siblings::Key;
@@ -188,16 +189,17 @@ impl<J: Naming> Ledger<J> {
     {
         self.agree_session(share);
         self.chronicle.learn(&share.front);
-        share.spent.reserve(1)?;
-        share.numbers.acks.reserve(1)?;
-        let ack = Acked {
-            key: key.try_clone(self.alloc)?,
-            dot,
-            w,
+        let numbers = &mut share.numbers.acks;
+        let ack = match new_ack(self.alloc, &mut share.spent, numbers, key, dot, w) {
+            Ok(ack) => ack,
+            Err(fault) => return Err(fault),
         };
         let steps = [StepRef::ack(key, dot, w)];
         let session = share.number;
-        self.append(&mut share.share, Some(session), &steps, Some(ack))?;
+        match self.append(&mut share.share, Some(session), &steps, Some(ack)) {
+            Ok(()) => {}
+            Err(fault) => return Err(fault),
+        }
         share.spent.push_reserved(Spent::of(receipts));
         share.numbers.acks.push_reserved(self.steps);
         share.since = share.since.max(self.steps);
@@ -214,22 +216,25 @@ impl<J: Naming> Ledger<J> {
         ensures nodes { (node : ℕ) → NodeStays self.old.log self.new.log node }
         ensures sessions { (session : ℕ) → SessionStays self.old.log self.new.log session }
     {
-        let Some(count) = self.steps.checked_add(1) else {
-            return Err(Fault::OutOfMemory);
-        };
         let steps = [StepRef::fetch(place, key)];
         let batch = Batch {
             told: None,
             steps: &steps,
         };
-        let kept = self.trail.len();
-        keep_all(self.alloc, &mut self.trail, &steps)?;
-        if !self.chronicle.append(&batch) {
-            self.trail.truncate(kept);
-            return Err(Fault::OutOfMemory);
+        let before = self.steps;
+        match write(
+            self.alloc,
+            &mut self.trail,
+            &mut self.chronicle,
+            before,
+            &batch,
+        ) {
+            Ok(count) => {
+                self.steps = count;
+                Ok(())
+            }
+            Err(fault) => Err(fault),
         }
-        self.steps = count;
-        Ok(())
     }
 
     // Adds steps of one seat of the roll to the log, all or none, and to its share. The ack is the
@@ -254,17 +259,20 @@ impl<J: Naming> Ledger<J> {
         ensures belongs { IsPartOf J.ring.nodes (layout_of J.ring J.n) self.old share.old }
     {
         self.roll.compare(share);
-        let Some(total) = self.steps.checked_add(steps.len()) else {
-            return Err(Fault::OutOfMemory);
-        };
         self.acks.reserve(ack.is_some() as usize)?;
-        let kept = self.trail.len();
-        keep_all(self.alloc, &mut self.trail, steps)?;
-        if !self.chronicle.append(&Batch { told, steps }) {
-            self.trail.truncate(kept);
-            return Err(Fault::OutOfMemory);
-        }
-        let added = self.chronicle.added(self.steps);
+        let batch = Batch { told, steps };
+        let before = self.steps;
+        let total = match write(
+            self.alloc,
+            &mut self.trail,
+            &mut self.chronicle,
+            before,
+            &batch,
+        ) {
+            Ok(total) => total,
+            Err(fault) => return Err(fault),
+        };
+        let added = self.chronicle.added(before);
         self.roll.grow(share, &added);
         if let Some(ack) = ack {
             self.acks.push_reserved(ack);
@@ -347,4 +355,26 @@ impl<J: Naming> Ledger<J> {
         drop_nodes(nodes);
         drop_sessions(sessions);
     }
+}
+
+// The ack of these, with room for what was spent for it, and for its number.
+fn new_ack<J: Naming>(
+    alloc: Global,
+    spent: &mut Vec<Spent<J>>,
+    numbers: &mut Vec<usize>,
+    key: &Key,
+    dot: Dot,
+    w: u8,
+) -> Result<Acked, Fault>
+    ensures ok { IfOk result (λ ack. ack ≡ record { key = key.now; dot = dot; w = w }) }
+    ensures spent { spent.new.items ≡ spent.old.items }
+    ensures numbers { numbers.new.items ≡ numbers.old.items }
+    ensures spent_room { OnOk result (vec_len spent.new < vec_capacity spent.new) }
+    ensures numbers_room { OnOk result (vec_len numbers.new < vec_capacity numbers.new) }
+    ensures memory { IsOkUnless result Fault.OutOfMemory }
+{
+    spent.reserve(1)?;
+    numbers.reserve(1)?;
+    let key = key.try_clone(alloc)?;
+    Ok(Acked { key, dot, w })
 }

@@ -1,7 +1,4 @@
-use Rattle.std.proofs.Common.{◌++◌, [], ◌∷◌, sym, ap, ◌∙◌, subst}
-use Rattle.dy_siblings.specs.Siblings.{IsSameRow}
-use Rattle.dy_core.specs.Steps.{IsAllowed, row_answered}
-use Rattle.dy_core.specs.Logs.{world_after}
+use Rattle.std.proofs.Common.{sym, subst}
 use Rattle.dy_core.specs.inside.Meanings.{IsAfter}
 use Rattle.dy_core.proofs.applying.make.Goals as goal
 

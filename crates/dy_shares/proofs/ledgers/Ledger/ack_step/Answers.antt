@@ -33,9 +33,9 @@ invariant_of-share-2 g c =
     let old : SessionPart = record { session = s.number; acks = done_acks s.share.part; spent = s.spent.items; gets = s.gets.items } in
     let receipts = c.args.receipts.now.items in
     let same : c.learn.new.self ≡ c.args.self.now.log = search rules in
-    let index : c.append.new.share.index ≡ s.share.index = ap (λ (h : Held). h.index) c.in_ok-append.ensures.share in
+    let index : c.append.new.share.index ≡ s.share.index = ap (λ (h : Held). h.index) c.in-Ok-append.ensures.share in
     let part : c.append.new.share.part ≡ s.share.part ++ numbered at (step ∷ []) =
-    ap (λ (h : Held). h.part) c.in_ok-append.ensures.share
+    ap (λ (h : Held). h.part) c.in-Ok-append.ensures.share
     ∙ (ap (λ x. s.share.part ++ numbered (length c.learn.new.self + 1) (x ∷ [])) c.ack.ensures
     ∙ ap (λ l. s.share.part ++ numbered (length l + 1) (step ∷ [])) same) in
     let acks = acks_grown s.share.part c.append.new.share.part at step part in
@@ -76,7 +76,7 @@ returns-clause-share g c =
     let at : ℕ = length c.args.self.now.log + 1 in
     let same : c.learn.new.self ≡ c.args.self.now.log = search rules in
     let part : c.append.new.share.part ≡ s.share.part ++ numbered at (step ∷ []) =
-    ap (λ (h : Held). h.part) c.in_ok-append.ensures.share
+    ap (λ (h : Held). h.part) c.in-Ok-append.ensures.share
     ∙ (ap (λ x. s.share.part ++ numbered (length c.learn.new.self + 1) (x ∷ [])) c.ack.ensures
     ∙ ap (λ l. s.share.part ++ numbered (length l + 1) (step ∷ [])) same) in
     let receipts = c.args.receipts.now.items in

@@ -16,16 +16,9 @@ use Rattle.dy_shares.proofs.Accounts.{added_are, ledger_grown, seat_part, withou
 use Rattle.dy_shares.specs.inside.Agreeing.{IsOut}
 use Rattle.dy_shares.proofs.Returning.{numbered_out}
 use Rattle.dy_shares.proofs.ledgers.Ledger.append.Goals as goal
-use Rattle.dy_shares.proofs.ledgers.Ledger.append.Goals.{in-Some-ack, in_default-ack}
+use Rattle.dy_shares.proofs.ledgers.Ledger.append.Goals.{in-Some, in_default}
 
 -- the share agrees with its seat of the roll
-pub returns-in_default-clause-belongs : goal.returns-in_default-clause-belongs
-returns-in_default-clause-belongs g c =
-    let l = c.self.inside in
-    let layout = layout_of g.J.Naming.ring g.J.Naming.n in
-    subst (λ a. IsPartOf g.J.Naming.ring.nodes layout a c.args.share.now) c.self.view_is
-    (seat_part g.J.Naming.ring.nodes layout l.steps l.acks.items l.sessions l.chronicle l.roll c.self.invariant.1 c.args.share.now.index c.args.share.now.part c.compare.ensures.agree)
-
 pub returns-in_err-reserve-clause-belongs : goal.returns-in_err-reserve-clause-belongs
 returns-in_err-reserve-clause-belongs g c =
     let l = c.self.inside in
@@ -33,15 +26,8 @@ returns-in_err-reserve-clause-belongs g c =
     subst (λ a. IsPartOf g.J.Naming.ring.nodes layout a c.args.share.now) c.self.view_is
     (seat_part g.J.Naming.ring.nodes layout l.steps l.acks.items l.sessions l.chronicle l.roll c.self.invariant.1 c.args.share.now.index c.args.share.now.part c.compare.ensures.agree)
 
-pub returns-in_err-keep_all-clause-belongs : goal.returns-in_err-keep_all-clause-belongs
-returns-in_err-keep_all-clause-belongs g c =
-    let l = c.self.inside in
-    let layout = layout_of g.J.Naming.ring g.J.Naming.n in
-    subst (λ a. IsPartOf g.J.Naming.ring.nodes layout a c.args.share.now) c.self.view_is
-    (seat_part g.J.Naming.ring.nodes layout l.steps l.acks.items l.sessions l.chronicle l.roll c.self.invariant.1 c.args.share.now.index c.args.share.now.part c.compare.ensures.agree)
-
-pub returns-then-not-append-clause-belongs : goal.returns-then-not-append-clause-belongs
-returns-then-not-append-clause-belongs g c =
+pub returns-in-Err-clause-belongs : goal.returns-in-Err-clause-belongs
+returns-in-Err-clause-belongs g c =
     let l = c.self.inside in
     let layout = layout_of g.J.Naming.ring g.J.Naming.n in
     subst (λ a. IsPartOf g.J.Naming.ring.nodes layout a c.args.share.now) c.self.view_is
@@ -65,7 +51,7 @@ returns-clause-share g c =
     let ss = c.args.steps.now in
     let k = c.args.share.now.index in
     let own = c.args.share.now.part in
-    let told : c.append.new.self ≡ l.chronicle ++ entries_of c.args.told ss = search rules in
+    let told : c.write.new.chronicle ≡ l.chronicle ++ entries_of c.args.told ss = c.in-Ok.ensures.log in
     let same = c.compare.ensures.same.1 in
     let added : c.added-added.result ≡ numbered (length l.chronicle + 1) ss =
     c.added-added.ensures
@@ -90,7 +76,7 @@ invariant_of-self-2 g c =
     let within_now = subst (λ a. k < nodes + a.sessions) c.self.view_is within in
     let owned = subst (λ a. AreOwned nodes a.sessions es) (sym c.self.view_is) (c.requires.owned within_now) in
     let allowed = subst (λ a. IsLegalFrom layout (world_after (steps_of a.log)) ss) (sym c.self.view_is) c.requires.allowed in
-    let told : c.append.new.self ≡ l.chronicle ++ es = search rules in
+    let told : c.write.new.chronicle ≡ l.chronicle ++ es = c.in-Ok.ensures.log in
     let same = c.compare.ensures.same.1 in
     let added : c.added-added.result ≡ numbered (length l.chronicle + 1) ss =
     c.added-added.ensures
@@ -98,23 +84,23 @@ invariant_of-self-2 g c =
     ∙ added_are l.chronicle c.args.told ss l.steps i.1.counted) in
     let roll : c.grow.new.self ≡ slice_set l.roll k (own ++ numbered (length l.chronicle + 1) ss) =
     c.grow.ensures.roll ∙ (λ j. slice_set (c.compare.ensures.same.0 j) (same j).index ((same j).part ++ added j)) in
-    let count : c.in-Some.total ≡ l.steps + length ss = search rules in
-    let more = c.in_ok-keep_all.ensures.ok in
-    let kept = subst (λ (xs : List Entry). AreKept c.keep_all.new.trail.items (steps_of xs)) (sym told)
-    (kept_grown l.trail.items more.0 c.keep_all.new.trail.items l.chronicle c.args.told ss more.1 i.0.1 more.2) in
-    let grown : (new : List Acked) → l.acks.items ++ acks_of ss ≡ new → IsLedger nodes layout c.in-Some.total new l.sessions c.append.new.self c.grow.new.self = λ new acked.
-    subst (λ n. IsLedger nodes layout n new l.sessions c.append.new.self c.grow.new.self) (sym count)
+    let count : c.in-Ok.total ≡ l.steps + length ss = c.in-Ok.ensures.count in
+    let more = c.in-Ok.ensures.kept in
+    let kept = subst (λ (xs : List Entry). AreKept c.write.new.trail.items (steps_of xs)) (sym told)
+    (kept_grown l.trail.items more.0 c.write.new.trail.items l.chronicle c.args.told ss more.1 i.0.1 more.2) in
+    let grown : (new : List Acked) → l.acks.items ++ acks_of ss ≡ new → IsLedger nodes layout c.in-Ok.total new l.sessions c.write.new.chronicle c.grow.new.self = λ new acked.
+    subst (λ n. IsLedger nodes layout n new l.sessions c.write.new.chronicle c.grow.new.self) (sym count)
     (subst (λ (es : List Entry). IsLedger nodes layout (l.steps + length ss) new l.sessions es c.grow.new.self) (sym told)
     (subst (λ (parts : List (List Done)). IsLedger nodes layout (l.steps + length ss) new l.sessions (l.chronicle ++ es) parts) (sym roll)
     (ledger_grown nodes layout l.steps l.acks.items l.sessions l.chronicle l.roll i.1 c.args.told ss new k own acked c.compare.ensures.agree c.requires.seat owned allowed))) in
-    elim c.match-ack-9.branch [
-      | in-Some-ack w ↦
-          let one : acks_of ss ≡ w.in-Some-ack.ack ∷ [] = subst (λ o. MatchOption o (acks_of ss ≡ []) (λ a. acks_of ss ≡ a ∷ [])) w.in-Some-ack.is c.requires.ack in
-          let pushed : w.push_reserved.new.self.items ≡ l.acks.items ++ w.in-Some-ack.ack ∷ [] = search rules in
-          subst (λ s. ((s.nodes ≡ nodes) × AreKept s.trail.items (steps_of s.chronicle)) × IsLedger nodes layout c.in-Some.total s.acks.items s.sessions s.chronicle s.roll) (sym w.self-inside-is)
+    elim c.match-ack-5.branch [
+      | in-Some w ↦
+          let one : acks_of ss ≡ w.in-Some.ack ∷ [] = subst (λ o. MatchOption o (acks_of ss ≡ []) (λ a. acks_of ss ≡ a ∷ [])) w.in-Some.is c.requires.ack in
+          let pushed : w.push_reserved.new.self.items ≡ l.acks.items ++ w.in-Some.ack ∷ [] = search rules in
+          subst (λ s. ((s.nodes ≡ nodes) × AreKept s.trail.items (steps_of s.chronicle)) × IsLedger nodes layout c.in-Ok.total s.acks.items s.sessions s.chronicle s.roll) (sym w.self-inside-is)
           ((i.0.0, kept), grown w.push_reserved.new.self.items (ap (λ xs. l.acks.items ++ xs) one ∙ sym pushed))
-      | in_default-ack w ↦
-          let none = without_ack c.args.ack (acks_of ss) c.requires.ack w.in_default-ack.not-Some in
-          subst (λ s. ((s.nodes ≡ nodes) × AreKept s.trail.items (steps_of s.chronicle)) × IsLedger nodes layout c.in-Some.total s.acks.items s.sessions s.chronicle s.roll) (sym w.self-inside-is)
+      | in_default w ↦
+          let none = without_ack c.args.ack (acks_of ss) c.requires.ack w.in_default.not-Some in
+          subst (λ s. ((s.nodes ≡ nodes) × AreKept s.trail.items (steps_of s.chronicle)) × IsLedger nodes layout c.in-Ok.total s.acks.items s.sessions s.chronicle s.roll) (sym w.self-inside-is)
           ((i.0.0, kept), grown c.reserve.new.self.items (ap (λ xs. l.acks.items ++ xs) none ∙ (append-nil l.acks.items ∙ sym c.reserve.ensures.items)))
     ]
