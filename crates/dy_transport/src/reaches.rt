@@ -1,5 +1,6 @@
 ghost use Rattle.std.specs.Prelude.{◌≡◌, true, IsTrue, IfOk, IfErr, IfSome, IsOkUnless};
 ghost use Rattle.std.specs.List.{All};
+ghost use Rattle.std.specs.Sync.Mutex.{mutex_guard_value};
 ghost use Rattle.dy_preference.specs.Preferences.{homes_of, may_hold};
 ghost use Rattle.dy_core.specs.Worlds.{layout_of};
 ghost use Rattle.dy_node.specs.Answers.{AnsweredBy, MayAsk};
@@ -14,7 +15,7 @@ use dy_node::{Answer, Ask, Begun, Node, RowFor, answer};
 use dy_shares::{Naming, Receipt, Seen, Since};
 use dy_siblings::{Key, Value};
 use std::alloc::Global;
-use std::sync::{Mutex, Wait};
+use std::sync::{Mutex, MutexGuard, Wait};
 
 /// What a transport reaches on the caller's own thread: the nodes, in the order of their numbers,
 /// and the book. Each call locks the node, then the book, and never two nodes.
@@ -105,6 +106,18 @@ impl<'a, J: Naming> Reach<'a, J> {
         Reach { alloc, nodes, book }
     }
 
+    // The node of this number, locked. None if another one lies at the place of its number.
+    fn lock_node<R: Wait>(&self, rt: &R, node: NodeId) -> Option<MutexGuard<'_, Node<J>>>
+        ensures { IfSome result (λ held. (mutex_guard_value held).part.node ≡ node) }
+    {
+        let place = self.nodes.get(usize::from(node.number()))?;
+        let held = place.lock(rt);
+        if held.number() != node {
+            return None;
+        }
+        Some(held)
+    }
+
     // Begins a put, under the node's lock and the book's.
     pub(crate) fn begin_at<R: Wait>(
         &self,
@@ -120,14 +133,10 @@ impl<'a, J: Naming> Reach<'a, J> {
             IsBegun (layout_of J.ring J.n) node home key.now context.now value.now b) }
         ensures refused { IfErr result IsOfBegin }
     {
-        let Some(place) = self.nodes.get(usize::from(node.number())) else {
+        let copy = copied(self.alloc, value)?;
+        let Some(mut held) = self.lock_node(rt, node) else {
             return Err(Fault::Down);
         };
-        let copy = copied(self.alloc, value)?;
-        let mut held = place.lock(rt);
-        if held.number() != node {
-            return Err(Fault::Down);
-        }
         let mut open = self.book.lock(rt);
         begin_by(&mut held, &mut open, node, home, key, context, copy)
     }
@@ -144,13 +153,9 @@ impl<'a, J: Naming> Reach<'a, J> {
         ensures seen { IfOk result (λ s. IsSeenAt node home key.now since.now s) }
         ensures refused { IfErr result IsOfNode }
     {
-        let Some(place) = self.nodes.get(usize::from(node.number())) else {
+        let Some(mut held) = self.lock_node(rt, node) else {
             return Err(Fault::Down);
         };
-        let mut held = place.lock(rt);
-        if held.number() != node {
-            return Err(Fault::Down);
-        }
         let mut open = self.book.lock(rt);
         held.fetch(&mut open, home, key, since)
     }
@@ -161,13 +166,9 @@ impl<'a, J: Naming> Reach<'a, J> {
         ensures for_others { IfOk result (λ hints. AreForOthers node hints.items) }
         ensures refused { IfErr result IsOfOffer }
     {
-        let Some(place) = self.nodes.get(usize::from(node.number())) else {
+        let Some(mut held) = self.lock_node(rt, node) else {
             return Err(Fault::Down);
         };
-        let mut held = place.lock(rt);
-        if held.number() != node {
-            return Err(Fault::Down);
-        }
         let mut open = self.book.lock(rt);
         offer_by(&mut held, &mut open, node)
     }
@@ -182,13 +183,9 @@ impl<'a, J: Naming> Reach<'a, J> {
         requires { All (λ r. r.holder ≡ r.home) receipts.now }
         ensures { IfErr result IsOfNode }
     {
-        let Some(place) = self.nodes.get(usize::from(node.number())) else {
+        let Some(mut held) = self.lock_node(rt, node) else {
             return Err(Fault::Down);
         };
-        let mut held = place.lock(rt);
-        if held.number() != node {
-            return Err(Fault::Down);
-        }
         let mut open = self.book.lock(rt);
         held.settle(&mut open, receipts)
     }
@@ -205,13 +202,9 @@ impl<'a, J: Naming> Reach<'a, J> {
         ensures second { IfSome result.1 (λ second. IsAnswerTo to ask.now second) }
         ensures awaited { IfSome result.1 (λ _. result.0 ≡ NoAnswer) }
     {
-        let Some(place) = self.nodes.get(usize::from(to.number())) else {
+        let Some(mut held) = self.lock_node(rt, to) else {
             return (Answer::NoAnswer, None);
         };
-        let mut held = place.lock(rt);
-        if held.number() != to {
-            return (Answer::NoAnswer, None);
-        }
         let mut open = self.book.lock(rt);
         answer_by(&mut held, &mut open, to, ask)
     }
