@@ -1,4 +1,6 @@
-ghost use Rattle.std.specs.Prelude.{◌≡◌, ◌<◌, IsOkUnless};
+ghost use Rattle.std.specs.Prelude.{◌≡◌, ◌<◌, ◌+◌, true, false, IfOk, IsOkUnless};
+ghost use Rattle.crossbeam_channel.specs.Claims.{view};
+ghost use Rattle.crossbeam_channel.specs.Ends.{receives_on, ruled_capacity, sends_on};
 
 use crate::ends::{Receiver, Sender, channel};
 use crossbeam_utils::sync::Unparker;
@@ -8,13 +10,15 @@ use std::sync::Wait;
 
 /// An end of a mailbox that sends, with what wakes who receives.
 pub struct Outbox<T: Drop> {
-    end: Sender<T>,
+    pub end: Sender<T>,
     worker: Unparker,
 }
 
 /// A mailbox with room for so many messages, whose sends take no memory: its two ends.
 pub fn mailbox<T: Drop>(alloc: Global, room: usize) -> Result<(Outbox<T>, Receiver<T>), Fault>
     requires { 0 < room }
+    ensures room { IfOk result (λ ends. ruled_capacity (sends_on ends.0.end.end) ≡ room) }
+    ensures one { IfOk result (λ ends. receives_on ends.1.end ≡ sends_on ends.0.end.end) }
     ensures memory { IsOkUnless result Fault.OutOfMemory }
 {
     let (end, receiver, worker) = channel(alloc, room)?;
@@ -42,7 +46,10 @@ impl<T: Drop> Outbox<T> {
 
     /// Sends, and says whether an end receives. May wait while the mailbox is full. Takes no
     /// memory.
-    pub fn send<R: Wait>(&mut self, rt: &R, message: T) -> bool {
+    pub fn send<R: Wait>(&mut self, rt: &R, message: T) -> bool
+        ensures sent { result ≡ true → view self.new.end.pass ≡ view self.old.end.pass + 1 }
+        ensures lost { result ≡ false → view self.new.end.pass ≡ view self.old.end.pass }
+    {
         let is_sent = self.end.send(rt, message);
         self.worker.unpark();
         is_sent

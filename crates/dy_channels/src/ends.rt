@@ -1,37 +1,28 @@
-ghost use Rattle.std.specs.Prelude.{◌≡◌, ◌<◌, IfOk, IsOkUnless};
-ghost use Rattle.crossbeam_channel.specs.Claims.{IsSeatAt};
+ghost use Rattle.std.specs.Prelude.{◌≡◌, ◌<◌, ◌+◌, true, false, IfNone, IfOk, IfSome, IsOkUnless};
+ghost use Rattle.crossbeam_channel.specs.Claims.{IsSeatAt, view};
 ghost use Rattle.crossbeam_channel.specs.Ends.{receives_on, ruled_capacity, sends_on};
 
-use crossbeam_channel::protocol::{Free, Split};
+use crate::rules::{Apart, Counted};
 use crossbeam_channel::{Pass, RuledReceiver, RuledSender, TryRecvError, bounded_with};
 use crossbeam_utils::sync::{Parker, Unparker};
 use dy_dots::Fault;
 use std::alloc::Global;
 use std::sync::Wait;
 
-/// Makes two passes of one that knows nothing.
-pub struct Alike;
-
-impl Split<()> for Alike {
-    ghost left = { λ v. v };
-
-    ghost right = { λ v. v };
-}
-
-/// An end of a channel that sends, and a pass for one who does.
+/// An end of a channel that sends, and a pass for one who does, which counts what it sent.
 #[derive(Drop)]
 pub struct Sender<T: Drop> {
-    pub end: RuledSender<T, (), Free>,
-    pub pass: Pass<T, ()>,
+    pub end: RuledSender<T, u64, Counted>,
+    pub pass: Pass<T, u64>,
     pub ghost here: { IsSeatAt (sends_on end) pass },
 }
 
-/// The end of a channel that receives. It sleeps as soon as nothing lies there, where the kit's
-/// looks for a while: who receives waits more often than not.
+/// The end of a channel that receives, and its pass, which counts what came. It sleeps as soon as
+/// nothing lies there, where the kit's looks for a while: who receives waits more often than not.
 #[derive(Drop)]
 pub struct Receiver<T: Drop> {
-    end: RuledReceiver<T, (), Free>,
-    pass: Pass<T, ()>,
+    pub end: RuledReceiver<T, u64, Counted>,
+    pub pass: Pass<T, u64>,
     parker: Parker,
     ghost here: { IsSeatAt (receives_on end) pass },
 }
@@ -44,10 +35,11 @@ pub fn channel<T: Drop>(
 ) -> Result<(Sender<T>, Receiver<T>, Unparker), Fault>
     requires { 0 < room }
     ensures room { IfOk result (λ ends. ruled_capacity (sends_on ends.0.end) ≡ room) }
+    ensures one { IfOk result (λ ends. receives_on ends.1.end ≡ sends_on ends.0.end) }
     ensures memory { IsOkUnless result Fault.OutOfMemory }
 {
-    let (sender, receiver, mut first) = bounded_with::<T, (), Free, Global>(alloc, room)?;
-    let second = sender.another::<Alike>(&mut first);
+    let (sender, receiver, mut first) = bounded_with::<T, u64, Counted, Global>(alloc, room)?;
+    let second = sender.another::<Apart>(&mut first);
     let parker = Parker::new(alloc)?;
     let waker = parker.unparker().clone()?;
     let sending = Sender {
@@ -68,25 +60,30 @@ impl<T: Drop> Sender<T> {
         ensures memory { IsOkUnless result Fault.OutOfMemory }
     {
         let end = self.end.try_clone()?;
-        let pass = self.end.another::<Alike>(&mut self.pass);
+        let pass = self.end.another::<Apart>(&mut self.pass);
         Ok(Sender { end, pass })
     }
 
     /// Sends, and says whether an end receives. May wait while the channel is full. Takes no
     /// memory.
-    pub fn send<R: Wait>(&mut self, rt: &R, message: T) -> bool {
-        self.end
-            .send_as::<Free, R>(rt, &mut self.pass, message)
-            .is_ok()
+    pub fn send<R: Wait>(&mut self, rt: &R, message: T) -> bool
+        ensures sent { result ≡ true → view self.new.pass ≡ view self.old.pass + 1 }
+        ensures lost { result ≡ false → view self.new.pass ≡ view self.old.pass }
+    {
+        let sent = self.end.send_as::<Counted, R>(rt, &mut self.pass, message);
+        sent.is_ok()
     }
 }
 
 impl<T: Drop> Receiver<T> {
     /// The next message; none where nothing lies there and no end sends. May wait for one. Takes no
     /// memory.
-    pub fn receive<R: Wait>(&mut self, rt: &R) -> Option<T> {
+    pub fn receive<R: Wait>(&mut self, rt: &R) -> Option<T>
+        ensures some { IfSome result (λ _. view self.new.pass ≡ view self.old.pass + 1) }
+        ensures none { IfNone result (view self.new.pass ≡ view self.old.pass) }
+    {
         for _ in rt.forever() {
-            match self.end.try_recv_as::<Free, R>(rt, &mut self.pass) {
+            match self.end.try_recv_as::<Counted, R>(rt, &mut self.pass) {
                 Ok(message) => return Some(message),
                 Err(TryRecvError::Disconnected) => return None,
                 Err(TryRecvError::Empty) => self.parker.park(rt),
@@ -96,8 +93,12 @@ impl<T: Drop> Receiver<T> {
     }
 
     /// The next message, where one lies there. Takes no memory.
-    pub fn take<R: Wait>(&mut self, rt: &R) -> Option<T> {
-        self.end.try_recv_as::<Free, R>(rt, &mut self.pass).ok()
+    pub fn take<R: Wait>(&mut self, rt: &R) -> Option<T>
+        ensures some { IfSome result (λ _. view self.new.pass ≡ view self.old.pass + 1) }
+        ensures none { IfNone result (view self.new.pass ≡ view self.old.pass) }
+    {
+        let came = self.end.try_recv_as::<Counted, R>(rt, &mut self.pass);
+        came.ok()
     }
 
     /// Takes out what lies there. Takes no memory.

@@ -3,6 +3,8 @@
 
 mod boxes;
 mod ends;
+mod rules;
 
 pub use boxes::{Outbox, mailbox};
-pub use ends::{Alike, Receiver, Sender, channel};
+pub use ends::{Receiver, Sender, channel};
+pub use rules::{Apart, Counted};

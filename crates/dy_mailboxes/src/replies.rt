@@ -6,10 +6,9 @@ ghost use Rattle.crossbeam_channel.specs.Ends.{ruled_capacity, sends_on};
 ghost use Rattle.dy_mailboxes.specs.inside.Calls.{first_call, next_call, with_ask};
 
 use crate::parcels::Answered;
-use crossbeam_channel::protocol::Free;
 use crossbeam_channel::{Pass, RuledSender};
 use crossbeam_utils::sync::Unparker;
-use dy_channels::{Alike, Receiver, Sender, channel};
+use dy_channels::{Apart, Counted, Receiver, Sender, channel};
 use dy_dots::Fault;
 use dy_node::Answer;
 use dy_shares::Naming;
@@ -22,7 +21,7 @@ use std::sync::{Arc, Wait};
 // its present call, how many asks of it are still to be answered, and what wakes it.
 #[derive(Drop)]
 struct Line<J: Naming> {
-    end: RuledSender<Answered<J>, (), Free>,
+    end: RuledSender<Answered<J>, u64, Counted>,
     present: AtomicU64,
     awaited: AtomicI64,
     client: Unparker,
@@ -33,7 +32,7 @@ struct Line<J: Naming> {
 #[derive(Drop)]
 pub struct Replies<J: Naming> {
     line: Arc<Line<J>>,
-    pass: Pass<Answered<J>, ()>,
+    pass: Pass<Answered<J>, u64>,
     answers: Receiver<Answered<J>>,
     call: u64,
     posted: usize,
@@ -59,7 +58,7 @@ impl<J: Naming> Model for Replies<J> {
 #[derive(Drop)]
 pub struct ReplyTo<J: Naming> {
     line: Arc<Line<J>>,
-    pass: Pass<Answered<J>, ()>,
+    pass: Pass<Answered<J>, u64>,
     pub call: u64,
     pub number: usize,
     ghost here: { IsSeatAt (sends_on (arc_value line).end) pass },
@@ -134,7 +133,7 @@ impl<J: Naming> Replies<J> {
         ensures memory { IsOkUnless result Fault.OutOfMemory }
     {
         let line = Arc::try_clone(&self.line)?;
-        let pass = line.end.another::<Alike>(&mut self.pass);
+        let pass = line.end.another::<Apart>(&mut self.pass);
         self.posted += 1;
         Ok(ReplyTo {
             line,
@@ -196,7 +195,7 @@ impl<J: Naming> ReplyTo<J> {
         let _is_sent = self
             .line
             .end
-            .try_send_as::<Free, R>(rt, &mut self.pass, answered)
+            .try_send_as::<Counted, R>(rt, &mut self.pass, answered)
             .is_ok();
         // It is sent before it is counted: so whoever counts the last one finds all of them sent.
         let is_all = is_last && self.line.awaited.fetch_sub(1, Ordering::SeqCst) <= 1;
