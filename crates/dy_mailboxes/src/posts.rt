@@ -80,8 +80,8 @@ impl<J: Naming> Post<J> {
         let mut inboxes = Vec::with_capacity(alloc, usize::from(nodes))?;
         for node in 0..nodes {
             let (outbox, asks) = mailbox(alloc, MAILBOX_ROOM)?;
-            boxes.push(outbox)?;
-            inboxes.push(Inbox { node, asks })?;
+            boxes.push_reserved(outbox);
+            inboxes.push_reserved(Inbox { node, asks });
         }
         Ok((Post { alloc, boxes }, inboxes))
     }

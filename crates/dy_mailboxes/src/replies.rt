@@ -64,6 +64,24 @@ pub struct ReplyTo<J: Naming> {
     ghost here: { IsSeatAt (sends_on (arc_value line).end) pass },
 }
 
+// What is shared of a client's channel before its first call.
+fn line_of<J: Naming>(
+    alloc: Global,
+    end: RuledSender<Answered<J>, u64, Counted>,
+    client: Unparker,
+) -> Result<Arc<Line<J>>, Fault>
+    ensures ok { IfOk result (λ line. (arc_value line).end ≡ end) }
+    ensures memory { IsOkUnless result Fault.OutOfMemory }
+{
+    let line = Line {
+        end,
+        present: AtomicU64::new(0),
+        awaited: AtomicI64::new(0),
+        client,
+    };
+    Ok(Arc::new(alloc, line)?)
+}
+
 // Whether the client may have to act once it has this answer, whatever else is to come: a get may
 // have enough rows, and what was not done may call for a stand-in. Who asks nodes to store reads
 // every answer.
@@ -99,15 +117,7 @@ impl<J: Naming> Replies<J> {
     {
         let (sender, answers, client) = channel(alloc, 2 * (asks + workers))?;
         let Sender { end, pass } = sender;
-        let line = Arc::new(
-            alloc,
-            Line {
-                end,
-                present: AtomicU64::new(0),
-                awaited: AtomicI64::new(0),
-                client,
-            },
-        )?;
+        let line = line_of(alloc, end, client)?;
         Ok(Replies {
             line,
             pass,
@@ -173,8 +183,7 @@ impl<J: Naming> Replies<J> {
     {
         self.call += 1;
         self.posted = 0;
-        // The number first: so of each worker no more comes too late than what it had compared
-        // before.
+        // The number first: so each worker brings no more too late than it had compared before.
         self.line.present.store(self.call, Ordering::SeqCst);
         self.line.awaited.store(0, Ordering::SeqCst);
         self.answers.drain(rt);
@@ -182,10 +191,9 @@ impl<J: Naming> Replies<J> {
 }
 
 impl<J: Naming> ReplyTo<J> {
-    // Sends an answer to the call of that number, which is the client's present one, and wakes the
-    // client where it has to act. The channel has room for two answers to each ask of a call and
-    // for two of each worker that comes late, so it is never full; and under a rule it says so only
-    // where it is.
+    // Sends an answer to the client's present call, and wakes the client where it has to act. The
+    // channel has room for two answers to each ask of a call and for two of each worker that comes
+    // late. So it is never full, and under a rule it says so only where it is.
     fn send_present<R: Wait>(&mut self, rt: &R, present: u64, answered: Answered<J>)
         requires { answered.call ≡ present }
     {

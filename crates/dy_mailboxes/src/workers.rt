@@ -79,16 +79,9 @@ fn with_more<J: Naming, G: Gate, R: Wait>(
     gate: &G,
 ) -> [Option<Posted<J>>; ROUND] {
     gate.pass(second.to, &second.parcel.ask());
-    let mut asks = [
-        Some(first),
-        Some(second),
-        None,
-        None,
-        None,
-        None,
-        None,
-        None,
-    ];
+    let mut asks = [None, None, None, None, None, None, None, None];
+    asks[0] = Some(first);
+    asks[1] = Some(second);
     for place in 2..ROUND {
         let Some(posted) = inbox.take(rt) else {
             break;
