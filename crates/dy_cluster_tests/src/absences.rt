@@ -1,45 +1,14 @@
 // A cluster that is closed without one of its sessions, goes on, and is closed with all of them.
 ghost use Rattle.dy_cluster.specs.Named.{NamesBook};
 
+use crate::alone::call_alone;
 use crate::rings::{five_nodes, options};
-use dy_cluster::{
-    Closed, Cluster, ClusterRefused, Context, Fault, Key, Naming, Opened, Resting, Session, Value,
-};
+use crate::scenes::Put;
+use dy_cluster::{Closed, Cluster, ClusterRefused, Fault, Naming, Opened, Resting, Session};
 use std::alloc::Global;
 use std::marker::Brand;
 use std::sync::Wait;
 use std::test::Fail;
-
-// A put of the key `a`.
-fn put<J: Naming, R: Wait>(
-    rt: &R,
-    alloc: Global,
-    cluster: &Cluster<J>,
-    session: &mut Session<J>,
-) -> Result<(), Fault> {
-    let key = Key::new(alloc, b"a")?;
-    let value = Value::new(alloc, b"x".as_slice())?;
-    let context = Context::new(alloc);
-    let mut direct = cluster.direct()?;
-    match cluster.put(rt, &mut direct, 2, session, &key, &context, Some(value)) {
-        Ok(_done) => Ok(()),
-        Err(refused) => Err(refused.fault),
-    }
-}
-
-// Seats a session, and puts by it.
-fn seat_and_put<J: Naming, R: Wait>(
-    rt: &R,
-    alloc: Global,
-    cluster: &Cluster<J>,
-    sessions: &mut Vec<Session<J>>,
-) -> Result<(), Fault> {
-    let place = cluster.seat(rt, sessions)?;
-    match sessions.get_mut(place) {
-        Some(session) => put(rt, alloc, cluster, session),
-        None => Err(Fault::NoNode),
-    }
-}
 
 // Wakes the cluster, puts by another session, and closes it with all.
 fn go_on<J: Naming, R: Wait>(
@@ -49,12 +18,10 @@ fn go_on<J: Naming, R: Wait>(
     mut sessions: Vec<Session<J>>,
 ) -> Result<Closed, Fault> {
     let cluster = Cluster::wake(resting);
-    let put = seat_and_put(rt, alloc, &cluster, &mut sessions);
+    // A put that is refused is missing in the audit.
+    let _put = call_alone(rt, alloc, &cluster, &Put::new(2), &mut sessions);
     match cluster.close(sessions) {
-        Ok(closed) => {
-            put?;
-            Ok(closed)
-        }
+        Ok(closed) => Ok(closed),
         Err(refused) => Err(refused.abandon()),
     }
 }
@@ -92,8 +59,7 @@ fn play<J: Naming, R: Wait>(rt: &R, alloc: Global, opened: Opened) -> Result<Clo
 {
     let cluster = Cluster::<J>::open(alloc, opened)?;
     let mut sessions = Vec::new(alloc);
-    // A put that is refused is missing in the audit.
-    let _put = seat_and_put(rt, alloc, &cluster, &mut sessions);
+    let _put = call_alone(rt, alloc, &cluster, &Put::new(2), &mut sessions);
     close_twice(rt, alloc, cluster.rest(), sessions)
 }
 

@@ -1,17 +1,16 @@
 // Answers that cross the beginning of their client's next call.
-use crate::calls::{get_key, put_value};
+use crate::calls::Calls;
 use crate::rings::with_five_workers;
+use crate::scenes::Scene;
 use crate::signals::LOOKS;
-use dy_cluster::{
-    Ask, Client, Connection, Context, Fault, Gate, GetDone, Key, Naming, NodeId, Transport, Value,
-};
+use dy_cluster::Fault;
 use std::alloc::Global;
 use std::sync::Wait;
 use std::sync::atomic::{AtomicBool, AtomicU64, Ordering};
 use std::test::Fail;
 
-// The keys are the first five letters, and each has its letter as its value.
-const KEYS: u8 = 5;
+// Each key has its letter as its value.
+const KEYS: [u8; 5] = [b'a', b'b', b'c', b'd', b'e'];
 
 // How often all keys are got.
 const ROUNDS: u64 = 400;
@@ -37,113 +36,59 @@ impl Crossing {
             }
         }
     }
-}
 
-impl Gate for Crossing {
-    fn pass<J: Naming>(&self, node: NodeId, ask: &Ask<'_, J>) {
-        if node.number() == 1 && matches!(ask, Ask::Fetch { .. }) {
-            self.wait();
-        }
-    }
-}
-
-// The name of the key of this number.
-fn name_of(number: u8) -> [u8; 1] {
-    [b'a' + number % KEYS]
-}
-
-// Puts the key of this number.
-fn put_letter<J: Naming, T: Transport<J>, R: Wait>(
-    rt: &R,
-    alloc: Global,
-    connection: &mut Connection<'_, J, T>,
-    number: u8,
-) -> Result<(), Fault> {
-    let key = Key::new(alloc, &name_of(number))?;
-    let value = Value::new(alloc, name_of(number).as_slice())?;
-    put_value(rt, connection, 2, &key, &Context::new(alloc), value)?;
-    Ok(())
-}
-
-// Puts each key.
-fn put_all<J: Naming, T: Transport<J>, R: Wait>(
-    rt: &R,
-    alloc: Global,
-    connection: &mut Connection<'_, J, T>,
-) -> Result<(), Fault> {
-    for number in 0..KEYS {
-        put_letter(rt, alloc, connection, number)?;
-    }
-    Ok(())
-}
-
-// Whether two homes answered, and gave the letter alone.
-fn has_letter<J: Naming>(alloc: Global, done: &GetDone<J>, number: u8) -> Result<bool, Fault> {
-    let values = done.values(alloc)?;
-    let name = name_of(number);
-    Ok(
-        done.from.len() == 2
-            && values.len() == 1
-            && values
-                .iter()
-                .all(|(_dot, value)| value.as_bytes() == name.as_slice()),
-    )
-}
-
-// A get of the key of this number, and whether it gave what was put.
-fn is_right<J: Naming, T: Transport<J>, R: Wait>(
-    rt: &R,
-    alloc: Global,
-    connection: &mut Connection<'_, J, T>,
-    number: u8,
-) -> Result<bool, Fault> {
-    let key = Key::new(alloc, &name_of(number))?;
-    let done = get_key(rt, connection, &key)?;
-    has_letter(alloc, &done, number)
-}
-
-impl Crossing {
-    // Gets each key, and counts the right answers.
-    fn get_all<J: Naming, T: Transport<J>, R: Wait>(
+    // Gets the letter, and counts whether two homes answered and gave the letter alone.
+    fn get<C: Calls, R: Wait>(
         &self,
         rt: &R,
         alloc: Global,
-        connection: &mut Connection<'_, J, T>,
+        calls: &mut C,
+        letter: u8,
     ) -> Result<(), Fault> {
-        for number in 0..KEYS {
-            if is_right(rt, alloc, connection, number)? {
-                self.right.fetch_add(1, Ordering::SeqCst);
-            }
-            self.ended.fetch_add(1, Ordering::SeqCst);
+        let got = calls.get(rt, alloc, letter)?;
+        if got.homes == 2 && got.letter == letter {
+            self.right.fetch_add(1, Ordering::SeqCst);
         }
+        self.ended.fetch_add(1, Ordering::SeqCst);
         Ok(())
     }
 
     // Puts all keys, and gets them often.
-    fn put_and_get<J: Naming, T: Transport<J>, R: Wait>(
+    fn put_and_get<C: Calls, R: Wait>(
         &self,
         rt: &R,
         alloc: Global,
-        connection: &mut Connection<'_, J, T>,
+        calls: &mut C,
     ) -> Result<(), Fault> {
-        put_all(rt, alloc, connection)?;
+        for letter in KEYS {
+            calls.put(rt, alloc, 2, letter)?;
+        }
         for _ in 0..ROUNDS {
-            self.get_all(rt, alloc, connection)?;
+            for letter in KEYS {
+                self.get(rt, alloc, calls, letter)?;
+            }
         }
         Ok(())
     }
 }
 
-impl Client for Crossing {
-    fn run<J: Naming, T: Transport<J>, R: Wait>(
+impl Scene for Crossing {
+    fn pass(&self, node: u8, is_store: bool) {
+        if node == 1 && !is_store {
+            self.wait();
+        }
+    }
+
+    fn call<C: Calls, R: Wait>(
         &self,
         rt: &R,
         alloc: Global,
         _number: usize,
-        connection: &mut Connection<'_, J, T>,
-    ) {
-        let _ = self.put_and_get(rt, alloc, connection);
+        calls: &mut C,
+    ) -> Result<(), Fault> {
+        let done = self.put_and_get(rt, alloc, calls);
         self.is_over.store(true, Ordering::SeqCst);
+        done
     }
 }
 
@@ -156,7 +101,7 @@ fn no_answer_crosses_into_the_next_call(rt: HostRuntime) -> Result<(), Fail> {
         is_over: AtomicBool::new(false),
         right: AtomicU64::new(0),
     };
-    let closed = with_five_workers(&rt, rt.alloc(), 1, &crossing, &crossing)?;
+    let closed = with_five_workers(&rt, rt.alloc(), 1, &crossing)?;
     assert!(rt; crossing.right.load(Ordering::SeqCst) == 2000);
     assert!(rt; closed.audit.gets == 2000);
     Ok(())

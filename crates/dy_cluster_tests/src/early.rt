@@ -1,11 +1,11 @@
 // A handoff that comes before the ack of its put.
-use crate::calls::{get_told, pass_over, put_told};
-use crate::rings::{set_up, with_five_workers};
+use crate::calls::Calls;
+use crate::rings::with_five_workers;
+use crate::scenes::Scene;
 use crate::signals::Signal;
 use crate::texts::is_told;
-use dy_cluster::{AckedAt, Ask, Client, Connection, Fault, Gate, Naming, NodeId, Transport};
+use dy_cluster::{AckedAt, Fault};
 use std::alloc::Global;
-use std::sync::atomic::{AtomicUsize, Ordering};
 use std::sync::{Mutex, Wait};
 use std::test::Fail;
 
@@ -15,11 +15,11 @@ struct Early {
     is_asked: Signal,
     is_over: Signal,
     is_put: Signal,
-    // How many dots node 3 gave up before the put had its ack.
-    released: AtomicUsize,
     // What the put told, and the get.
     put: Mutex<Option<String>>,
     got: Mutex<Option<String>>,
+    // What node 3 kept before the put had its ack.
+    kept: Mutex<Option<String>>,
 }
 
 impl Early {
@@ -28,73 +28,69 @@ impl Early {
             is_asked: Signal::new(),
             is_over: Signal::new(),
             is_put: Signal::new(),
-            released: AtomicUsize::new(0),
             put: Mutex::new(None),
             got: Mutex::new(None),
+            kept: Mutex::new(None),
         }
     }
 
     // Puts while node 1 is down.
-    fn put<J: Naming, T: Transport<J>, R: Wait>(
-        &self,
-        rt: &R,
-        alloc: Global,
-        connection: &mut Connection<'_, J, T>,
-    ) {
-        set_up(rt, connection.cluster(), 1, false);
-        let told = put_told(rt, alloc, connection, 3);
+    fn put<C: Calls, R: Wait>(&self, rt: &R, alloc: Global, calls: &mut C) {
+        calls.set_up(rt, 1, false);
+        let told = calls.put(rt, alloc, 3, b'a');
         self.is_put.say();
         *self.put.lock(rt) = told.ok();
     }
 
     // Gets: node 3 answers that once it has stored what the put asks of it. Then node 1 comes back,
     // and node 3 hands over.
-    fn hand_over<J: Naming, T: Transport<J>, R: Wait>(
+    fn hand_over<C: Calls, R: Wait>(
         &self,
         rt: &R,
         alloc: Global,
-        connection: &mut Connection<'_, J, T>,
-    ) {
-        let told = get_told(rt, alloc, connection);
-        *self.got.lock(rt) = told.ok();
-        set_up(rt, connection.cluster(), 1, true);
-        if let Ok(pass) = pass_over(rt, connection, NodeId::nth(3)) {
-            if !self.is_put.is_said() {
-                self.released.store(pass.released, Ordering::SeqCst);
-            }
+        calls: &mut C,
+    ) -> Result<(), Fault> {
+        let got = calls.get(rt, alloc, b'a')?;
+        if got.letter == b'a' {
+            *self.got.lock(rt) = Some(got.told);
         }
+        calls.set_up(rt, 1, true);
+        calls.hand_over(rt, 3);
+        let kept = calls.kept(rt, alloc, 3, b'a')?;
+        if !self.is_put.is_said() {
+            *self.kept.lock(rt) = Some(kept);
+        }
+        Ok(())
     }
 }
 
-impl Gate for Early {
-    fn pass<J: Naming>(&self, node: NodeId, ask: &Ask<'_, J>) {
-        if matches!(ask, Ask::Store { .. }) {
-            if node.number() == 3 {
-                self.is_asked.say();
-            }
-            if node.number() == 2 {
-                let _ = self.is_over.wait();
-            }
+impl Scene for Early {
+    fn pass(&self, node: u8, is_store: bool) {
+        if is_store && node == 3 {
+            self.is_asked.say();
+        }
+        if is_store && node == 2 {
+            let _ = self.is_over.wait();
         }
     }
-}
 
-impl Client for Early {
     // One client puts. The other one hands over while the put waits for node 2, and then lets it go
     // on.
-    fn run<J: Naming, T: Transport<J>, R: Wait>(
+    fn call<C: Calls, R: Wait>(
         &self,
         rt: &R,
         alloc: Global,
         number: usize,
-        connection: &mut Connection<'_, J, T>,
-    ) {
+        calls: &mut C,
+    ) -> Result<(), Fault> {
         if number == 0 {
-            self.put(rt, alloc, connection);
+            self.put(rt, alloc, calls);
         } else if self.is_asked.wait() {
-            self.hand_over(rt, alloc, connection);
+            let done = self.hand_over(rt, alloc, calls);
             self.is_over.say();
+            return done;
         }
+        Ok(())
     }
 }
 
@@ -103,9 +99,12 @@ fn is_covered_by_homes(ack: &AckedAt) -> bool {
     ack.places.len() == 3 && ack.places.iter().all(|place| place.holder == place.home)
 }
 
-// The same of each.
+// The same of the one put.
 fn are_covered_by_homes(acked: &[AckedAt]) -> bool {
-    acked.iter().all(|ack| is_covered_by_homes(ack))
+    match acked {
+        [ack] => is_covered_by_homes(ack),
+        _ => false,
+    }
 }
 
 // Node 1 is down, and node 3 stands in for it. The put of three homes has not ended, since node 2's
@@ -115,13 +114,12 @@ fn are_covered_by_homes(acked: &[AckedAt]) -> bool {
 #[test]
 fn a_handoff_comes_before_the_ack(rt: HostRuntime) -> Result<(), Fail> {
     let early = Early::new();
-    let closed = with_five_workers(&rt, rt.alloc(), 2, &early, &early)?;
+    let closed = with_five_workers(&rt, rt.alloc(), 2, &early)?;
     assert!(rt; !early.is_asked.gave_up() && !early.is_over.gave_up());
-    assert!(rt; is_told(&rt, &early.got, "1 0/0=rows 1/1=down 3/1=rows"));
-    assert!(rt; early.released.load(Ordering::SeqCst) == 1);
+    assert!(rt; is_told(&rt, &early.got, " 0/0=rows 1/1=down 3/1=rows"));
+    assert!(rt; is_told(&rt, &early.kept, ""));
     let wanted = " 0/0=stored 1/1=down 2/2=stored 3/1=stored";
     assert!(rt; is_told(&rt, &early.put, wanted));
-    assert!(rt; closed.audit.acked.len() == 1);
     assert!(rt; are_covered_by_homes(closed.audit.acked.as_slice()));
     Ok(())
 }

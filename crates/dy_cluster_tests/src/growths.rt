@@ -1,48 +1,39 @@
 //! A put over mailboxes whose growths may be refused. Run with each allocation refused in turn, one
 //! a run.
 
-use crate::calls::put_over;
+use crate::calls::Calls;
 use crate::rings::with_five_workers;
-use dy_cluster::{Client, Closed, Connection, Context, Fault, Naming, Open, Transport};
+use crate::scenes::Scene;
+use dy_cluster::{Closed, Fault};
 use std::alloc::Global;
 use std::sync::Wait;
 use std::test::Fail;
 use std::thread::Threads;
 
-// Puts, and tells whether memory was wanting.
-fn is_wanting<J: Naming, T: Transport<J>, R: Wait>(
-    rt: &R,
-    alloc: Global,
-    connection: &mut Connection<'_, J, T>,
-) -> bool {
-    let context = Context::new(alloc);
-    let put = put_over(rt, alloc, connection, 2, &context);
-    matches!(put, Err(Fault::OutOfMemory))
-}
-
 // One client puts, and once more where memory was wanting.
 #[derive(Drop)]
 struct Retry;
 
-impl Client for Retry {
-    fn run<J: Naming, T: Transport<J>, R: Wait>(
+impl Scene for Retry {
+    fn call<C: Calls, R: Wait>(
         &self,
         rt: &R,
         alloc: Global,
         _number: usize,
-        connection: &mut Connection<'_, J, T>,
-    ) {
-        if is_wanting(rt, alloc, connection) {
-            let _ = is_wanting(rt, alloc, connection);
+        calls: &mut C,
+    ) -> Result<(), Fault> {
+        if let Err(Fault::OutOfMemory) = calls.put(rt, alloc, 2, b'a') {
+            calls.put(rt, alloc, 2, b'a')?;
         }
+        Ok(())
     }
 }
 
 // What the cluster told as it was closed. Where memory was wanting for the cluster, its posts, a
 // thread or the audit, the same once more.
 fn closed_or_again<R: Threads + Wait + Sync>(rt: &R, alloc: Global) -> Result<Closed, Fault> {
-    match with_five_workers(rt, alloc, 1, &Retry, &Open) {
-        Err(Fault::OutOfMemory) => with_five_workers(rt, alloc, 1, &Retry, &Open),
+    match with_five_workers(rt, alloc, 1, &Retry) {
+        Err(Fault::OutOfMemory) => with_five_workers(rt, alloc, 1, &Retry),
         ended => ended,
     }
 }

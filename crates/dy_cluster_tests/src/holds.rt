@@ -1,9 +1,10 @@
 // A worker that is held while the others work.
-use crate::calls::{get_told, put_told};
+use crate::calls::Calls;
 use crate::rings::with_five_workers;
+use crate::scenes::Scene;
 use crate::signals::Signal;
 use crate::texts::is_told;
-use dy_cluster::{Ask, Client, Connection, Gate, Naming, NodeId, Transport};
+use dy_cluster::Fault;
 use std::alloc::Global;
 use std::sync::{Mutex, Wait};
 use std::test::Fail;
@@ -29,37 +30,48 @@ impl Hold {
             got: Mutex::new(None),
         }
     }
+
+    // Puts.
+    fn put<C: Calls, R: Wait>(&self, rt: &R, alloc: Global, calls: &mut C) {
+        let told = calls.put(rt, alloc, 3, b'a');
+        self.is_put.say();
+        *self.put.lock(rt) = told.ok();
+    }
+
+    // Gets while the put waits for node 1.
+    fn get<C: Calls, R: Wait>(&self, rt: &R, alloc: Global, calls: &mut C) -> Result<(), Fault> {
+        let got = calls.get(rt, alloc, b'a')?;
+        if got.letter == b'a' && !self.is_put.is_said() {
+            *self.got.lock(rt) = Some(got.told);
+        }
+        Ok(())
+    }
 }
 
-impl Gate for Hold {
-    fn pass<J: Naming>(&self, node: NodeId, ask: &Ask<'_, J>) {
-        if node.number() == 1 && matches!(ask, Ask::Store { .. }) {
+impl Scene for Hold {
+    fn pass(&self, node: u8, is_store: bool) {
+        if node == 1 && is_store {
             self.is_held.say();
             let _ = self.is_got.wait();
         }
     }
-}
 
-impl Client for Hold {
-    // One client puts. The other one gets while the put waits for node 1, and then lets it go on.
-    fn run<J: Naming, T: Transport<J>, R: Wait>(
+    // One client puts. The other one gets meanwhile, and then lets node 1 go on.
+    fn call<C: Calls, R: Wait>(
         &self,
         rt: &R,
         alloc: Global,
         number: usize,
-        connection: &mut Connection<'_, J, T>,
-    ) {
+        calls: &mut C,
+    ) -> Result<(), Fault> {
         if number == 0 {
-            let told = put_told(rt, alloc, connection, 3);
-            self.is_put.say();
-            *self.put.lock(rt) = told.ok();
+            self.put(rt, alloc, calls);
         } else if self.is_held.wait() {
-            let told = get_told(rt, alloc, connection);
-            if !self.is_put.is_said() {
-                *self.got.lock(rt) = told.ok();
-            }
+            let got = self.get(rt, alloc, calls);
             self.is_got.say();
+            return got;
         }
+        Ok(())
     }
 }
 
@@ -69,9 +81,9 @@ impl Client for Hold {
 #[test]
 fn the_others_answer_while_a_worker_is_held(rt: HostRuntime) -> Result<(), Fail> {
     let hold = Hold::new();
-    let closed = with_five_workers(&rt, rt.alloc(), 2, &hold, &hold)?;
+    let closed = with_five_workers(&rt, rt.alloc(), 2, &hold)?;
     assert!(rt; !hold.is_held.gave_up() && !hold.is_got.gave_up());
-    assert!(rt; is_told(&rt, &hold.got, "1 0/0=rows 2/2=rows"));
+    assert!(rt; is_told(&rt, &hold.got, " 0/0=rows 2/2=rows"));
     assert!(rt; is_told(&rt, &hold.put, " 0/0=stored 1/1=stored 2/2=stored"));
     assert!(rt; closed.audit.acked.len() == 1);
     assert!(rt; closed.audit.gets == 1);

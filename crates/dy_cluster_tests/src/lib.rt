@@ -5,15 +5,17 @@
 #[cfg(test)]
 mod absences;
 #[cfg(test)]
-mod callings;
+mod alone;
 #[cfg(test)]
 mod calls;
+#[cfg(test)]
+mod closings;
 #[cfg(test)]
 mod crossings;
 #[cfg(test)]
 mod early;
 #[cfg(test)]
-mod floods;
+mod fulls;
 #[cfg(test)]
 mod growths;
 #[cfg(test)]
@@ -21,18 +23,12 @@ mod holds;
 #[cfg(test)]
 mod lates;
 #[cfg(test)]
-mod leaves;
-#[cfg(test)]
 mod mends;
 #[cfg(test)]
-mod races;
-#[cfg(test)]
-mod renewals;
-#[cfg(test)]
 mod rings;
+#[cfg(test)]
+mod scenes;
 #[cfg(test)]
 mod signals;
 #[cfg(test)]
 mod texts;
-#[cfg(test)]
-mod wrapped;

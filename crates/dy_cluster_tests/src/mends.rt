@@ -1,111 +1,57 @@
-// What a get is sure of, and what it mends.
-use crate::callings::{Calling, closed_behind};
-use crate::calls::{get_over, put_over};
-use crate::rings::{kept, options, set_up};
-use dy_cluster::{Connection, Context, Fault, GetDone, Key, Naming, Transport};
+// What a get mends.
+use crate::alone::played_alone;
+use crate::calls::Calls;
+use crate::scenes::Scene;
+use crate::texts::is_told;
+use dy_cluster::Fault;
 use std::alloc::Global;
-use std::sync::Wait;
+use std::sync::{Mutex, Wait};
 use std::test::Fail;
 
-// A get of the key `a`, which mends what it finds stale.
-fn get_and_mend<J: Naming, T: Transport<J>, R: Wait>(
-    rt: &R,
-    alloc: Global,
-    connection: &mut Connection<'_, J, T>,
-) -> Result<GetDone<J>, Fault> {
-    let key = Key::new(alloc, b"a")?;
-    let done = connection.get(rt, &key)?;
-    Ok(done)
-}
-
-// Whether the get behind a put is sure to see it, and the context of the get.
-fn put_and_get<J: Naming, T: Transport<J>, R: Wait>(
-    rt: &R,
-    alloc: Global,
-    connection: &mut Connection<'_, J, T>,
-) -> Result<(bool, Context), Fault> {
-    let put = put_over(rt, alloc, connection, 2, &Context::new(alloc))?;
-    let done = get_over(rt, alloc, connection)?;
-    Ok((done.sees(&put, &options()), done.context))
-}
-
-// Puts behind the context while node 1 is down.
-fn put_past<J: Naming, T: Transport<J>, R: Wait>(
-    rt: &R,
-    alloc: Global,
-    connection: &mut Connection<'_, J, T>,
-    context: &Context,
-) -> Result<(), Fault> {
-    set_up(rt, connection.cluster(), 1, false);
-    put_over(rt, alloc, connection, 2, context)?;
-    set_up(rt, connection.cluster(), 1, true);
-    Ok(())
-}
-
-// What node 1 keeps behind a get that mends nothing.
-fn kept_unrepaired<J: Naming, T: Transport<J>, R: Wait>(
-    rt: &R,
-    alloc: Global,
-    connection: &mut Connection<'_, J, T>,
-) -> Result<String, Fault> {
-    get_over(rt, alloc, connection)?;
-    kept(rt, alloc, connection.cluster(), 1)
-}
-
-// What node 1 keeps behind a get that mends.
-fn kept_mended<J: Naming, T: Transport<J>, R: Wait>(
-    rt: &R,
-    alloc: Global,
-    connection: &mut Connection<'_, J, T>,
-) -> Result<String, Fault> {
-    get_and_mend(rt, alloc, connection)?;
-    kept(rt, alloc, connection.cluster(), 1)
-}
-
-// Whether the first get is sure to see its put, whether the last one mended all, and what node 1
-// keeps before and behind that.
+// What node 1 keeps behind a get that mends nothing, and behind one that mends.
 #[derive(Drop)]
 struct Outage {
-    is_sure: bool,
-    is_mended: bool,
-    unrepaired: Option<String>,
-    mended: Option<String>,
+    unrepaired: Mutex<Option<String>>,
+    mended: Mutex<Option<String>>,
 }
 
-impl Calling for Outage {
-    fn call<J: Naming, T: Transport<J>, R: Wait>(
-        &mut self,
+// Puts, and puts once more while node 1 is down. A put that is refused is missing in the audit.
+fn put_past<C: Calls, R: Wait>(rt: &R, alloc: Global, calls: &mut C) {
+    let _first = calls.put(rt, alloc, 2, b'a');
+    calls.set_up(rt, 1, false);
+    let _second = calls.put(rt, alloc, 2, b'a');
+    calls.set_up(rt, 1, true);
+}
+
+impl Scene for Outage {
+    fn call<C: Calls, R: Wait>(
+        &self,
         rt: &R,
         alloc: Global,
-        connection: &mut Connection<'_, J, T>,
+        _number: usize,
+        calls: &mut C,
     ) -> Result<(), Fault> {
-        let (is_sure, context) = put_and_get(rt, alloc, connection)?;
-        self.is_sure = is_sure;
-        put_past(rt, alloc, connection, &context)?;
-        self.unrepaired = kept_unrepaired(rt, alloc, connection).ok();
-        self.mended = kept_mended(rt, alloc, connection).ok();
-        self.is_mended = connection.is_mended;
-        Ok(())
+        put_past(rt, alloc, calls);
+        let _got = calls.get(rt, alloc, b'a');
+        *self.unrepaired.lock(rt) = calls.kept(rt, alloc, 1, b'a').ok();
+        let mended = calls.mend(rt, alloc, b'a');
+        *self.mended.lock(rt) = calls.kept(rt, alloc, 1, b'a').ok();
+        mended
     }
 }
 
-// A get behind a put that all homes stored is sure to see it. Then a home is down while a second
-// put is stored elsewhere. Once it is up, a get that mends nothing leaves it stale, and a get that
-// mends has it store the row.
+// A home is down while a second put is stored elsewhere. Once it is up, a get that mends nothing
+// leaves it stale, and a get that mends has it store the row.
 #[test]
 fn a_get_mends_a_home_that_was_down(rt: HostRuntime) -> Result<(), Fail> {
-    let mut outage = Outage {
-        is_sure: false,
-        is_mended: false,
-        unrepaired: None,
-        mended: None,
+    let outage = Outage {
+        unrepaired: Mutex::new(None),
+        mended: Mutex::new(None),
     };
-    let closed = closed_behind(&rt, rt.alloc(), &mut outage)?;
-    assert!(rt; outage.is_sure);
-    assert!(rt; outage.unrepaired.as_deref() == Some(" 1/1 n0:1"));
-    assert!(rt; outage.mended.as_deref() == Some(" 1/1 n0:2"));
-    assert!(rt; outage.is_mended);
+    let closed = played_alone(&rt, rt.alloc(), &outage, false)?;
+    assert!(rt; is_told(&rt, &outage.unrepaired, " 1/1 n0:1"));
+    assert!(rt; is_told(&rt, &outage.mended, " 1/1 n0:1-2"));
     assert!(rt; closed.audit.acked.len() == 2);
-    assert!(rt; closed.audit.gets == 3);
+    assert!(rt; closed.audit.gets == 2);
     Ok(())
 }

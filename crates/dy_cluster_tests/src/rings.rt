@@ -1,13 +1,14 @@
-// The cluster that the tests use, its nodes, and clients beside its workers.
-use crate::texts::kept_text;
+// The cluster that the tests use, and clients beside its workers.
+use crate::scenes::{Played, Scene};
 use dy_book::{MAX_STEPS, MAX_VERSIONS};
-use dy_cluster::{
-    Client, Closed, Cluster, Fault, Gate, Key, Mode, Naming, Options, Ring, with_workers,
-};
+use dy_cluster::{Closed, Fault, Options, Ring, with_workers};
 use dy_dots::MAX_COUNTER;
 use std::alloc::Global;
 use std::sync::Wait;
 use std::thread::Threads;
+
+// How many nodes there are.
+pub const NODES: u8 = 5;
 
 // The key `a` lies at 0cc1.. (RFC 1321, A.5), so its nodes are 0, 1, 2, 3 and 4, in this order.
 const SPREAD: [u128; 5] = [
@@ -52,41 +53,14 @@ pub fn options() -> Options {
     }
 }
 
-// The node goes down, or comes up, where the ring has it.
-pub fn set_up<J: Naming, R: Wait>(rt: &R, cluster: &Cluster<J>, number: usize, is_up: bool) {
-    if let Some(node) = cluster.node(number) {
-        cluster.set_up(rt, node, is_up);
-    }
-}
-
-// The node gets this mode, where the ring has it.
-pub fn set_mode<J: Naming, R: Wait>(rt: &R, cluster: &Cluster<J>, number: usize, mode: Mode) {
-    if let Some(node) = cluster.node(number) {
-        cluster.fault(rt, node, mode);
-    }
-}
-
-// What the node keeps of the key `a`, as a text.
-pub fn kept<J: Naming, R: Wait>(
-    rt: &R,
-    alloc: Global,
-    cluster: &Cluster<J>,
-    number: usize,
-) -> Result<String, Fault> {
-    let node = cluster.node(number).ok_or(Fault::NoNode)?;
-    let key = Key::new(alloc, b"a")?;
-    let rows = cluster.show(rt, node, &key)?;
-    kept_text(alloc, node, rows.as_slice())
-}
-
-// Runs so many clients beside five workers.
-pub fn with_five_workers<C: Client + Sync, G: Gate + Sync, R: Threads + Wait + Sync>(
+// Plays the scene with so many clients beside five workers, and closes the cluster.
+pub fn with_five_workers<S: Scene + Sync, R: Threads + Wait + Sync>(
     rt: &R,
     alloc: Global,
     clients: u8,
-    client: &C,
-    gate: &G,
+    scene: &S,
 ) -> Result<Closed, Fault> {
     let ring = five_nodes(alloc)?;
-    with_workers(rt, alloc, ring, options(), gate, clients, client)
+    let played = Played { scene };
+    with_workers(rt, alloc, ring, options(), &played, clients, &played)
 }
