@@ -41,7 +41,8 @@ abbrev pub GoTogether : Tokens → ℕ → List NodePart → List RestState → 
 GoTogether ring n parts rests = AllZip (GoesWith ring n) parts rests
 
 -- the cluster at rest ended so: its log is legal, the audit is that of the book with these sessions
--- and the nodes' shares, of which there is one a node, and each node kept what its share shows
+-- and the nodes' shares, of which there is one a node, each node kept what its share shows, and the
+-- options are those of the book
 pub record IsEndOf (ring : Tokens) (n r : ℕ) (c : AtRest) (tellings : List SessionPart)
     (closed : Closed) : Type 0 where
   pub legal : IsLegal (layout_of ring n) (steps_of c.book.log)
@@ -49,6 +50,7 @@ pub record IsEndOf (ring : Tokens) (n r : ℕ) (c : AtRest) (tellings : List Ses
   pub count : length c.parts ≡ ring.nodes
   pub rests_are : closed.rests.items ≡ c.rests
   pub together : GoTogether ring n c.parts c.rests
+  pub options_are : closed.options ≡ c.book.options
 
 -- a cluster of this ring ended so
 abbrev pub IsClosed : Tokens → ℕ → ℕ → List SessionPart → Closed → Type 0

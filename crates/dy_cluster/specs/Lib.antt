@@ -9,6 +9,7 @@ pub mod Marks
 pub mod Named
 pub mod PresentValues
 pub mod Refusals
+pub mod Runs
 pub mod Settings
 pub mod Shows
 pub mod Stores

@@ -65,7 +65,6 @@ impl<'a, J: Naming, T: Transport<J>> Connection<'a, J, T> {
             self.old.session self.old.session
             (T.told self.old.transport) (T.told self.new.transport) (Err refused)) }
         ensures w { self.new.w ≡ self.old.w }
-        ensures mended { self.new.is_mended ≡ self.old.is_mended }
     {
         self.put(rt, &present.key, none, value)
     }
@@ -85,7 +84,6 @@ impl<'a, J: Naming, T: Transport<J>> Connection<'a, J, T> {
             self.old.session self.new.session
             (T.told self.old.transport) (T.told self.new.transport)) }
         ensures w { self.new.w ≡ self.old.w }
-        ensures mended { self.new.is_mended ≡ self.old.is_mended }
     {
         let mut copies = match copies_of(alloc, values) {
             Ok(copies) => copies,
@@ -126,7 +124,6 @@ pub fn carry_over<J: Naming, T: Transport<J>, R: Wait>(
         closed.now.audit.held.items connection.old.session connection.new.session
         (T.told connection.old.transport) (T.told connection.new.transport)) }
     ensures w { connection.new.w ≡ connection.old.w }
-    ensures mended { connection.new.is_mended ≡ connection.old.is_mended }
 {
     let values = match closed.values(alloc) {
         Ok(values) => values,

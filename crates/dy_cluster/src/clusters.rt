@@ -11,7 +11,7 @@ ghost use Rattle.dy_cluster.specs.Stores.{TellsAcks, TellsStores};
 use crate::books::{OpenBook, open_book};
 use crate::locks::{lock_all, rejoin_all, retire_all};
 use crate::openings::Opened;
-use crate::restings::{Closed, ClusterRefused, Resting};
+use crate::restings::{Closed, ClusterRefused, Resting, check_options};
 use dy_book::{Book, Options};
 use dy_dots::{Fault, MAX_NODES};
 use dy_node::{Node, Rest};
@@ -195,6 +195,25 @@ impl<J: Naming> Cluster<J> {
         match self.rest().close(sessions) {
             Ok(closed) => Ok(closed),
             Err(refused) => Err(refused),
+        }
+    }
+
+    // Closes the cluster, and abandons it where that is refused.
+    pub(crate) fn end(self, sessions: Vec<SessionShare<J>>) -> Result<Closed, Fault>
+        ensures stores { IfOk result (TellsStores J.ring J.n) }
+        ensures acks { IfOk result (TellsAcks sessions.items) }
+        ensures closed { IfOk result (λ closed. IsClosed J.ring J.n J.r sessions.items closed) }
+        ensures options { IfOk result (λ closed. closed.options ≡ self.options) }
+        ensures only { IfErr result (λ fault. (fault ≡ Fault.OutOfMemory)
+            ⊎ (fault ≡ Fault.SharesMissing)) }
+    {
+        let options = self.options;
+        match self.close(sessions) {
+            Ok(closed) => {
+                check_options(closed.options, options)?;
+                Ok(closed)
+            }
+            Err(refused) => Err(refused.abandon()),
         }
     }
 

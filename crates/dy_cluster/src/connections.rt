@@ -1,4 +1,4 @@
-ghost use Rattle.std.specs.Prelude.{◌≡◌, ◌≤◌, ◌⊎◌, Some, None, IsTrue, false};
+ghost use Rattle.std.specs.Prelude.{◌≡◌, ◌≤◌, ◌⊎◌, Some, None, IsTrue};
 ghost use Rattle.std.specs.Prelude.{IfOk, IfErr, OnErr, IsOkUnless};
 ghost use Rattle.dy_dots.specs.declared.nodes.TheConstants.{MAX_NODES};
 ghost use Rattle.dy_shares.specs.Shares.{since_of, with_get};
@@ -14,6 +14,7 @@ ghost use Rattle.dy_cluster.specs.Tellings.{IsUntold};
 
 use crate::clusters::Cluster;
 use crate::kept_lists::KeptLists;
+use crate::mending_gets::MendingGet;
 use dy_coord::{GetDone, GetFault, PutDone, PutFault};
 use dy_dots::{Context, Fault};
 use dy_mailboxes::{Mailboxes, Post};
@@ -24,13 +25,11 @@ use dy_transport::{Direct, Transport};
 use std::sync::Wait;
 
 /// What a client calls a cluster by: its session, its transport, and the number of homes that its
-/// puts name. `is_mended` says whether the last get repaired all that it found stale. The session
-/// must be handed in when the cluster closes.
+/// puts name. The session must be handed in when the cluster closes.
 pub struct Connection<'a, J: Naming, T: Transport<J>> {
     pub session: SessionShare<J>,
     pub transport: T,
     pub w: u8,
-    pub is_mended: bool,
     cluster: &'a Cluster<J>,
     // Of the keys that it named.
     lists: KeptLists<J>,
@@ -42,6 +41,7 @@ impl<J: Naming> Cluster<J> {
     pub fn connect<R: Wait>(&self, rt: &R) -> Result<Connection<'_, J, Direct<'_, J>>, Fault>
         ensures untold { IfOk result (λ connection. IsUntold connection.session) }
         ensures w { IfOk result (λ connection. connection.w ≡ self.now.options.w) }
+        ensures cluster { IfOk result (λ connection. connection.cluster.now ≡ self.now) }
         ensures only { IfErr result (λ fault. (fault ≡ Fault.OutOfMemory)
             ⊎ (fault ≡ Fault.TooMany)) }
     {
@@ -58,6 +58,7 @@ impl<J: Naming> Cluster<J> {
     ) -> Result<Connection<'_, J, Mailboxes<'_, J>>, Fault>
         ensures untold { IfOk result (λ connection. IsUntold connection.session) }
         ensures w { IfOk result (λ connection. connection.w ≡ self.now.options.w) }
+        ensures cluster { IfOk result (λ connection. connection.cluster.now ≡ self.now) }
         ensures only { IfErr result (λ fault. (fault ≡ Fault.OutOfMemory)
             ⊎ (fault ≡ Fault.TooMany)) }
     {
@@ -79,14 +80,12 @@ impl<'a, J: Naming, T: Transport<J>> Connection<'a, J, T> {
         ensures session { result.session ≡ session }
         ensures transport { result.transport ≡ transport }
         ensures w { result.w ≡ cluster.now.options.w }
-        ensures mended { result.is_mended ≡ false }
         ensures cluster { result.cluster.now ≡ cluster.now }
     {
         Connection {
             session,
             transport,
             w: cluster.options.w,
-            is_mended: false,
             cluster,
             lists: KeptLists::new(cluster.alloc),
         }
@@ -106,7 +105,6 @@ impl<'a, J: Naming, T: Transport<J>> Connection<'a, J, T> {
             session,
             transport,
             w: _,
-            is_mended: _,
             cluster: _,
             lists: _,
         } = self;
@@ -129,7 +127,6 @@ impl<'a, J: Naming, T: Transport<J>> Connection<'a, J, T> {
             (IsPutDone self.old.session self.new.session key.now self.old.w) }
         ensures err { OnErr result (self.new.session ≡ self.old.session) }
         ensures w { self.new.w ≡ self.old.w }
-        ensures mended { self.new.is_mended ≡ self.old.is_mended }
     {
         self.put_to(rt, self.w, key, context, value)
     }
@@ -149,7 +146,6 @@ impl<'a, J: Naming, T: Transport<J>> Connection<'a, J, T> {
         ensures ok { IfOk result (IsPutDone self.old.session self.new.session key.now w) }
         ensures err { OnErr result (self.new.session ≡ self.old.session) }
         ensures w { self.new.w ≡ self.old.w }
-        ensures mended { self.new.is_mended ≡ self.old.is_mended }
     {
         self.write(rt, w, key, context, Some(value))
     }
@@ -169,7 +165,6 @@ impl<'a, J: Naming, T: Transport<J>> Connection<'a, J, T> {
             (IsPutDone self.old.session self.new.session key.now self.old.w) }
         ensures err { OnErr result (self.new.session ≡ self.old.session) }
         ensures w { self.new.w ≡ self.old.w }
-        ensures mended { self.new.is_mended ≡ self.old.is_mended }
     {
         self.write(rt, self.w, key, context, None)
     }
@@ -189,7 +184,6 @@ impl<'a, J: Naming, T: Transport<J>> Connection<'a, J, T> {
         ensures ok { IfOk result (IsPutDone self.old.session self.new.session key.now w) }
         ensures err { OnErr result (self.new.session ≡ self.old.session) }
         ensures w { self.new.w ≡ self.old.w }
-        ensures mended { self.new.is_mended ≡ self.old.is_mended }
     {
         if let Err(fault) = self.transport.renew(rt) {
             return Err(self.cluster.put_untried(fault));
@@ -208,25 +202,24 @@ impl<'a, J: Naming, T: Transport<J>> Connection<'a, J, T> {
 
     /// Gets the key, and asks each home that gave a stale answer to store the merged row. Where
     /// memory is wanting for that, a later get does it. May wait for answers and locks.
-    pub fn get<R: Wait>(&mut self, rt: &R, key: &Key) -> Result<GetDone<J>, GetFault>
-        ensures ok { IfOk result (λ done. (told : Told J)
-            × IsGot (list_of J.ring J.n key.now) key.now J.r (since_of self.old.session) told done
-            × (IsTrue self.new.is_mended → IsMended (homes_in (list_of J.ring J.n done.row.key))
-            done.row done.seen.items told (T.told self.new.transport))) }
-        ensures told { IfOk result (λ done. self.new.session ≡ with_get self.old.session
-            (since_of self.old.session) (first_answers done.seen.items)) }
+    pub fn get<R: Wait>(&mut self, rt: &R, key: &Key) -> Result<MendingGet<J>, GetFault>
+        ensures ok { IfOk result (λ got. (told : Told J) × IsGot (list_of J.ring J.n key.now)
+            key.now J.r (since_of self.old.session) told got.done
+            × (IsTrue got.is_mended → IsMended (homes_in (list_of J.ring J.n got.done.row.key))
+            got.done.row got.done.seen.items told (T.told self.new.transport))) }
+        ensures told { IfOk result (λ got. self.new.session ≡ with_get self.old.session
+            (since_of self.old.session) (first_answers got.done.seen.items)) }
         ensures err { OnErr result (self.new.session ≡ self.old.session) }
         ensures refused { IfErr result (IsRefusedAnew (list_of J.ring J.n key.now) key.now J.r
             (since_of self.old.session) (T.told self.old.transport)
             (T.told self.new.transport)) }
         ensures w { self.new.w ≡ self.old.w }
-        ensures current { IfOk result (λ done.
-            AreCurrent done.row done.seen.items → IsTrue self.new.is_mended) }
-        ensures mended { OnErr result (self.new.is_mended ≡ self.old.is_mended) }
+        ensures current { IfOk result (λ got.
+            AreCurrent got.done.row got.done.seen.items → IsTrue got.is_mended) }
     {
         let done = self.get_unrepaired(rt, key)?;
-        self.is_mended = self.mend(rt, &done).is_ok();
-        Ok(done)
+        let is_mended = self.mend(rt, &done).is_ok();
+        Ok(MendingGet { done, is_mended })
     }
 
     /// Gets the key, and repairs nothing. May wait for answers and locks.
@@ -240,7 +233,6 @@ impl<'a, J: Naming, T: Transport<J>> Connection<'a, J, T> {
             (since_of self.old.session) (T.told self.old.transport)
             (T.told self.new.transport)) }
         ensures w { self.new.w ≡ self.old.w }
-        ensures mended { self.new.is_mended ≡ self.old.is_mended }
     {
         if let Err(fault) = self.transport.renew(rt) {
             return Err(self.cluster.get_unasked(fault));
@@ -265,7 +257,6 @@ impl<'a, J: Naming, T: Transport<J>> Connection<'a, J, T> {
         ensures memory { IsOkUnless result Fault.OutOfMemory }
         ensures session { self.new.session ≡ self.old.session }
         ensures w { self.new.w ≡ self.old.w }
-        ensures mended { self.new.is_mended ≡ self.old.is_mended }
     {
         if are_current(done.seen.as_slice(), &done.row) {
             return Ok(());

@@ -1,7 +1,7 @@
 // The threads of clients, workers and the operator.
-ghost use Rattle.std.specs.Prelude.{◌≡◌, ◌↔◌, ℕ, length, IsTrue, IfOk, IsOkUnless};
-ghost use Rattle.dy_shares.specs.Shares.{SessionPart};
+ghost use Rattle.std.specs.Prelude.{◌≡◌, ◌↔◌, length, IsTrue, IfOk, IsOkUnless};
 ghost use Rattle.dy_cluster.specs.Settings.{setting};
+ghost use Rattle.dy_cluster.specs.Tellings.{SaysToo};
 
 use crate::clusters::Cluster;
 use crate::embedding::Client;
@@ -66,9 +66,8 @@ pub(crate) fn run_staffed<
     client: &C,
     seats: &[Mutex<S>],
 ) -> bool
-    requires tells { (number : ℕ) (telling : SessionPart) →
-        C.told (setting J J.ring J.n J.r cluster.now.options) client.now number telling →
-        S.told number telling }
+    requires tells { SaysToo
+        (C.told (setting J J.ring J.n J.r cluster.now.options) client.now) S.told }
 {
     let Mail {
         inboxes,
@@ -79,9 +78,8 @@ pub(crate) fn run_staffed<
         thread::scope_env(),
         rt,
         |scope|
-            requires tells { (number : ℕ) (telling : SessionPart) →
-                C.told (setting J J.ring J.n J.r cluster.now.options) client.now number telling →
-                S.told number telling }
+            requires tells { SaysToo
+                (C.told (setting J J.ring J.n J.r cluster.now.options) client.now) S.told }
         {
             let mut started = 0usize;
             for inbox in inboxes {
@@ -139,25 +137,23 @@ pub(crate) fn run_beside<
     mut posts: Vec<Post<J>>,
     seats: &[Mutex<S>],
 )
-    requires tells { (number : ℕ) (telling : SessionPart) →
-        C.told (setting J J.ring J.n J.r cluster.now.options) client.now number telling →
-        S.told number telling }
+    requires tells { SaysToo
+        (C.told (setting J J.ring J.n J.r cluster.now.options) client.now) S.told }
 {
     thread::scope(
         thread::scope_env(),
         rt,
         |scope|
-            requires tells { (number : ℕ) (telling : SessionPart) →
-                C.told (setting J J.ring J.n J.r cluster.now.options) client.now number telling →
-                S.told number telling }
+            requires tells { SaysToo
+                (C.told (setting J J.ring J.n J.r cluster.now.options) client.now) S.told }
         {
             for seat in seats.iter() {
                 let post = posts.pop();
                 let thread = scope.spawn(
                     move ||
-                        requires tells { (number : ℕ) (telling : SessionPart) →
-                            C.told (setting J J.ring J.n J.r cluster.now.options) client.now
-                            number telling → S.told number telling }
+                        requires tells { SaysToo
+                            (C.told (setting J J.ring J.n J.r cluster.now.options)
+                            client.now) S.told }
                     { sit(rt, alloc, cluster, client, seat, post) },
                 );
                 if thread.is_err() {
@@ -177,9 +173,8 @@ fn sit<J: Naming, S: Place<J>, C: Client, R: Wait>(
     seat: &Mutex<S>,
     mut post: Option<Post<J>>,
 )
-    requires tells { (number : ℕ) (telling : SessionPart) →
-        C.told (setting J J.ring J.n J.r cluster.now.options) client.now number telling →
-        S.told number telling }
+    requires tells { SaysToo
+        (C.told (setting J J.ring J.n J.r cluster.now.options) client.now) S.told }
 {
     seat.lock(rt).run(rt, alloc, cluster, client, &mut post);
 }

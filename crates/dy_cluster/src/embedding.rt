@@ -1,4 +1,4 @@
-ghost use Rattle.std.specs.Prelude.{◌≡◌, ◌<◌, ◌↔◌, ◌⊎◌, ℕ, [], List, length};
+ghost use Rattle.std.specs.Prelude.{◌≡◌, ◌<◌, ◌↔◌, ◌⊎◌, ℕ, [], List};
 ghost use Rattle.std.specs.Prelude.{IfOk, IfErr, IsErrOf};
 ghost use Rattle.std.specs.declared.marker.Brand.{Brand as BrandParts};
 ghost use Rattle.dy_dots.specs.declared.faults.Fault.{Fault as FaultParts};
@@ -7,16 +7,18 @@ ghost use Rattle.dy_shares.specs.Shares.{SessionPart};
 ghost use Rattle.dy_cluster.specs.Ends.{IsClosed};
 ghost use Rattle.dy_cluster.specs.Named.{NamesBook};
 ghost use Rattle.dy_cluster.specs.Refusals.{IsOpenRefusal, IsRunRefusal};
+ghost use Rattle.dy_cluster.specs.Runs.{HaveRun};
 ghost use Rattle.dy_cluster.specs.Settings.{Setting, setting};
 ghost use Rattle.dy_cluster.specs.Stores.{TellsAcks, TellsStores};
-ghost use Rattle.dy_cluster.specs.Tellings.{AreTold, IsUntold, as_fact};
+ghost use Rattle.dy_cluster.specs.Tellings.{ClientAnswer, IsUntold};
 
+use crate::clients_dones::ClientsDone;
 use crate::clusters::Cluster;
 use crate::connections::Connection;
 use crate::openings::Opened;
 use crate::operators::Nobody;
 use crate::restings::Closed;
-use crate::staffing::run_clients;
+use crate::staffing::run_opened;
 use dy_book::Options;
 use dy_dots::Fault;
 use dy_mailboxes::Open;
@@ -56,24 +58,24 @@ pub trait Work {
 /// What each of many clients does, in a thread of its own, with a connection of its own, over any
 /// transport.
 pub trait Client {
-    // What the client of this number says of its session's list, once it ran on a cluster of this
-    // setting. If it is left out, it says nothing.
-    ghost told: { Setting → Self → ℕ → SessionPart → Type 0 } = { λ _ _ _ _. Unit {0} };
+    // What the client of this number says of its answer and of its session's list, once it ran on a
+    // cluster of this setting. If it is left out, it says nothing.
+    ghost told: { Setting → Self → ℕ → ClientAnswer → SessionPart → Type 0 } = { λ _ _ _ _ _. Unit {0} };
 
     /// Clients are numbered from 0. The session's list is empty before, and puts name as many homes
-    /// as the cluster's options.
+    /// as the cluster's options. A refusal ends this client alone, and is told of it.
     fn run<J: Naming, T: Transport<J>, R: Wait>(
         &self,
         rt: &R,
         alloc: Global,
         number: usize,
         connection: &mut Connection<'_, J, T>,
-    )
+    ) -> Result<(), Fault>
         requires few { number < 255 }
         requires untold { IsUntold connection.old.session }
         requires w { connection.old.w ≡ connection.old.cluster.now.options.w }
         ensures told { told (setting J J.ring J.n J.r connection.old.cluster.now.options) self.now
-            number connection.new.session };
+            number result connection.new.session };
 }
 
 /// Opens a cluster on the ring, runs the work, and closes the cluster. A refusal of the work is
@@ -92,6 +94,7 @@ pub fn with_cluster<W: Work, R: Wait>(
     ensures closed { IfOk result (λ closed. (tellings : List SessionPart)
         × IsClosed ring options.n options.r tellings closed
         × W.told (setting BrandParts ring options.n options.r options) work.old work.new tellings) }
+    ensures options { IfOk result (λ closed. closed.options ≡ options) }
     ensures too_many { ¬ (AreLimits options) → IsErrOf result Fault.TooMany }
     ensures bad_quorum { AreLimits options → ¬ (IsQuorum options ring.nodes) →
         IsErrOf result Fault.BadQuorum }
@@ -120,6 +123,7 @@ fn run_named<J: Naming, W: Work, R: Wait>(
         × IsClosed opened.ring opened.options.n opened.options.r tellings closed
         × W.told (setting J opened.ring opened.options.n opened.options.r opened.options)
         work.old work.new tellings) }
+    ensures options { IfOk result (λ closed. closed.options ≡ opened.options) }
     ensures only { IfErr result (λ fault. (fault ≡ Fault.OutOfMemory)
         ⊎ (fault ≡ Fault.SharesMissing)
         ⊎ W.refused (setting J opened.ring opened.options.n opened.options.r opened.options)
@@ -128,13 +132,9 @@ fn run_named<J: Naming, W: Work, R: Wait>(
     let cluster = Cluster::<J>::open(alloc, opened)?;
     let mut sessions = Vec::new(alloc);
     let done = work.run(rt, alloc, &cluster, &mut sessions);
-    match cluster.close(sessions) {
-        Ok(closed) => {
-            done?;
-            Ok(closed)
-        }
-        Err(refused) => Err(refused.abandon()),
-    }
+    let closed = cluster.end(sessions)?;
+    done?;
+    Ok(closed)
 }
 
 /// Opens a cluster on the ring, runs this many clients beside each other, and closes it. Each
@@ -148,22 +148,14 @@ pub fn with_clients<C: Client + Sync, R: Threads + Wait + Sync>(
     options: Options,
     clients: u8,
     client: &C,
-) -> Result<Closed, Fault>
-    ensures stores { IfOk result (TellsStores ring options.n) }
-    ensures acks { IfOk result (λ closed. (tellings : List SessionPart)
-        × TellsAcks tellings closed × (length tellings ≡ clients)
-        × AreTold (as_fact (C.told (setting BrandParts ring options.n options.r options)
-        client.now)) tellings) }
-    ensures closed { IfOk result (λ closed. (tellings : List SessionPart)
-        × IsClosed ring options.n options.r tellings closed × (length tellings ≡ clients)
-        × AreTold (as_fact (C.told (setting BrandParts ring options.n options.r options)
-        client.now)) tellings) }
+) -> Result<ClientsDone, Fault>
+    ensures stores { IfOk result (λ done. TellsStores ring options.n done.closed) }
+    ensures closed { IfOk result (HaveRun ring options clients
+        (C.told (setting BrandParts ring options.n options.r options) client.now)) }
     ensures too_many { ¬ (AreLimits options) → IsErrOf result Fault.TooMany }
     ensures bad_quorum { IsErrOf result Fault.BadQuorum
         ↔ (AreLimits options × ¬ (IsQuorum options ring.nodes)) }
     ensures only { IfErr result (λ fault. (fault ≡ Fault.BadQuorum) ⊎ IsRunRefusal fault) }
 {
-    let opened = Opened::new(alloc, ring, options)?;
-    let (gate, operator) = (None, None);
-    run_clients::<Brand, C, Open, Nobody, R>(rt, alloc, opened, gate, operator, clients, client)
+    run_opened::<C, Open, Nobody, R>(rt, alloc, ring, options, None, None, clients, client)
 }

@@ -4,6 +4,7 @@
 mod books;
 mod calls;
 mod carrying;
+mod clients_dones;
 mod clusters;
 mod connections;
 mod crews;
@@ -14,8 +15,10 @@ mod handovers;
 mod kept_lists;
 mod laws;
 mod locks;
+mod lone_clients;
 mod marked_works;
 mod marks;
+mod mending_gets;
 mod openings;
 mod operators;
 mod outages;
@@ -28,6 +31,7 @@ mod step_copies;
 mod values;
 
 pub use carrying::{CarryFault, carry_over};
+pub use clients_dones::ClientsDone;
 pub use clusters::Cluster;
 pub use connections::Connection;
 pub use direct_calls::DirectCalls;
@@ -37,8 +41,10 @@ pub use laws::{
     gets_give_what_homes_took, session_guarantees, stores_cover_acks, what_is_held_is_kept,
     what_is_seen_is_there, what_was_acknowledged_is_present,
 };
+pub use lone_clients::{LoneClient, with_client};
 pub use marked_works::{MarkedWork, with_marked_cluster};
 pub use marks::Mark;
+pub use mending_gets::MendingGet;
 pub use openings::Opened;
 pub use operators::{Operator, with_operator};
 pub use restings::{Closed, ClusterRefused, Resting};

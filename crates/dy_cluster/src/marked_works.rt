@@ -11,7 +11,7 @@ ghost use Rattle.dy_cluster.specs.Settings.{Setting, setting};
 use crate::clusters::Cluster;
 use crate::marks::Mark;
 use crate::openings::Opened;
-use crate::restings::Closed;
+use crate::restings::{Closed, check_options};
 use dy_book::Options;
 use dy_dots::Fault;
 use dy_ring::Ring;
@@ -56,6 +56,7 @@ pub fn with_marked_cluster<W: MarkedWork, R: Wait>(
         × IsClosedBehind ring options.n options.r tellings read closed
         × W.told (setting BrandParts ring options.n options.r options) work.old work.new tellings
         read) }
+    ensures options { IfOk result (λ closed. closed.options ≡ options) }
     ensures too_many { ¬ (AreLimits options) → IsErrOf result Fault.TooMany }
     ensures bad_quorum { AreLimits options → ¬ (IsQuorum options ring.nodes) →
         IsErrOf result Fault.BadQuorum }
@@ -76,18 +77,15 @@ fn run_marked<J: Naming, W: MarkedWork, R: Wait>(
         × IsClosedBehind opened.ring opened.options.n opened.options.r tellings read closed
         × W.told (setting J opened.ring opened.options.n opened.options.r opened.options)
         work.old work.new tellings read) }
+    ensures options { IfOk result (λ closed. closed.options ≡ opened.options) }
 {
     let cluster = Cluster::<J>::open(alloc, opened)?;
     let mut sessions = Vec::new(alloc);
     let mut mark = Mark::new();
     let done = work.run(rt, alloc, &cluster, &mut sessions, &mut mark);
-    match close_behind(cluster, sessions, &mark) {
-        Ok(closed) => {
-            done?;
-            Ok(closed)
-        }
-        Err(fault) => Err(fault),
-    }
+    let closed = close_behind(cluster, sessions, &mark)?;
+    done?;
+    Ok(closed)
 }
 
 // Closes the cluster, if each of its sessions is handed in.
@@ -98,11 +96,16 @@ fn close_behind<J: Naming>(
 ) -> Result<Closed, Fault>
     ensures closed { IfOk result (λ closed.
         IsClosedBehind J.ring J.n J.r sessions.items mark.now closed) }
+    ensures options { IfOk result (λ closed. closed.options ≡ cluster.options) }
 {
+    let options = cluster.options;
     let mut resting = cluster.rest();
     resting.learn(mark);
     match resting.close(sessions) {
-        Ok(closed) => Ok(closed),
+        Ok(closed) => {
+            check_options(closed.options, options)?;
+            Ok(closed)
+        }
         Err(refused) => Err(refused.abandon()),
     }
 }

@@ -1,25 +1,21 @@
-ghost use Rattle.std.specs.Prelude.{◌≡◌, ◌↔◌, ◌⊎◌, List, length, IfOk, IfErr, IsErrOf};
+ghost use Rattle.std.specs.Prelude.{◌≡◌, ◌↔◌, ◌⊎◌, IfOk, IfErr, IsErrOf};
 ghost use Rattle.std.specs.declared.marker.Brand.{Brand as BrandParts};
 ghost use Rattle.dy_book.specs.Limits.{AreLimits, IsQuorum};
-ghost use Rattle.dy_shares.specs.Shares.{SessionPart};
-ghost use Rattle.dy_cluster.specs.Ends.{IsClosed};
 ghost use Rattle.dy_cluster.specs.Refusals.{IsRunRefusal};
+ghost use Rattle.dy_cluster.specs.Runs.{HaveRun};
 ghost use Rattle.dy_cluster.specs.Settings.{setting};
-ghost use Rattle.dy_cluster.specs.Stores.{TellsAcks, TellsStores};
-ghost use Rattle.dy_cluster.specs.Tellings.{AreTold, as_fact};
+ghost use Rattle.dy_cluster.specs.Stores.{TellsStores};
 
+use crate::clients_dones::ClientsDone;
 use crate::clusters::Cluster;
 use crate::embedding::Client;
-use crate::openings::Opened;
-use crate::restings::Closed;
-use crate::staffing::run_clients;
+use crate::staffing::run_opened;
 use dy_book::Options;
 use dy_dots::Fault;
 use dy_mailboxes::{Gate, Post};
 use dy_ring::Ring;
 use dy_shares::Naming;
 use std::alloc::Global;
-use std::marker::Brand;
 use std::sync::Wait;
 use std::thread::Threads;
 
@@ -71,29 +67,15 @@ pub fn with_operator<
     clients: u8,
     client: &C,
     operator: &O,
-) -> Result<Closed, Fault>
-    ensures stores { IfOk result (TellsStores ring options.n) }
-    ensures acks { IfOk result (λ closed. (tellings : List SessionPart)
-        × TellsAcks tellings closed × (length tellings ≡ clients)
-        × AreTold (as_fact (C.told (setting BrandParts ring options.n options.r options)
-        client.now)) tellings) }
-    ensures closed { IfOk result (λ closed. (tellings : List SessionPart)
-        × IsClosed ring options.n options.r tellings closed × (length tellings ≡ clients)
-        × AreTold (as_fact (C.told (setting BrandParts ring options.n options.r options)
-        client.now)) tellings) }
+) -> Result<ClientsDone, Fault>
+    ensures stores { IfOk result (λ done. TellsStores ring options.n done.closed) }
+    ensures closed { IfOk result (HaveRun ring options clients
+        (C.told (setting BrandParts ring options.n options.r options) client.now)) }
     ensures too_many { ¬ (AreLimits options) → IsErrOf result Fault.TooMany }
     ensures bad_quorum { IsErrOf result Fault.BadQuorum
         ↔ (AreLimits options × ¬ (IsQuorum options ring.nodes)) }
     ensures only { IfErr result (λ fault. (fault ≡ Fault.BadQuorum) ⊎ IsRunRefusal fault) }
 {
-    let opened = Opened::new(alloc, ring, options)?;
-    run_clients::<Brand, C, G, O, R>(
-        rt,
-        alloc,
-        opened,
-        Some(gate),
-        Some(operator),
-        clients,
-        client,
-    )
+    let (gate, operator) = (Some(gate), Some(operator));
+    run_opened::<C, G, O, R>(rt, alloc, ring, options, gate, operator, clients, client)
 }

@@ -1,5 +1,5 @@
 ghost use Rattle.std.specs.Prelude.{◌≡◌, ◌≤◌, ◌⊎◌, ◌↔◌, length, vec_len, vec_capacity};
-ghost use Rattle.std.specs.Prelude.{IfOk, IfErr, IsErr, MatchBool};
+ghost use Rattle.std.specs.Prelude.{IfOk, IfErr, OnOk, IsErr, IsOkUnless, MatchBool};
 ghost use mathlib.Core.List.{IsPrefix};
 ghost use Rattle.dy_shares.specs.Shares.{HasAll, IsMissing};
 ghost use Rattle.dy_book.specs.Limits.{IsQuorum};
@@ -53,11 +53,25 @@ impl<J: Naming> Model for Resting<J> {
     ghost invariant = { λ c. GoTogether J.ring J.n c.shares.items c.rests.items };
 }
 
-/// The audit of a cluster that was closed, and what its nodes kept.
+/// The audit of a cluster that was closed, what its nodes kept, and the options of its book.
 #[derive(Drop)]
 pub struct Closed {
     pub audit: Audit,
     pub rests: Vec<Rest>,
+    pub options: Options,
+}
+
+// Refuses options of another cluster. They never are: nobody changes a book's options. But of a
+// book that lay under its lock no clause says so.
+pub(crate) fn check_options(own: Options, given: Options) -> Result<(), Fault>
+    ensures same { OnOk result (own ≡ given) }
+    ensures only { IsOkUnless result Fault.SharesMissing }
+{
+    if own == given {
+        Ok(())
+    } else {
+        Err(Fault::SharesMissing)
+    }
 }
 
 /// Why a cluster wasn't closed. The cluster, at rest, and the sessions come back.
@@ -107,10 +121,15 @@ impl<J: Naming> Resting<J> {
             locks,
         } = self;
         book.log_is_legal();
+        let own = book.options();
         match book.close(shares, sessions) {
             Ok(audit) => {
                 locks.destroy_empty();
-                Ok(Closed { audit, rests })
+                Ok(Closed {
+                    audit,
+                    rests,
+                    options: own,
+                })
             }
             Err(refused) => {
                 let CloseRefused {

@@ -1,4 +1,4 @@
-// Seats: the clients' numbers and sessions.
+// Seats: the clients' numbers, sessions and answers.
 ghost use Rattle.std.specs.Prelude.{◌≡◌, ◌≤◌, ◌<◌, ◌+◌, ℕ, [], length, vec_len, vec_capacity};
 ghost use Rattle.std.specs.Prelude.{true, false, IsTrue, IsSome};
 ghost use Rattle.std.specs.List.{All};
@@ -6,11 +6,13 @@ ghost use Rattle.std.specs.Option.{ForSome};
 ghost use Rattle.dy_dots.specs.declared.nodes.TheConstants.{MAX_NODES};
 ghost use Rattle.dy_shares.specs.Shares.{SessionPart};
 ghost use Rattle.dy_cluster.specs.Settings.{setting};
-ghost use Rattle.dy_cluster.specs.Tellings.{AreTold, IsUntold, as_fact};
+ghost use Rattle.dy_cluster.specs.Tellings.{AreAnswered, ClientAnswer, IsUntold, SaysToo};
+ghost use Rattle.dy_cluster.specs.Tellings.{as_answered};
 
 use crate::clusters::Cluster;
 use crate::connections::Connection;
 use crate::embedding::Client;
+use dy_dots::Fault;
 use dy_mailboxes::Post;
 use dy_shares::{Naming, SessionShare};
 use dy_transport::Transport;
@@ -18,32 +20,33 @@ use std::alloc::Global;
 use std::marker::{Brand, PhantomData};
 use std::sync::{Mutex, Wait};
 
-// What holds of the lists of clients' sessions, by their numbers. The function that runs the
-// clients picks it, since of what threads leave behind only the type is known.
+// What holds of clients' answers and of the lists of their sessions, by their numbers. The function
+// that runs the clients picks it, since of what threads leave behind only the type is known.
 pub(crate) trait Telling {
-    ghost told: { ℕ → SessionPart → Type 0 };
+    ghost told: { ℕ → ClientAnswer → SessionPart → Type 0 };
 }
 
 impl Telling for Brand {
-    ghost told = { λ number telling. Unit {0} };
+    ghost told = { λ number answer telling. Unit {0} };
 }
 
-// A client's number and session, and whether the client has run.
+// A client's number and session, whether the client has run, and what it answered then.
 pub(crate) struct Seat<J: Naming, T: Telling> {
     number: usize,
     // Always there, except while the client runs.
     session: Option<SessionShare<J>>,
     has_run: bool,
+    answer: Result<(), Fault>,
     telling: PhantomData<T>,
     ghost few: { number < 255 },
     ghost there: { IsSome session },
     ghost untold: { has_run ≡ false → ForSome session IsUntold },
-    ghost told: { has_run ≡ true → ForSome session (as_fact T.told number) },
+    ghost told: { has_run ≡ true → ForSome session (as_answered T.told number answer) },
 }
 
 // What a client's thread needs of its seat. It can be sent to that thread.
 pub(crate) trait Place<J: Naming> {
-    ghost told: { ℕ → SessionPart → Type 0 };
+    ghost told: { ℕ → ClientAnswer → SessionPart → Type 0 };
 
     // Runs the client once, over the post, which is dropped then; without a post on its own thread.
     // If memory for its transport is wanting, it does not run. May wait for whatever the client
@@ -56,9 +59,8 @@ pub(crate) trait Place<J: Naming> {
         client: &C,
         post: &mut Option<Post<J>>,
     )
-        requires tells { (number : ℕ) (telling : SessionPart) →
-            C.told (setting J J.ring J.n J.r cluster.now.options) client.now number telling →
-            told number telling };
+        requires tells { SaysToo
+            (C.told (setting J J.ring J.n J.r cluster.now.options) client.now) told };
 }
 
 impl<J: Naming, T: Telling> Place<J> for Seat<J, T> {
@@ -102,20 +104,23 @@ impl<J: Naming, T: Telling> Seat<J, T> {
     )
         requires room { MAX_NODES ≤ (M.told transport).room }
         requires fresh { self.old.has_run ≡ false }
-        requires tells { (number : ℕ) (telling : SessionPart) →
-            C.told (setting J J.ring J.n J.r cluster.now.options) client.now number telling →
-            T.told number telling }
+        requires tells { SaysToo
+            (C.told (setting J J.ring J.n J.r cluster.now.options) client.now) T.told }
         ensures told { self.new.has_run ≡ true → ForSome self.new.session
-            (C.told (setting J J.ring J.n J.r cluster.now.options) client.now self.new.number) }
+            (C.told (setting J J.ring J.n J.r cluster.now.options) client.now self.new.number
+            self.new.answer) }
     {
         let Some(session) = self.session.take() else {
             return;
         };
         let mut connection = Connection::new(cluster, session, transport);
-        client.run(rt, alloc, self.number, &mut connection);
+        let answer = client.run(rt, alloc, self.number, &mut connection);
         let (session, _transport) = connection.into_parts();
         match self.session.replace(session) {
-            None => self.has_run = true,
+            None => {
+                self.answer = answer;
+                self.has_run = true;
+            }
             Some(_other) => unreachable!(),
         }
     }
@@ -158,21 +163,27 @@ fn seat_next<J: Naming, T: Telling>(
         number,
         session: Some(session),
         has_run: false,
+        answer: Ok(()),
         telling: PhantomData,
     }));
 }
 
-// Each session leaves its seat, number 0 first. Gives whether each client has run, and had the
-// number of its seat.
+// Each session leaves its seat with the client's answer, number 0 first. Gives whether each client
+// has run, and had the number of its seat.
 pub(crate) fn rise_all<J: Naming, T: Telling>(
     seats: &mut Vec<Mutex<Seat<J, T>>>,
     sessions: &mut Vec<SessionShare<J>>,
+    answers: &mut Vec<Result<(), Fault>>,
 ) -> bool
     requires none { sessions.old.items ≡ [] }
+    requires no_answers { answers.old.items ≡ [] }
     requires room { vec_len seats.old ≤ vec_capacity sessions.old }
+    requires answers_room { vec_len seats.old ≤ vec_capacity answers.old }
     ensures emptied { vec_len seats.new ≡ 0 }
     ensures count { length sessions.new.items ≡ vec_len seats.old }
-    ensures told { IsTrue result → AreTold (as_fact T.told) sessions.new.items }
+    ensures answers { length answers.new.items ≡ vec_len seats.old }
+    ensures told { IsTrue result →
+        AreAnswered (as_answered T.told) answers.new.items sessions.new.items }
 {
     let mut are_told = true;
     while let Some(lock) = seats.pop() {
@@ -180,6 +191,7 @@ pub(crate) fn rise_all<J: Naming, T: Telling>(
             number,
             session,
             has_run,
+            answer,
             telling: _,
         } = lock.into_inner();
         are_told = are_told & has_run & (number == sessions.len());
@@ -187,6 +199,7 @@ pub(crate) fn rise_all<J: Naming, T: Telling>(
             unreachable!()
         };
         sessions.push_reserved(session);
+        answers.push_reserved(answer);
     }
     are_told
 }

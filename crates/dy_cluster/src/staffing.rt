@@ -1,23 +1,22 @@
 // Clients in threads of their own, beside the nodes' workers or without.
-ghost use Rattle.std.specs.Prelude.{◌≡◌, ◌↔◌, ◌⊎◌, ℕ, [], List, length, IsTrue};
+ghost use Rattle.std.specs.Prelude.{◌≡◌, ◌↔◌, ◌⊎◌, [], length, IsTrue};
 ghost use Rattle.std.specs.Prelude.{IfOk, IfErr, IsErrOf, IsOk, IsOkUnless};
 ghost use Rattle.std.specs.List.{All};
 ghost use Rattle.std.specs.declared.marker.Brand.{Brand as BrandParts};
 ghost use Rattle.dy_book.specs.Limits.{AreLimits, IsQuorum};
-ghost use Rattle.dy_shares.specs.Shares.{SessionPart};
-ghost use Rattle.dy_cluster.specs.Ends.{IsClosed};
 ghost use Rattle.dy_cluster.specs.Named.{NamesBook};
 ghost use Rattle.dy_cluster.specs.Refusals.{IsRunRefusal};
-ghost use Rattle.dy_cluster.specs.Settings.{Setting, setting};
-ghost use Rattle.dy_cluster.specs.Stores.{TellsAcks, TellsStores};
-ghost use Rattle.dy_cluster.specs.Tellings.{AreTold, IsUntold, as_fact};
+ghost use Rattle.dy_cluster.specs.Runs.{HaveRun};
+ghost use Rattle.dy_cluster.specs.Settings.{setting};
+ghost use Rattle.dy_cluster.specs.Stores.{TellsStores};
+ghost use Rattle.dy_cluster.specs.Tellings.{AreAnswered, IsUntold, SaysToo, as_answered};
 
+use crate::clients_dones::ClientsDone;
 use crate::clusters::Cluster;
 use crate::crews::{mail_for, run_beside, run_staffed};
 use crate::embedding::Client;
 use crate::openings::Opened;
 use crate::operators::{Nobody, Operator};
-use crate::restings::Closed;
 use crate::seats::{Seat, Telling, rise_all, seat_all};
 use dy_book::Options;
 use dy_dots::Fault;
@@ -42,29 +41,50 @@ pub fn with_workers<C: Client + Sync, G: Gate + Sync, R: Threads + Wait + Sync>(
     gate: &G,
     clients: u8,
     client: &C,
-) -> Result<Closed, Fault>
-    ensures stores { IfOk result (TellsStores ring options.n) }
-    ensures acks { IfOk result (λ closed. (tellings : List SessionPart)
-        × TellsAcks tellings closed × (length tellings ≡ clients)
-        × AreTold (as_fact (C.told (setting BrandParts ring options.n options.r options)
-        client.now)) tellings) }
-    ensures closed { IfOk result (λ closed. (tellings : List SessionPart)
-        × IsClosed ring options.n options.r tellings closed × (length tellings ≡ clients)
-        × AreTold (as_fact (C.told (setting BrandParts ring options.n options.r options)
-        client.now)) tellings) }
+) -> Result<ClientsDone, Fault>
+    ensures stores { IfOk result (λ done. TellsStores ring options.n done.closed) }
+    ensures closed { IfOk result (HaveRun ring options clients
+        (C.told (setting BrandParts ring options.n options.r options) client.now)) }
+    ensures too_many { ¬ (AreLimits options) → IsErrOf result Fault.TooMany }
+    ensures bad_quorum { IsErrOf result Fault.BadQuorum
+        ↔ (AreLimits options × ¬ (IsQuorum options ring.nodes)) }
+    ensures only { IfErr result (λ fault. (fault ≡ Fault.BadQuorum) ⊎ IsRunRefusal fault) }
+{
+    let (gate, operator) = (Some(gate), None);
+    run_opened::<C, G, Nobody, R>(rt, alloc, ring, options, gate, operator, clients, client)
+}
+
+// Opens a cluster on the ring, picks a name for it, and runs the clients. With a gate workers run
+// beside them, and with an operator that one too.
+pub(crate) fn run_opened<
+    C: Client + Sync,
+    G: Gate + Sync,
+    O: Operator + Sync,
+    R: Threads + Wait + Sync,
+>(
+    rt: &R,
+    alloc: Global,
+    ring: Ring,
+    options: Options,
+    gate: Option<&G>,
+    operator: Option<&O>,
+    clients: u8,
+    client: &C,
+) -> Result<ClientsDone, Fault>
+    ensures stores { IfOk result (λ done. TellsStores ring options.n done.closed) }
+    ensures closed { IfOk result (HaveRun ring options clients
+        (C.told (setting BrandParts ring options.n options.r options) client.now)) }
     ensures too_many { ¬ (AreLimits options) → IsErrOf result Fault.TooMany }
     ensures bad_quorum { IsErrOf result Fault.BadQuorum
         ↔ (AreLimits options × ¬ (IsQuorum options ring.nodes)) }
     ensures only { IfErr result (λ fault. (fault ≡ Fault.BadQuorum) ⊎ IsRunRefusal fault) }
 {
     let opened = Opened::new(alloc, ring, options)?;
-    let operator = None;
-    run_clients::<Brand, C, G, Nobody, R>(rt, alloc, opened, Some(gate), operator, clients, client)
+    run_clients::<Brand, C, G, O, R>(rt, alloc, opened, gate, operator, clients, client)
 }
 
-// Opens a cluster of the picked name, runs the clients, and closes it. With a gate workers run
-// beside them, and with an operator that one too.
-pub(crate) fn run_clients<
+// Opens a cluster of the picked name, runs the clients, and closes it.
+fn run_clients<
     J: Naming + Send + Sync,
     C: Client + Sync,
     G: Gate + Sync,
@@ -78,23 +98,17 @@ pub(crate) fn run_clients<
     operator: Option<&O>,
     clients: u8,
     client: &C,
-) -> Result<Closed, Fault>
+) -> Result<ClientsDone, Fault>
     requires named { NamesBook J.book J.table J.ring J.n J.r opened }
-    ensures stores { IfOk result (TellsStores opened.ring opened.options.n) }
-    ensures acks { IfOk result (λ closed. (tellings : List SessionPart)
-        × TellsAcks tellings closed × (length tellings ≡ clients)
-        × AreTold (as_fact (C.told (setting J opened.ring opened.options.n opened.options.r
-        opened.options) client.now)) tellings) }
-    ensures closed { IfOk result (λ closed. (tellings : List SessionPart)
-        × IsClosed opened.ring opened.options.n opened.options.r tellings closed
-        × (length tellings ≡ clients)
-        × AreTold (as_fact (C.told (setting J opened.ring opened.options.n opened.options.r
-        opened.options) client.now)) tellings) }
+    ensures stores { IfOk result (λ done. TellsStores opened.ring opened.options.n done.closed) }
+    ensures closed { IfOk result (HaveRun opened.ring opened.options clients
+        (C.told (setting J opened.ring opened.options.n opened.options.r opened.options)
+        client.now)) }
     ensures only { IfErr result IsRunRefusal }
 {
     let cluster = Cluster::<J>::open(alloc, opened)?;
     let mut sessions = Vec::new(alloc);
-    let done = run_seated::<J, Brand, C, G, O, R>(
+    let answered = run_seated::<J, Brand, C, G, O, R>(
         rt,
         alloc,
         &cluster,
@@ -104,16 +118,13 @@ pub(crate) fn run_clients<
         clients,
         client,
     );
-    match cluster.close(sessions) {
-        Ok(closed) => {
-            done?;
-            Ok(closed)
-        }
-        Err(refused) => Err(refused.abandon()),
-    }
+    let closed = cluster.end(sessions)?;
+    let answers = answered?;
+    Ok(ClientsDone { closed, answers })
 }
 
 // Opens a session for each client, and runs them. Afterwards the sessions are in the list again.
+// Gives what each client answered.
 fn run_seated<
     J: Naming + Send + Sync,
     T: Telling + Send + Sync,
@@ -130,16 +141,18 @@ fn run_seated<
     sessions: &mut Vec<SessionShare<J>>,
     clients: u8,
     client: &C,
-) -> Result<(), Fault>
+) -> Result<Vec<Result<(), Fault>>, Fault>
     requires none { sessions.old.items ≡ [] }
-    requires tells { (number : ℕ) (telling : SessionPart) →
-        C.told (setting J J.ring J.n J.r cluster.now.options) client.now number telling →
-        T.told number telling }
+    requires tells { SaysToo
+        (C.told (setting J J.ring J.n J.r cluster.now.options) client.now) T.told }
     ensures ok { IfOk result (λ _. length sessions.new.items ≡ clients) }
-    ensures told { IfOk result (λ _. AreTold (as_fact T.told) sessions.new.items) }
+    ensures answers { IfOk result (λ answers. length answers.items ≡ clients) }
+    ensures told { IfOk result (λ answers.
+        AreAnswered (as_answered T.told) answers.items sessions.new.items) }
     ensures only { IfErr result IsRunRefusal }
 {
     seat_clients(rt, cluster, sessions, clients)?;
+    let mut answers = Vec::with_capacity(alloc, sessions.len())?;
     let mail = match gate {
         Some(_gate) => Some(mail_for(alloc, cluster, clients)?),
         None => None,
@@ -156,9 +169,10 @@ fn run_seated<
             true
         }
     };
-    let have_run = rise_all(&mut seats, sessions);
+    let have_run = rise_all(&mut seats, sessions, &mut answers);
     seats.destroy_empty();
-    end_of(is_staffed, have_run)
+    end_of(is_staffed, have_run)?;
+    Ok(answers)
 }
 
 // Opens a session for each client.

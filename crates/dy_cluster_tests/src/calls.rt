@@ -8,8 +8,8 @@ use dy_handoff::worker;
 use std::alloc::Global;
 use std::sync::Wait;
 
-// What a get gave: how many homes' rows were used, the letter that is the one value, and the answers
-// as a text. Where there is no such letter it is 0.
+// What a get gave: how many homes' rows were used, the letter that is the one value, and the
+// answers as a text. Where there is no such letter it is 0.
 #[derive(Drop)]
 pub struct Got {
     pub homes: usize,

@@ -62,5 +62,6 @@ pub fn with_five_workers<S: Scene + Sync, R: Threads + Wait + Sync>(
 ) -> Result<Closed, Fault> {
     let ring = five_nodes(alloc)?;
     let played = Played { scene };
-    with_workers(rt, alloc, ring, options(), &played, clients, &played)
+    let done = with_workers(rt, alloc, ring, options(), &played, clients, &played)?;
+    Ok(done.closed)
 }

@@ -39,8 +39,8 @@ impl<S: Scene> Client for Played<'_, S> {
         alloc: Global,
         number: usize,
         connection: &mut Connection<'_, J, T>,
-    ) {
-        let _ = self.scene.call(rt, alloc, number, connection);
+    ) -> Result<(), Fault> {
+        self.scene.call(rt, alloc, number, connection)
     }
 }
 

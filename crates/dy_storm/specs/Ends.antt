@@ -23,12 +23,13 @@ abbrev pub CountsAll : ℕ → ℕ → Counts → Type 0
 CountsAll clients turns counts =
     counts.acked + counts.gets + counts.refused ≡ 2 * clients * turns
 
--- a cluster of the ring was closed with the session of each client, which made all its turns; the
--- counts are of what these sessions were told, and of each turn
+-- a cluster of the ring and the storm's options was closed with the session of each client, which
+-- made all its turns; the counts are of what these sessions were told, and of each turn
 pub record IsStormed (book : Type 0) (ring : Tokens) (n r : ℕ) (plan : Storm) (done : StormDone)
     : Type 0 where
   pub tellings : List SessionPart
   pub closed : IsClosed ring n r tellings done.closed
+  pub options : done.closed.options ≡ storm_options
   pub sessions : length tellings ≡ plan.threads
   pub turns : AreTold (as_fact (λ number telling. AreTurns (setting book ring n r storm_options)
       (generator_of ((plan.seed + number) % 2 ^ 64)) number plan.puts telling)) tellings

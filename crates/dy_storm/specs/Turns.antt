@@ -29,8 +29,8 @@ pub record HasGot (J : Type 0) (list : Preferred) (r : ℕ) (key : List ℕ) (do
   pub got : IsGot list key r (since_of before) told done
   pub heard : after ≡ with_get before (since_of before) (first_answers done.seen.items)
 
--- what the get found stale is mended, as the transport then tells, if the connection says so; and
--- it says so where nothing was stale
+-- what the get found stale is mended, as the transport then tells, if it is said so; and it is said
+-- so where nothing was stale
 pub record MendsAsSaid (J : Type 0) (list : Preferred) (done : GetDone J) (told after : Told J)
     (is_mended : Bool) : Type 0 where
   pub mended : IsTrue is_mended → IsMended (homes_in list) done.row done.seen.items told after
@@ -61,7 +61,7 @@ IsPutOf J list key context value before after =
     HasPut J list key context value before after ⊎ (after ≡ before)
 
 -- a turn gets the key, mends what was stale, and then puts this value with the context of the get,
--- which is empty where the get was refused; the connection then says whether the get was mended
+-- which is empty where the get was refused; it is said whether the get was mended
 pub record IsTurnOf (s : Setting) (key value : List ℕ) (before after : SessionPart)
     (is_mended : Bool) : Type 0 where
   pub context : Option DotSet

@@ -7,7 +7,7 @@ ghost use Rattle.dy_storm.specs.Turns.{AreTurns};
 use crate::outages::Outages;
 use crate::plans::Storm;
 use crate::turns::Player;
-use dy_cluster::{Client, Connection, Naming, Transport};
+use dy_cluster::{Client, Connection, Fault, Naming, Transport};
 use dy_draws::draw;
 use rand_pcg::Lcg64Xsh32;
 use rand_pcg::rand_core::SeedableRng;
@@ -54,7 +54,7 @@ impl Clients {
         let mut generator = Lcg64Xsh32::seed_from_u64(seed);
         for _ in 0..self.plan.puts {
             let key = draw(&mut generator, KEYS);
-            player.play(rt, alloc, connection, key);
+            let _is_mended = player.play(rt, alloc, connection, key);
             if self.plan.faults {
                 self.outages.rounds.count(rt);
             }
@@ -63,18 +63,19 @@ impl Clients {
 }
 
 impl Client for Clients {
-    ghost told = { λ setting clients number telling.
+    ghost told = { λ setting clients number answer telling.
         AreTurns setting (generator_of ((clients.plan.seed + number) % 2 ^ 64)) number
         clients.plan.puts telling };
 
-    /// Makes its turns. May wait for answers and locks.
+    /// Makes its turns, whatever is refused. May wait for answers and locks.
     fn run<J: Naming, T: Transport<J>, R: Wait>(
         &self,
         rt: &R,
         alloc: Global,
         number: usize,
         connection: &mut Connection<'_, J, T>,
-    ) {
+    ) -> Result<(), Fault> {
         self.make_turns(rt, alloc, &mut Player::new(number), connection);
+        Ok(())
     }
 }

@@ -1,12 +1,10 @@
-ghost use Rattle.std.specs.Prelude.{◌≡◌, ◌+◌, ◌%◌, ◌^◌, List, length, IfOk, IfErr};
+ghost use Rattle.std.specs.Prelude.{◌≡◌, ◌+◌, ◌%◌, ◌^◌, IfOk, IfErr};
 ghost use Rattle.std.specs.declared.marker.Brand.{Brand as BrandParts};
 ghost use Rattle.dy_ring.specs.Rings.{Tokens};
 ghost use Rattle.dy_ring.specs.Lists.{IsRingOf};
-ghost use Rattle.dy_shares.specs.Shares.{SessionPart};
-ghost use Rattle.dy_cluster.specs.Ends.{IsClosed};
 ghost use Rattle.dy_cluster.specs.Refusals.{IsRunRefusal};
+ghost use Rattle.dy_cluster.specs.Runs.{HaveRun};
 ghost use Rattle.dy_cluster.specs.Settings.{setting};
-ghost use Rattle.dy_cluster.specs.Tellings.{AreTold, as_fact};
 ghost use Rattle.dy_storm.specs.Clusters.{five_tokens, storm_options};
 ghost use Rattle.dy_storm.specs.Ends.{IsStormed};
 ghost use Rattle.dy_storm.specs.Seeds.{generator_of};
@@ -16,7 +14,7 @@ use crate::clients::Clients;
 use crate::counts::Counts;
 use crate::plans::Storm;
 use crate::rings::{five_nodes, options};
-use dy_cluster::{Closed, Fault, Ring, with_operator, with_workers};
+use dy_cluster::{ClientsDone, Closed, Fault, Ring, with_operator, with_workers};
 use dy_mailboxes::Open;
 use std::alloc::Global;
 use std::sync::Wait;
@@ -59,7 +57,7 @@ pub(crate) fn storm_on<R: Threads + Wait + Sync>(
     ensures only { IfErr result IsRunRefusal }
 {
     let clients = Clients::new(plan);
-    let closed = run(rt, alloc, ring, &clients)?;
+    let closed = run(rt, alloc, ring, &clients)?.closed;
     let counts = Counts::of(plan, &closed.audit);
     Ok(StormDone {
         counts,
@@ -75,13 +73,12 @@ fn run<R: Threads + Wait + Sync>(
     alloc: Global,
     ring: Ring,
     clients: &Clients,
-) -> Result<Closed, Fault>
+) -> Result<ClientsDone, Fault>
     requires nodes { IsRingOf five_tokens ring }
-    ensures closed { IfOk result (λ closed. (tellings : List SessionPart)
-        × IsClosed ring 3 2 tellings closed × (length tellings ≡ clients.now.plan.threads)
-        × AreTold (as_fact (λ number telling. AreTurns (setting BrandParts ring 3 2 storm_options)
+    ensures run { IfOk result (HaveRun ring storm_options clients.now.plan.threads
+        (λ number answer telling. AreTurns (setting BrandParts ring 3 2 storm_options)
         (generator_of ((clients.now.plan.seed + number) % 2 ^ 64)) number clients.now.plan.puts
-        telling)) tellings) }
+        telling)) }
     ensures only { IfErr result IsRunRefusal }
 {
     let threads = clients.plan.threads;

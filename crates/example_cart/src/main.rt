@@ -18,7 +18,7 @@ mod states;
 use crate::carts::text_at;
 use crate::shops::Shop;
 use dy_cluster::{
-    Closed, Fault, Open, Options, Ring, session_guarantees, with_clients, with_workers,
+    ClientsDone, Fault, Open, Options, Ring, session_guarantees, with_clients, with_workers,
 };
 use std::alloc::Global;
 use std::sync::Wait;
@@ -30,15 +30,22 @@ fn main(rt: HostRuntime) -> std::io::Result<()> {
         let (gone, found) = (AtomicUsize::new(0), AtomicUsize::new(0));
         let shop = Shop { gone, found };
         match open(&rt, rt.alloc(), by_workers, &shop) {
-            Ok(closed) => tell(&rt, &shop, &closed)?,
+            Ok(done) => tell(&rt, &shop, &done)?,
             Err(fault) => println!(rt; "refused: {fault}")?,
         }
     }
     Ok(())
 }
 
-/// Prints what the last client found, and of each key that its homes alone hold what they have.
-fn tell(rt: &HostRuntime, shop: &Shop, closed: &Closed) -> std::io::Result<()> {
+/// Prints which clients were refused, what the last client found, and of each key that its homes
+/// alone hold what they have.
+fn tell(rt: &HostRuntime, shop: &Shop, done: &ClientsDone) -> std::io::Result<()> {
+    for (number, answer) in done.answers.iter().enumerate() {
+        if let Err(fault) = answer {
+            println!(rt; "client {number}: {fault}")?;
+        }
+    }
+    let closed = &done.closed;
     let (puts, gets) = (closed.audit.acks, closed.audit.gets);
     let found = shop.found.load(Ordering::SeqCst);
     println!(rt;
@@ -60,7 +67,7 @@ fn open<R: Threads + Wait + Sync>(
     alloc: Global,
     by_workers: bool,
     shop: &Shop,
-) -> Result<Closed, Fault> {
+) -> Result<ClientsDone, Fault> {
     let ring = Ring::derived(alloc, 5, 8)?;
     run(rt, alloc, ring, Options::of(3, 2, 2), by_workers, shop)
 }
@@ -76,14 +83,14 @@ fn run<R: Threads + Wait + Sync>(
     options: Options,
     by_workers: bool,
     shop: &Shop,
-) -> Result<Closed, Fault>
-    ensures covered { IfOk result (λ closed. (x : Acked) → ListsAck closed.audit x →
-        AreCovering ring options.n closed.rests.items x.key x.dot x.w) }
-    ensures own_writes { IfOk result (λ closed. (tellings : List SessionPart)
-        × IsClosed ring options.n options.r tellings closed
+) -> Result<ClientsDone, Fault>
+    ensures covered { IfOk result (λ done. (x : Acked) → ListsAck done.closed.audit x →
+        AreCovering ring options.n done.closed.rests.items x.key x.dot x.w) }
+    ensures own_writes { IfOk result (λ done. (tellings : List SessionPart)
+        × IsClosed ring options.n options.r tellings done.closed
         × All (ReadsOwnWrites ring options.n options.r) tellings) }
-    ensures deleted { IfOk result (λ closed. (tellings : List SessionPart)
-        × IsClosed ring options.n options.r tellings closed
+    ensures deleted { IfOk result (λ done. (tellings : List SessionPart)
+        × IsClosed ring options.n options.r tellings done.closed
         × ((other : SessionPart) → Contains tellings other →
         All (GivesNothingDeleted other) tellings)) }
 {

@@ -7,8 +7,8 @@ use std::sync::Wait;
 /// What each shopper puts into the cart: an item without a look, and one after a look.
 const ITEMS: [(&str, &str); 3] = [("bread", "butter"), ("milk", "honey"), ("eggs", "salt")];
 
-/// Logs in and fills the cart while a node is down, and logs out once it is back; but the last of
-/// the three, who forgets to.
+/// Shops while a node is down, and logs out once it is back; but the last of the three, who forgets
+/// to.
 pub(crate) fn visit<J: Naming, T: Transport<J>, R: Wait>(
     rt: &R,
     alloc: Global,
@@ -16,18 +16,37 @@ pub(crate) fn visit<J: Naming, T: Transport<J>, R: Wait>(
     login: &Key,
     number: usize,
 ) -> Result<(), Fault> {
-    let cart = Key::new(alloc, CART)?;
-    let (mut seen, mut none) = (Context::new(alloc), Context::new(alloc));
-    let (first, second) = ITEMS[number % 3];
+    let mut seen = Context::new(alloc);
     set_up(rt, connection.cluster(), number % 3, false);
-    let _ = put(rt, alloc, connection, login, &mut seen, "here");
-    let _ = put(rt, alloc, connection, &cart, &mut none, first);
-    let _ = add(rt, alloc, connection, &cart, second);
+    let shopped = shop(rt, alloc, connection, login, &mut seen, ITEMS[number % 3]);
     set_up(rt, connection.cluster(), number % 3, true);
+    shopped?;
     if number < 2 {
-        let _ = clear(rt, alloc, connection, login, &mut seen);
+        clear(rt, alloc, connection, login, &mut seen)?;
     }
     Ok(())
+}
+
+/// Logs in, and puts two items into the cart.
+fn shop<J: Naming, T: Transport<J>, R: Wait>(
+    rt: &R,
+    alloc: Global,
+    connection: &mut Connection<'_, J, T>,
+    login: &Key,
+    seen: &mut Context,
+    items: (&str, &str),
+) -> Result<(), Fault> {
+    let cart = Key::new(alloc, CART)?;
+    put(rt, alloc, connection, login, seen, "here")?;
+    put(
+        rt,
+        alloc,
+        connection,
+        &cart,
+        &mut Context::new(alloc),
+        items.0,
+    )?;
+    add(rt, alloc, connection, &cart, items.1)
 }
 
 /// The node goes down, or comes up, where the ring has it.
@@ -45,7 +64,7 @@ fn add<J: Naming, T: Transport<J>, R: Wait>(
     key: &Key,
     item: &str,
 ) -> Result<(), Fault> {
-    let done = connection.get(rt, key)?;
+    let done = connection.get(rt, key)?.done;
     let cart = united(alloc, &done.row, item)?;
     let value = Value::new(alloc, cart.as_bytes())?;
     connection.put(rt, key, &done.context, value)?;

@@ -1,6 +1,6 @@
 use crate::shoppers::visit;
 use crate::states::{beat, clear, reconcile};
-use dy_cluster::{Client, Connection, Context, Key, Naming, Transport};
+use dy_cluster::{Client, Connection, Context, Fault, Key, Naming, Transport};
 use std::alloc::Global;
 use std::sync::Wait;
 use std::sync::atomic::{AtomicUsize, Ordering};
@@ -23,18 +23,28 @@ impl Client for Shop {
         alloc: Global,
         number: usize,
         connection: &mut Connection<'_, J, T>,
-    ) {
-        // What can't be put is missing in what is told at the end.
-        if let Ok(key) = Key::new(alloc, NAMES[number % 5].as_bytes()) {
-            if number < 3 {
-                let _ = visit(rt, alloc, connection, &key, number);
-            } else {
-                beat(rt, alloc, connection, &key, number == 3);
-            }
-        }
+    ) -> Result<(), Fault> {
+        let done = call(rt, alloc, number, connection);
+        // Whoever was refused has gone, too.
         if self.gone.fetch_add(1, Ordering::SeqCst) == 4 {
-            self.lock_up(rt, alloc, connection);
+            self.lock_up(rt, alloc, connection)?;
         }
+        done
+    }
+}
+
+// What the client of this number came for.
+fn call<J: Naming, T: Transport<J>, R: Wait>(
+    rt: &R,
+    alloc: Global,
+    number: usize,
+    connection: &mut Connection<'_, J, T>,
+) -> Result<(), Fault> {
+    let key = Key::new(alloc, NAMES[number % 5].as_bytes())?;
+    if number < 3 {
+        visit(rt, alloc, connection, &key, number)
+    } else {
+        beat(rt, alloc, connection, &key, number == 3)
     }
 }
 
@@ -46,22 +56,22 @@ impl Shop {
         rt: &R,
         alloc: Global,
         connection: &mut Connection<'_, J, T>,
-    ) {
+    ) -> Result<(), Fault> {
         let cluster = connection.cluster();
         for number in 0..usize::from(cluster.nodes()) {
             if let Some(node) = cluster.node(number) {
-                let _ = cluster.handoff(rt, node);
+                cluster.handoff(rt, node)?;
             }
         }
         for number in 0..5usize {
-            if let Ok(key) = Key::new(alloc, NAMES[number].as_bytes()) {
-                let ended = if number < 3 {
-                    clear(rt, alloc, connection, &key, &mut Context::new(alloc))
-                } else {
-                    reconcile(rt, alloc, connection, &key)
-                };
-                self.found.fetch_add(ended.unwrap_or(0), Ordering::SeqCst);
-            }
+            let key = Key::new(alloc, NAMES[number].as_bytes())?;
+            let ended = if number < 3 {
+                clear(rt, alloc, connection, &key, &mut Context::new(alloc))?
+            } else {
+                reconcile(rt, alloc, connection, &key)?
+            };
+            self.found.fetch_add(ended, Ordering::SeqCst);
         }
+        Ok(())
     }
 }

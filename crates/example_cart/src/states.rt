@@ -26,7 +26,7 @@ pub(crate) fn look<J: Naming, T: Transport<J>, R: Wait>(
     key: &Key,
     seen: &mut Context,
 ) -> Result<Cart, Fault> {
-    let done = connection.get(rt, key)?;
+    let done = connection.get(rt, key)?.done;
     seen.union(alloc, &done.context)?;
     all_of(alloc, &done.row)
 }
@@ -67,14 +67,15 @@ pub(crate) fn beat<J: Naming, T: Transport<J>, R: Wait>(
     connection: &mut Connection<'_, J, T>,
     key: &Key,
     looks: bool,
-) {
+) -> Result<(), Fault> {
     let mut seen = Context::new(alloc);
     for state in ["1", "2", "3"] {
         if looks {
-            let _ = look(rt, alloc, connection, key, &mut seen);
+            look(rt, alloc, connection, key, &mut seen)?;
         } else {
             seen = Context::new(alloc);
         }
-        let _ = put(rt, alloc, connection, key, &mut seen, state);
+        put(rt, alloc, connection, key, &mut seen, state)?;
     }
+    Ok(())
 }

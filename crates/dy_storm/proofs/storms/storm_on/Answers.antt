@@ -8,13 +8,13 @@ use Rattle.dy_storm.proofs.storms.storm_on.Goals as goal
 -- the sessions were told no more than two for each turn
 pub of-counts-requires : goal.of-counts-requires
 of-counts-requires g c =
-    let closed = c.in_ok-closed.ensures.closed in
-    let tells = closed.1.1.audit.tells in
+    let ran = c.in_ok-closed.ensures.run in
+    let tells = ran.closed.1.audit.tells in
     let plan = c.new-clients.result.plan in
     let threads = plan.threads in
-    let most : count_acks closed.0 + count_gets closed.0 ≤ 2 * threads * plan.puts =
+    let most : count_acks ran.tellings + count_gets ran.tellings ≤ 2 * threads * plan.puts =
     turns_most _ (λ number. generator_of ((plan.seed + number) % 2 ^ 64)) threads plan.puts
-    closed.0 closed.2 closed.3 in
+    ran.tellings ran.sessions (λ number telling there. (ran.told number telling there).2) in
     let same : 2 * threads * plan.puts ≡ 2 * c.args.plan.threads * c.args.plan.puts =
     ap (λ (p : Storm). 2 * p.threads * p.puts) c.new-clients.ensures in
     record { most = omega (arith, tells.acks, tells.gets, most, same) }

@@ -26,12 +26,13 @@ mends J ring n key done told after is_mended same mended current = record {
 -- what the connection answered, and what its mending did
 pub returns-in-Ok : goal.returns-in-Ok
 returns-in-Ok g c =
-    let is = c.in-Ok.ensures in (
-      c.in-Ok.done,
+    let is = c.in-Ok.ensures in
+    let done = c.in-Ok.got.done in
+    rw c.got_of.ensures.context (rw c.got_of.ensures.mended (
+      done,
       refl,
       (
         record { told = is.ok.0; got = is.ok.1; heard = is.told },
-        mends _ g.J.Naming.ring g.J.Naming.n _ c.in-Ok.done is.ok.0 _ _ is.ok.1.row_key is.ok.2
-            is.current,
+        mends _ g.J.Naming.ring g.J.Naming.n _ done is.ok.0 _ _ is.ok.1.row_key is.ok.2 is.current,
       ),
-    )
+    ))

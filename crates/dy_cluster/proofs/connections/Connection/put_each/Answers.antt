@@ -34,7 +34,6 @@ loop-present-preserved g c =
       left = grind (arith, common_steps);
       count_is = omega arith;
       w_is = c.put_present.ensures.w ∙ c.loop-present.invariant.w_is;
-      mended_is = c.put_present.ensures.mended ∙ c.loop-present.invariant.mended_is;
     }
 
 -- the put of the next value was refused, and told the session nothing

@@ -11,5 +11,4 @@ invariant-loop-present g l = record {
   left : l.copies.items ≡ map (λ x. x.value) (drop l.present-index l.values);
   count_is : l.count ≡ l.present-index;
   w_is : l.self.w ≡ l.initial.self.w;
-  mended_is : l.self.is_mended ≡ l.initial.self.is_mended;
 }

@@ -1,4 +1,4 @@
-use Rattle.dy_cluster.proofs.staffing.with_workers.Given as goal
+use Rattle.dy_cluster.proofs.staffing.run_opened.Given as goal
 
 -- the book has the name of what was just opened
 abbrev pub ghosts-run_clients : goal.ghosts-run_clients

@@ -1,8 +1,8 @@
-use Rattle.dy_cluster.proofs.operators.with_operator.Given as goal
+use Rattle.dy_cluster.proofs.lone_clients.with_client.Given as goal
 
 -- the book has the name of what was just opened
-abbrev pub ghosts-run_clients : goal.ghosts-run_clients
-ghosts-run_clients g a = record {
+abbrev pub ghosts-run_lone : goal.ghosts-run_lone
+ghosts-run_lone g a = record {
   ring = a.opened.ring;
   n = a.opened.options.n;
   r = a.opened.options.r;
