@@ -6,7 +6,7 @@ use std::alloc::Global;
 
 /// A get that was refused. Where too few homes answered it lists every answer that was read; any
 /// other refusal lists none.
-#[derive(Drop)]
+#[derive(Debug, Drop)]
 pub struct GetFault {
     pub fault: Fault,
     pub answers: AnswerVec,
