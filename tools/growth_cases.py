@@ -159,7 +159,8 @@ CALLS = {
     "Cluster::handoff": Call(f"{CLUSTER}::handoff", (), ("handoff",), {"told", "fewer"}),
     "Cluster::deliver": Call(f"{CLUSTER}::deliver", (), ("deliver",), {"told", "some"}),
     "Cluster::show": Call(f"{CLUSTER}::show", (), ("show",), {"told"}),
-    "Cluster::close": Call(f"{CLUSTER}::close", (f"{BOOK}::close",), (), {"ended"}),
+    "Cluster::close": Call(f"{CLUSTER}::close", (f"{CLUSTER}::end", f"{BOOK}::close"), (),
+                           {"ended"}),
 }
 
 HINTED = far(put(A, "x"), put(LONG, "y"))

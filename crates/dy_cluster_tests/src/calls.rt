@@ -22,6 +22,9 @@ pub trait Calls {
     // A put of the letter as its own value that names so many homes: its answers, as a text.
     fn put<R: Wait>(&mut self, rt: &R, alloc: Global, w: u8, letter: u8) -> Result<String, Fault>;
 
+    // A put that names two homes, of which no text is made.
+    fn put_untold<R: Wait>(&mut self, rt: &R, alloc: Global, letter: u8) -> Result<(), Fault>;
+
     // A get of the letter, which mends nothing.
     fn get<R: Wait>(&mut self, rt: &R, alloc: Global, letter: u8) -> Result<Got, Fault>;
 
@@ -88,6 +91,11 @@ impl<J: Naming, T: Transport<J>> Calls for Connection<'_, J, T> {
     fn put<R: Wait>(&mut self, rt: &R, alloc: Global, w: u8, letter: u8) -> Result<String, Fault> {
         let done = put_letter(rt, alloc, self, w, letter)?;
         text_of(alloc, done.answers.as_slice())
+    }
+
+    fn put_untold<R: Wait>(&mut self, rt: &R, alloc: Global, letter: u8) -> Result<(), Fault> {
+        let _done = put_letter(rt, alloc, self, 2, letter)?;
+        Ok(())
     }
 
     fn get<R: Wait>(&mut self, rt: &R, alloc: Global, letter: u8) -> Result<Got, Fault> {

@@ -22,8 +22,8 @@ impl Scene for Retry {
         _number: usize,
         calls: &mut C,
     ) -> Result<(), Fault> {
-        if let Err(Fault::OutOfMemory) = calls.put(rt, alloc, 2, b'a') {
-            calls.put(rt, alloc, 2, b'a')?;
+        if let Err(Fault::OutOfMemory) = calls.put_untold(rt, alloc, b'a') {
+            calls.put_untold(rt, alloc, b'a')?;
         }
         Ok(())
     }
