@@ -198,8 +198,9 @@ impl<J: Naming> Cluster<J> {
         }
     }
 
-    // Closes the cluster, and abandons it where that is refused.
-    pub(crate) fn end(self, sessions: Vec<SessionShare<J>>) -> Result<Closed, Fault>
+    /// Closes the cluster, and abandons it where that is refused: for want of memory, or for a
+    /// session that was not handed in.
+    pub fn end(self, sessions: Vec<SessionShare<J>>) -> Result<Closed, Fault>
         ensures stores { IfOk result (TellsStores J.ring J.n) }
         ensures acks { IfOk result (TellsAcks sessions.items) }
         ensures closed { IfOk result (λ closed. IsClosed J.ring J.n J.r sessions.items closed) }
