@@ -14,14 +14,14 @@ fi
 folder=${1:-$(mktemp -d)}
 mkdir -p "$folder/crates/bench_clusters/src"
 rm -f "$folder/crates.txt"
-# What dy_cluster stands on, and what that stands on: each line of crates.txt stands below those that it names.
-needed=$(tac "$top/crates.txt" | awk -F: -v needed=' dy_cluster ' 'index(needed, " " $1 " ") { needed = needed $2 " "; print $1 }')
+# What dy_clients stands on, and what that stands on: each line of crates.txt stands below those that it names.
+needed=$(tac "$top/crates.txt" | awk -F: -v needed=' dy_clients ' 'index(needed, " " $1 " ") { needed = needed $2 " "; print $1 }')
 for crate in $needed; do
     rm -rf "$folder/crates/$crate"
     cp -r "$top/crates/$crate" "$folder/crates/"
     grep "^$crate:" "$top/crates.txt" >> "$folder/crates.txt"
 done
-echo 'bench_clusters: dy_cluster dy_coord' >> "$folder/crates.txt"
+echo 'bench_clusters: dy_clients dy_coord' >> "$folder/crates.txt"
 cp "$top/HANDLES" "$folder/HANDLES"
 cp "$here/main.rt.txt" "$folder/crates/bench_clusters/src/main.rt"
 cd "$folder/crates/bench_clusters"

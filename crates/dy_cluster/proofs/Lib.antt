@@ -6,8 +6,6 @@ pub mod Gathered
 pub mod Guarantees
 pub mod Marking
 pub mod Presenting
-pub mod Seated
-pub mod Sent
 pub mod Shown
 pub mod StoreCovers
 pub mod Stored

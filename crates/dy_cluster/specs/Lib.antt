@@ -9,7 +9,6 @@ pub mod Marks
 pub mod Named
 pub mod PresentValues
 pub mod Refusals
-pub mod Runs
 pub mod Settings
 pub mod Shows
 pub mod Stores

@@ -1,14 +1,9 @@
--- Why a cluster is not opened, and why a run of clients is refused.
+-- Why a cluster is not opened.
 use Rattle.std.specs.Prelude.{◌≡◌, ◌⊎◌, ℕ}
 use Rattle.dy_dots.specs.declared.faults.Fault.{Fault}
 use Rattle.dy_dots.specs.declared.faults.Fault.TheVariants.{OutOfMemory, TooMany, BadQuorum}
-use Rattle.dy_dots.specs.declared.faults.Fault.TheVariants.{SharesMissing}
 use Rattle.dy_book.specs.Limits.{AreLimits, IsQuorum}
 use Rattle.dy_book.specs.declared.options.Options.{Options}
-
--- memory was wanting, there were too many sessions, or one was not handed in
-abbrev pub IsRunRefusal : Fault → Type 0
-IsRunRefusal fault = (fault ≡ OutOfMemory) ⊎ (fault ≡ TooMany) ⊎ (fault ≡ SharesMissing)
 
 -- a limit is out of its range, the numbers don't fit so many nodes, or memory was wanting
 abbrev pub IsOpenRefusal : Options → ℕ → Fault → Type 0

@@ -4,10 +4,8 @@
 mod books;
 mod calls;
 mod carrying;
-mod clients_dones;
 mod clusters;
 mod connections;
-mod crews;
 mod direct_calls;
 mod embedding;
 mod handing;
@@ -15,40 +13,32 @@ mod handovers;
 mod kept_lists;
 mod laws;
 mod locks;
-mod lone_clients;
 mod marked_works;
 mod marks;
 mod mending_gets;
 mod openings;
-mod operators;
 mod outages;
 mod pasts;
 mod posting;
 mod restings;
-mod seats;
-mod staffing;
 mod step_copies;
 mod values;
 
 pub use carrying::{CarryFault, carry_over};
-pub use clients_dones::ClientsDone;
 pub use clusters::Cluster;
 pub use connections::Connection;
 pub use direct_calls::DirectCalls;
-pub use embedding::{Client, Work, with_clients, with_cluster};
+pub use embedding::{Work, with_cluster};
 pub use handovers::Handover;
 pub use laws::{
     gets_give_what_homes_took, session_guarantees, stores_cover_acks, what_is_held_is_kept,
     what_is_seen_is_there, what_was_acknowledged_is_present,
 };
-pub use lone_clients::{LoneClient, with_client};
 pub use marked_works::{MarkedWork, with_marked_cluster};
 pub use marks::Mark;
 pub use mending_gets::MendingGet;
 pub use openings::Opened;
-pub use operators::{Operator, with_operator};
 pub use restings::{Closed, ClusterRefused, Resting};
-pub use staffing::with_workers;
 pub use values::PresentValue;
 
 // Types that a client needs besides, so that an embedding program names no other library for them.
@@ -56,7 +46,7 @@ pub use dy_book::{AckedAt, Audit, Options};
 pub use dy_coord::{GetDone, GetFault, PutDone, PutFault};
 pub use dy_core::{Acked, Holding, Place};
 pub use dy_dots::{Context, Dot, Fault, NodeId};
-pub use dy_mailboxes::{Gate, Open, Post};
+pub use dy_mailboxes::{Gate, Post};
 pub use dy_node::{Ask, Mode};
 pub use dy_ring::Ring;
 pub use dy_shares::Naming;

@@ -1,7 +1,7 @@
 // The cluster that the tests use, and clients beside its workers.
 use crate::scenes::{Played, Scene};
 use dy_book::{MAX_STEPS, MAX_VERSIONS};
-use dy_cluster::{Closed, Fault, Options, Ring, with_workers};
+use dy_clients::{Closed, Fault, Options, Ring, with_workers};
 use dy_dots::MAX_COUNTER;
 use std::alloc::Global;
 use std::sync::Wait;

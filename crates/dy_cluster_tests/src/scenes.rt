@@ -1,6 +1,6 @@
 // What clients do on the cluster that the tests use, and what its workers pass.
 use crate::calls::Calls;
-use dy_cluster::{Ask, Client, Connection, Fault, Gate, Naming, NodeId, Transport};
+use dy_clients::{Ask, Client, Connection, Fault, Gate, Naming, NodeId, Transport};
 use std::alloc::Global;
 use std::sync::{Mutex, Wait};
 

@@ -8,7 +8,7 @@ use Rattle.std.proofs.lemmas.Option.{slice_get-get_or}
 use Rattle.dy_shares.specs.Shares.{SessionPart}
 use Rattle.dy_book.specs.Audits.{count_acks, count_gets}
 use Rattle.dy_cluster.specs.Settings.{Setting}
-use Rattle.dy_cluster.specs.Tellings.{AreTold, as_fact}
+use Rattle.dy_clients.specs.Tellings.{AreTold, as_fact}
 use Rattle.rand_pcg.specs.Lcg.{Lcg}
 use Rattle.dy_storm.specs.Turns.{AreTurns}
 use Rattle.dy_storm.proofs.Growing.{turns_tell}

@@ -5,7 +5,7 @@ use Rattle.dy_shares.specs.Shares.{SessionPart}
 use Rattle.dy_book.specs.Audits.{count_acks, count_gets}
 use Rattle.dy_cluster.specs.Ends.{IsClosed}
 use Rattle.dy_cluster.specs.Settings.{setting}
-use Rattle.dy_cluster.specs.Tellings.{AreTold, as_fact}
+use Rattle.dy_clients.specs.Tellings.{AreTold, as_fact}
 use Rattle.dy_storm.specs.Clusters.{storm_options}
 use Rattle.dy_storm.specs.Seeds.{generator_of}
 use Rattle.dy_storm.specs.Turns.{AreTurns}

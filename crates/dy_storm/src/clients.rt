@@ -7,7 +7,7 @@ ghost use Rattle.dy_storm.specs.Turns.{AreTurns};
 use crate::outages::Outages;
 use crate::plans::Storm;
 use crate::turns::Player;
-use dy_cluster::{Client, Connection, Fault, Naming, Transport};
+use dy_clients::{Client, Connection, Fault, Naming, Transport};
 use dy_draws::draw;
 use rand_pcg::Lcg64Xsh32;
 use rand_pcg::rand_core::SeedableRng;

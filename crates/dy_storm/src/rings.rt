@@ -4,7 +4,7 @@ ghost use Rattle.dy_ring.specs.Lists.{IsRingOf};
 ghost use Rattle.dy_storm.specs.Clusters.{five_tokens, storm_options};
 
 use dy_book::{MAX_STEPS, MAX_VERSIONS};
-use dy_cluster::{Fault, Options, Ring};
+use dy_clients::{Fault, Options, Ring};
 use dy_dots::MAX_COUNTER;
 use std::alloc::Global;
 

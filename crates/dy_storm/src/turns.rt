@@ -7,7 +7,7 @@ ghost use Rattle.dy_storm.specs.Turns.{IsGetOf, IsTurnOf};
 ghost use Rattle.dy_storm.specs.Words.{key_text, value_text};
 
 use crate::words::{key_of, value_of};
-use dy_cluster::{Connection, Context, Key, MendingGet, Naming, Transport, Value};
+use dy_clients::{Connection, Context, Key, MendingGet, Naming, Transport, Value};
 use std::alloc::Global;
 use std::sync::Wait;
 

@@ -2,7 +2,7 @@
 ghost use Rattle.std.specs.Prelude.{◌≡◌, IfOk};
 ghost use Rattle.dy_storm.specs.Words.{key_text, value_text};
 
-use dy_cluster::{Fault, Key, Value};
+use dy_clients::{Fault, Key, Value};
 use std::alloc::Global;
 
 /// The key of this number.

@@ -1,4 +1,4 @@
-use dy_cluster::{Closed, Fault, Key, Row};
+use dy_clients::{Closed, Fault, Key, Row};
 use std::alloc::Global;
 use std::collections::BTreeSet;
 

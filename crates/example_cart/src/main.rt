@@ -17,7 +17,7 @@ mod states;
 
 use crate::carts::text_at;
 use crate::shops::Shop;
-use dy_cluster::{
+use dy_clients::{
     ClientsDone, Fault, Open, Options, Ring, session_guarantees, with_clients, with_workers,
 };
 use std::alloc::Global;

@@ -1,6 +1,6 @@
 use crate::carts::{CART, united};
 use crate::states::{clear, put};
-use dy_cluster::{Cluster, Connection, Context, Fault, Key, Naming, Transport, Value};
+use dy_clients::{Cluster, Connection, Context, Fault, Key, Naming, Transport, Value};
 use std::alloc::Global;
 use std::sync::Wait;
 

@@ -1,6 +1,6 @@
 use crate::shoppers::visit;
 use crate::states::{beat, clear, reconcile};
-use dy_cluster::{Client, Connection, Context, Fault, Key, Naming, Transport};
+use dy_clients::{Client, Connection, Context, Fault, Key, Naming, Transport};
 use std::alloc::Global;
 use std::sync::Wait;
 use std::sync::atomic::{AtomicUsize, Ordering};

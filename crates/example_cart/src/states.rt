@@ -1,5 +1,5 @@
 use crate::carts::{Cart, all_of};
-use dy_cluster::{Connection, Context, Fault, Key, Naming, Transport, Value};
+use dy_clients::{Connection, Context, Fault, Key, Naming, Transport, Value};
 use std::alloc::Global;
 use std::sync::Wait;
 

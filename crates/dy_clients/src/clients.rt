@@ -1,0 +1,70 @@
+ghost use Rattle.std.specs.Prelude.{◌≡◌, ◌<◌, ◌↔◌, ◌⊎◌, ℕ, IfOk, IfErr, IsErrOf};
+ghost use Rattle.std.specs.declared.marker.Brand.{Brand as BrandParts};
+ghost use Rattle.dy_book.specs.Limits.{AreLimits, IsQuorum};
+ghost use Rattle.dy_shares.specs.Shares.{SessionPart};
+ghost use Rattle.dy_cluster.specs.Settings.{Setting, setting};
+ghost use Rattle.dy_cluster.specs.Stores.{TellsStores};
+ghost use Rattle.dy_cluster.specs.Tellings.{IsUntold};
+ghost use Rattle.dy_clients.specs.Refusals.{IsRunRefusal};
+ghost use Rattle.dy_clients.specs.Runs.{HaveRun};
+ghost use Rattle.dy_clients.specs.Tellings.{ClientAnswer};
+
+use crate::clients_dones::ClientsDone;
+use crate::operators::Nobody;
+use crate::staffing::run_opened;
+use dy_book::Options;
+use dy_cluster::Connection;
+use dy_dots::Fault;
+use dy_mailboxes::Open;
+use dy_ring::Ring;
+use dy_shares::Naming;
+use dy_transport::Transport;
+use std::alloc::Global;
+use std::sync::Wait;
+use std::thread::Threads;
+
+/// What each of many clients does, in a thread of its own, with a connection of its own, over any
+/// transport.
+pub trait Client {
+    // What the client of this number says of its answer and of its session's list, once it ran on a
+    // cluster of this setting. If it is left out, it says nothing.
+    ghost told: { Setting → Self → ℕ → ClientAnswer → SessionPart → Type 0 } = { λ _ _ _ _ _. Unit {0} };
+
+    /// Clients are numbered from 0. The session's list is empty before, and puts name as many homes
+    /// as the cluster's options. A refusal ends this client alone, and is told of it.
+    fn run<J: Naming, T: Transport<J>, R: Wait>(
+        &self,
+        rt: &R,
+        alloc: Global,
+        number: usize,
+        connection: &mut Connection<'_, J, T>,
+    ) -> Result<(), Fault>
+        requires few { number < 255 }
+        requires untold { IsUntold connection.old.session }
+        requires w { connection.old.w ≡ connection.old.cluster.now.options.w }
+        ensures told { told (setting J J.ring J.n J.r connection.old.cluster.now.options) self.now
+            number result connection.new.session };
+}
+
+/// Opens a cluster on the ring, runs this many clients beside each other, and closes it. Each
+/// client has a thread and a connection of its own, and asks the nodes in that thread. If a thread,
+/// or memory for a transport, is wanting, that client does not run. `OutOfMemory` is then answered
+/// once the others are done.
+pub fn with_clients<C: Client + Sync, R: Threads + Wait + Sync>(
+    rt: &R,
+    alloc: Global,
+    ring: Ring,
+    options: Options,
+    clients: u8,
+    client: &C,
+) -> Result<ClientsDone, Fault>
+    ensures stores { IfOk result (λ done. TellsStores ring options.n done.closed) }
+    ensures closed { IfOk result (HaveRun ring options clients
+        (C.told (setting BrandParts ring options.n options.r options) client.now)) }
+    ensures too_many { ¬ (AreLimits options) → IsErrOf result Fault.TooMany }
+    ensures bad_quorum { IsErrOf result Fault.BadQuorum
+        ↔ (AreLimits options × ¬ (IsQuorum options ring.nodes)) }
+    ensures only { IfErr result (λ fault. (fault ≡ Fault.BadQuorum) ⊎ IsRunRefusal fault) }
+{
+    run_opened::<C, Open, Nobody, R>(rt, alloc, ring, options, None, None, clients, client)
+}

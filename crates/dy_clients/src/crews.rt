@@ -1,0 +1,180 @@
+// The threads of clients, workers and the operator.
+ghost use Rattle.std.specs.Prelude.{◌≡◌, ◌↔◌, length, IsTrue, IfOk, IsOkUnless};
+ghost use Rattle.dy_cluster.specs.Settings.{setting};
+ghost use Rattle.dy_clients.specs.Tellings.{SaysToo};
+
+use crate::clients::Client;
+use crate::operators::Operator;
+use crate::seats::Place;
+use dy_cluster::Cluster;
+use dy_dots::Fault;
+use dy_mailboxes::{Gate, Inbox, Post};
+use dy_shares::Naming;
+use std::alloc::Global;
+use std::sync::{Mutex, Wait};
+use std::thread;
+use std::thread::Threads;
+
+// The ends of the nodes' mailboxes: the inboxes, a post for each client, and one more post.
+#[derive(Drop)]
+pub(crate) struct Mail<J: Naming> {
+    pub inboxes: Vec<Inbox<J>>,
+    pub posts: Vec<Post<J>>,
+    pub post: Post<J>,
+}
+
+// The mail of the cluster's nodes.
+pub(crate) fn mail_for<J: Naming>(
+    alloc: Global,
+    cluster: &Cluster<J>,
+    clients: u8,
+) -> Result<Mail<J>, Fault>
+    ensures inboxes { IfOk result (λ mail. length mail.inboxes.items ≡ J.ring.nodes) }
+    ensures posts { IfOk result (λ mail. length mail.posts.items ≡ clients) }
+    ensures memory { IsOkUnless result Fault.OutOfMemory }
+{
+    let (mut post, inboxes) = cluster.post()?;
+    let mut posts = Vec::with_capacity(alloc, usize::from(clients))?;
+    for _ in 0..clients {
+        posts.push(post.try_clone()?)?;
+    }
+    Ok(Mail {
+        inboxes,
+        posts,
+        post,
+    })
+}
+
+// Starts a worker for each node, then the operator, and then the clients. If a worker or the
+// operator could not be started, no client runs. Gives whether all of them were. A message lies in
+// a mailbox as long as any post lives, so a client would wait for ever for a worker that never
+// starts. Each thread drops its post as it ends, and so the workers end.
+pub(crate) fn run_staffed<
+    J: Naming + Send + Sync,
+    S: Place<J> + Send,
+    C: Client + Sync,
+    G: Gate + Sync,
+    O: Operator + Sync,
+    R: Threads + Wait + Sync,
+>(
+    rt: &R,
+    alloc: Global,
+    cluster: &Cluster<J>,
+    gate: &G,
+    operator: Option<&O>,
+    mail: Mail<J>,
+    client: &C,
+    seats: &[Mutex<S>],
+) -> bool
+    requires tells { SaysToo
+        (C.told (setting J J.ring J.n J.r cluster.now.options) client.now) S.told }
+{
+    let Mail {
+        inboxes,
+        posts,
+        post,
+    } = mail;
+    thread::scope(
+        thread::scope_env(),
+        rt,
+        |scope|
+            requires tells { SaysToo
+                (C.told (setting J J.ring J.n J.r cluster.now.options) client.now) S.told }
+        {
+            let mut started = 0usize;
+            for inbox in inboxes {
+                let worker = scope.spawn(move || cluster.serve(rt, inbox, gate));
+                started = started.saturating_add(usize::from(worker.is_ok()));
+            }
+            let mut is_staffed = are_all(started, cluster.nodes());
+            if is_staffed {
+                if let Some(operator) = operator {
+                    let thread = scope.spawn(move || operate(rt, alloc, cluster, operator, post));
+                    is_staffed = thread.is_ok();
+                }
+            }
+            if is_staffed {
+                run_beside(rt, alloc, cluster, client, posts, seats);
+            }
+            if let Some(operator) = operator {
+                operator.end(rt);
+            }
+            is_staffed
+        },
+    )
+}
+
+// Whether as many threads were started as there are nodes.
+fn are_all(started: usize, nodes: u8) -> bool
+    ensures { IsTrue result ↔ (started ≡ nodes) }
+{
+    started == usize::from(nodes)
+}
+
+// What the operator's thread does.
+fn operate<J: Naming, O: Operator, R: Wait>(
+    rt: &R,
+    alloc: Global,
+    cluster: &Cluster<J>,
+    operator: &O,
+    mut post: Post<J>,
+) {
+    operator.run(rt, alloc, cluster, &mut post);
+}
+
+// Runs the clients, each in a thread of its own, with a post if there is one. If a thread can't be
+// made, its client and those after it do not run. Ends when all that run are done.
+pub(crate) fn run_beside<
+    J: Naming + Send + Sync,
+    S: Place<J> + Send,
+    C: Client + Sync,
+    R: Threads + Wait + Sync,
+>(
+    rt: &R,
+    alloc: Global,
+    cluster: &Cluster<J>,
+    client: &C,
+    mut posts: Vec<Post<J>>,
+    seats: &[Mutex<S>],
+)
+    requires tells { SaysToo
+        (C.told (setting J J.ring J.n J.r cluster.now.options) client.now) S.told }
+{
+    thread::scope(
+        thread::scope_env(),
+        rt,
+        |scope|
+            requires tells { SaysToo
+                (C.told (setting J J.ring J.n J.r cluster.now.options) client.now) S.told }
+        {
+            for seat in seats.iter() {
+                let post = posts.pop();
+                let thread = scope.spawn(
+                    move ||
+                        requires tells { SaysToo
+                            (C.told (setting J J.ring J.n J.r cluster.now.options)
+                            client.now) S.told }
+                    { sit(rt, alloc, cluster, client, seat, post) },
+                );
+                if thread.is_err() {
+                    break;
+                }
+            }
+        },
+    )
+}
+
+// What a client's thread does.
+fn sit<J: Naming, S: Place<J>, C: Client, R: Wait>(
+    rt: &R,
+    alloc: Global,
+    cluster: &Cluster<J>,
+    client: &C,
+    seat: &Mutex<S>,
+    mut post: Option<Post<J>>,
+)
+    requires tells { SaysToo
+        (C.told (setting J J.ring J.n J.r cluster.now.options) client.now) S.told }
+{
+    seat.lock(rt).run(rt, alloc, cluster, client, &mut post);
+}

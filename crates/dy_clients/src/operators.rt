@@ -1,0 +1,81 @@
+ghost use Rattle.std.specs.Prelude.{◌≡◌, ◌↔◌, ◌⊎◌, IfOk, IfErr, IsErrOf};
+ghost use Rattle.std.specs.declared.marker.Brand.{Brand as BrandParts};
+ghost use Rattle.dy_book.specs.Limits.{AreLimits, IsQuorum};
+ghost use Rattle.dy_cluster.specs.Settings.{setting};
+ghost use Rattle.dy_cluster.specs.Stores.{TellsStores};
+ghost use Rattle.dy_clients.specs.Refusals.{IsRunRefusal};
+ghost use Rattle.dy_clients.specs.Runs.{HaveRun};
+
+use crate::clients::Client;
+use crate::clients_dones::ClientsDone;
+use crate::staffing::run_opened;
+use dy_book::Options;
+use dy_cluster::Cluster;
+use dy_dots::Fault;
+use dy_mailboxes::{Gate, Post};
+use dy_ring::Ring;
+use dy_shares::Naming;
+use std::alloc::Global;
+use std::sync::Wait;
+use std::thread::Threads;
+
+/// What one more thread does beside the clients: it takes nodes down and up, and makes passes.
+pub trait Operator {
+    /// Called once, in a thread of its own, before the first client begins. It is not called if a
+    /// thread for a worker, or for it, can't be had. It may wait for clients until `end` is called.
+    fn run<J: Naming, R: Wait>(
+        &self,
+        rt: &R,
+        alloc: Global,
+        cluster: &Cluster<J>,
+        post: &mut Post<J>,
+    );
+
+    /// Called once, from another thread, when every client has ended or none will begin. After it
+    /// `run` must not wait for a client.
+    fn end<R: Wait>(&self, rt: &R);
+}
+
+// Stands in for an operator where there is none.
+pub(crate) struct Nobody;
+
+impl Operator for Nobody {
+    fn run<J: Naming, R: Wait>(
+        &self,
+        _rt: &R,
+        _alloc: Global,
+        _cluster: &Cluster<J>,
+        _post: &mut Post<J>,
+    ) {}
+
+    fn end<R: Wait>(&self, _rt: &R) {}
+}
+
+/// The same as `with_workers`, beside an operator in one more thread. If that thread can't be had,
+/// no client runs, and the answer is `OutOfMemory`.
+pub fn with_operator<
+    C: Client + Sync,
+    G: Gate + Sync,
+    O: Operator + Sync,
+    R: Threads + Wait + Sync,
+>(
+    rt: &R,
+    alloc: Global,
+    ring: Ring,
+    options: Options,
+    gate: &G,
+    clients: u8,
+    client: &C,
+    operator: &O,
+) -> Result<ClientsDone, Fault>
+    ensures stores { IfOk result (λ done. TellsStores ring options.n done.closed) }
+    ensures closed { IfOk result (HaveRun ring options clients
+        (C.told (setting BrandParts ring options.n options.r options) client.now)) }
+    ensures too_many { ¬ (AreLimits options) → IsErrOf result Fault.TooMany }
+    ensures bad_quorum { IsErrOf result Fault.BadQuorum
+        ↔ (AreLimits options × ¬ (IsQuorum options ring.nodes)) }
+    ensures only { IfErr result (λ fault. (fault ≡ Fault.BadQuorum) ⊎ IsRunRefusal fault) }
+{
+    let (gate, operator) = (Some(gate), Some(operator));
+    run_opened::<C, G, O, R>(rt, alloc, ring, options, gate, operator, clients, client)
+}

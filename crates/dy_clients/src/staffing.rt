@@ -1,0 +1,206 @@
+// Clients in threads of their own, beside the nodes' workers or without.
+ghost use Rattle.std.specs.Prelude.{◌≡◌, ◌↔◌, ◌⊎◌, [], length, IsTrue};
+ghost use Rattle.std.specs.Prelude.{IfOk, IfErr, IsErrOf, IsOk, IsOkUnless};
+ghost use Rattle.std.specs.List.{All};
+ghost use Rattle.std.specs.declared.marker.Brand.{Brand as BrandParts};
+ghost use Rattle.dy_book.specs.Limits.{AreLimits, IsQuorum};
+ghost use Rattle.dy_cluster.specs.Named.{NamesBook};
+ghost use Rattle.dy_cluster.specs.Settings.{setting};
+ghost use Rattle.dy_cluster.specs.Stores.{TellsStores};
+ghost use Rattle.dy_cluster.specs.Tellings.{IsUntold};
+ghost use Rattle.dy_clients.specs.Refusals.{IsRunRefusal};
+ghost use Rattle.dy_clients.specs.Runs.{HaveRun};
+ghost use Rattle.dy_clients.specs.Tellings.{AreAnswered, SaysToo, as_answered};
+
+use crate::clients::Client;
+use crate::clients_dones::ClientsDone;
+use crate::crews::{mail_for, run_beside, run_staffed};
+use crate::operators::{Nobody, Operator};
+use crate::seats::{Seat, Telling, rise_all, seat_all};
+use dy_book::Options;
+use dy_cluster::{Cluster, Opened};
+use dy_dots::Fault;
+use dy_mailboxes::Gate;
+use dy_ring::Ring;
+use dy_shares::{Naming, SessionShare};
+use std::alloc::Global;
+use std::marker::Brand;
+use std::sync::{Mutex, Wait};
+use std::thread::Threads;
+
+/// Opens a cluster on the ring, starts a worker for each node, runs this many clients beside each
+/// other, and closes it. Each client has a thread of its own, and a connection of its own over the
+/// workers. If a thread for a worker is wanting, no client runs. If a thread or memory for a
+/// client's transport is wanting, that client does not run, and the others do. The answer is then
+/// `OutOfMemory`.
+pub fn with_workers<C: Client + Sync, G: Gate + Sync, R: Threads + Wait + Sync>(
+    rt: &R,
+    alloc: Global,
+    ring: Ring,
+    options: Options,
+    gate: &G,
+    clients: u8,
+    client: &C,
+) -> Result<ClientsDone, Fault>
+    ensures stores { IfOk result (λ done. TellsStores ring options.n done.closed) }
+    ensures closed { IfOk result (HaveRun ring options clients
+        (C.told (setting BrandParts ring options.n options.r options) client.now)) }
+    ensures too_many { ¬ (AreLimits options) → IsErrOf result Fault.TooMany }
+    ensures bad_quorum { IsErrOf result Fault.BadQuorum
+        ↔ (AreLimits options × ¬ (IsQuorum options ring.nodes)) }
+    ensures only { IfErr result (λ fault. (fault ≡ Fault.BadQuorum) ⊎ IsRunRefusal fault) }
+{
+    let (gate, operator) = (Some(gate), None);
+    run_opened::<C, G, Nobody, R>(rt, alloc, ring, options, gate, operator, clients, client)
+}
+
+// Opens a cluster on the ring, picks a name for it, and runs the clients. With a gate workers run
+// beside them, and with an operator that one too.
+pub(crate) fn run_opened<
+    C: Client + Sync,
+    G: Gate + Sync,
+    O: Operator + Sync,
+    R: Threads + Wait + Sync,
+>(
+    rt: &R,
+    alloc: Global,
+    ring: Ring,
+    options: Options,
+    gate: Option<&G>,
+    operator: Option<&O>,
+    clients: u8,
+    client: &C,
+) -> Result<ClientsDone, Fault>
+    ensures stores { IfOk result (λ done. TellsStores ring options.n done.closed) }
+    ensures closed { IfOk result (HaveRun ring options clients
+        (C.told (setting BrandParts ring options.n options.r options) client.now)) }
+    ensures too_many { ¬ (AreLimits options) → IsErrOf result Fault.TooMany }
+    ensures bad_quorum { IsErrOf result Fault.BadQuorum
+        ↔ (AreLimits options × ¬ (IsQuorum options ring.nodes)) }
+    ensures only { IfErr result (λ fault. (fault ≡ Fault.BadQuorum) ⊎ IsRunRefusal fault) }
+{
+    let opened = Opened::new(alloc, ring, options)?;
+    run_clients::<Brand, C, G, O, R>(rt, alloc, opened, gate, operator, clients, client)
+}
+
+// Opens a cluster of the picked name, runs the clients, and closes it.
+fn run_clients<
+    J: Naming + Send + Sync,
+    C: Client + Sync,
+    G: Gate + Sync,
+    O: Operator + Sync,
+    R: Threads + Wait + Sync,
+>(
+    rt: &R,
+    alloc: Global,
+    opened: Opened,
+    gate: Option<&G>,
+    operator: Option<&O>,
+    clients: u8,
+    client: &C,
+) -> Result<ClientsDone, Fault>
+    requires named { NamesBook J.book J.table J.ring J.n J.r opened }
+    ensures stores { IfOk result (λ done. TellsStores opened.ring opened.options.n done.closed) }
+    ensures closed { IfOk result (HaveRun opened.ring opened.options clients
+        (C.told (setting J opened.ring opened.options.n opened.options.r opened.options)
+        client.now)) }
+    ensures only { IfErr result IsRunRefusal }
+{
+    let cluster = Cluster::<J>::open(alloc, opened)?;
+    let mut sessions = Vec::new(alloc);
+    let answered = run_seated::<J, Brand, C, G, O, R>(
+        rt,
+        alloc,
+        &cluster,
+        gate,
+        operator,
+        &mut sessions,
+        clients,
+        client,
+    );
+    let closed = cluster.end(sessions)?;
+    let answers = answered?;
+    Ok(ClientsDone { closed, answers })
+}
+
+// Opens a session for each client, and runs them. Afterwards the sessions are in the list again.
+// Gives what each client answered.
+fn run_seated<
+    J: Naming + Send + Sync,
+    T: Telling + Send + Sync,
+    C: Client + Sync,
+    G: Gate + Sync,
+    O: Operator + Sync,
+    R: Threads + Wait + Sync,
+>(
+    rt: &R,
+    alloc: Global,
+    cluster: &Cluster<J>,
+    gate: Option<&G>,
+    operator: Option<&O>,
+    sessions: &mut Vec<SessionShare<J>>,
+    clients: u8,
+    client: &C,
+) -> Result<Vec<Result<(), Fault>>, Fault>
+    requires none { sessions.old.items ≡ [] }
+    requires tells { SaysToo
+        (C.told (setting J J.ring J.n J.r cluster.now.options) client.now) T.told }
+    ensures ok { IfOk result (λ _. length sessions.new.items ≡ clients) }
+    ensures answers { IfOk result (λ answers. length answers.items ≡ clients) }
+    ensures told { IfOk result (λ answers.
+        AreAnswered (as_answered T.told) answers.items sessions.new.items) }
+    ensures only { IfErr result IsRunRefusal }
+{
+    seat_clients(rt, cluster, sessions, clients)?;
+    let mut answers = Vec::with_capacity(alloc, sessions.len())?;
+    let mail = match gate {
+        Some(_gate) => Some(mail_for(alloc, cluster, clients)?),
+        None => None,
+    };
+    let mut seats = Vec::<Mutex<Seat<J, T>>>::with_capacity(alloc, sessions.len())?;
+    seat_all(sessions, &mut seats);
+    let places = seats.as_slice();
+    let is_staffed = match (gate, mail) {
+        (Some(gate), Some(mail)) => {
+            run_staffed(rt, alloc, cluster, gate, operator, mail, client, places)
+        }
+        _ => {
+            run_beside(rt, alloc, cluster, client, Vec::new(alloc), places);
+            true
+        }
+    };
+    let have_run = rise_all(&mut seats, sessions, &mut answers);
+    seats.destroy_empty();
+    end_of(is_staffed, have_run)?;
+    Ok(answers)
+}
+
+// Opens a session for each client.
+fn seat_clients<J: Naming, R: Wait>(
+    rt: &R,
+    cluster: &Cluster<J>,
+    sessions: &mut Vec<SessionShare<J>>,
+    clients: u8,
+) -> Result<(), Fault>
+    requires none { sessions.old.items ≡ [] }
+    ensures ok { IfOk result (λ _. length sessions.new.items ≡ clients) }
+    ensures untold { IfOk result (λ _. All IsUntold sessions.new.items) }
+    ensures only { IfErr result IsRunRefusal }
+{
+    for _ in 0..clients {
+        let _place = cluster.seat(rt, sessions)?;
+    }
+    Ok(())
+}
+
+// How a run ends: a thread that can't be made counts as want of memory.
+fn end_of(is_staffed: bool, have_run: bool) -> Result<(), Fault>
+    ensures ok { IsOk result ↔ (IsTrue is_staffed × IsTrue have_run) }
+    ensures memory { IsOkUnless result Fault.OutOfMemory }
+{
+    if is_staffed & have_run {
+        Ok(())
+    } else {
+        Err(Fault::OutOfMemory)
+    }
+}
