@@ -6,6 +6,7 @@ pub mod Places
 pub mod Refusals
 pub mod Served
 pub mod Sessions
+pub mod StepLines
 pub mod Steps
 pub mod Stops
 pub mod Tellings

@@ -1,2 +1,3 @@
 -- What contracts of private functions alone speak of.
+pub mod Fetches
 pub mod Noting

@@ -2,6 +2,7 @@
 //! its bytes.
 #![tactic(auto)]
 
+mod audiences;
 mod audits;
 mod clusters;
 mod keeping;
@@ -12,10 +13,12 @@ mod refusals;
 mod rings;
 mod served;
 mod session_indexes;
+mod step_lines;
 mod steps;
 mod stops;
 mod tellings;
 
+pub use audiences::Audience;
 pub use audits::{AckedLine, EndLine, HeldLine, SettledLine};
 pub use clusters::{ClusterLine, write_cluster};
 pub use keeping::Kept;
@@ -26,6 +29,7 @@ pub use refusals::Refusal;
 pub use rings::{KeyLine, TokenLine, write_tokens};
 pub use served::{RefusedLine, RenewedLine};
 pub use session_indexes::SessionIndex;
+pub use step_lines::write_step_lines;
 pub use steps::{StepLine, ToldLine};
 pub use stops::Stopped;
 pub use tellings::write_gets;

@@ -1,6 +1,5 @@
 pub mod AuditLines
 pub mod Doing
-pub mod Fetches
 pub mod Judging
 pub mod Refusing
 pub mod RingLines

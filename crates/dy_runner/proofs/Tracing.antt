@@ -11,68 +11,11 @@ use Rattle.std.specs.Io.KnownBytes.{Appends}
 use Rattle.std.specs.List.{slice_range}
 use Rattle.dy_lines.specs.declared.outcomes.Outcome.{Outcome}
 use Rattle.dy_runner.specs.Runs.{outcomes_in}
-use Rattle.dy_runner.specs.Traces.{AreTraced, StepSessions, Traced, command_lines, fetches_behind}
-use Rattle.dy_runner.specs.Traces.{line_behind, step_lines, steps_in, told_line, traced_lines}
+use Rattle.dy_lines.specs.StepLines.{StepSessions, step_lines}
+use Rattle.dy_runner.specs.Traces.{AreTraced, Traced, command_lines, steps_in, traced_lines}
 use Rattle.dy_runner.specs.declared.recordings.Played.{Played}
 use Rattle.dy_shares.specs.declared.kept_steps.KeptStep.{KeptStep}
 use Rattle.dy_shares.specs.declared.step_numbers.StepNumbers.{StepNumbers}
-
--- of all that is to be written, this is left
-pub record Leaves (first now : Option (List ℕ)) (left all : List ℕ) : Type 0 where
-  pub wrote : List ℕ
-  pub appended : Appends first now wrote
-  pub makes : wrote ++ left ≡ all
-
--- nothing is written yet
-pub leaves_all : (now : Option (List ℕ)) (all : List ℕ) → Leaves now now all all
-leaves_all now all = record { wrote = []; appended = Appends-nil now; makes = refl }
-
--- one more piece is written
-leaves_less : (first now next : Option (List ℕ)) (piece left all : List ℕ) →
-    Leaves first now (piece ++ left) all → Appends now next piece → Leaves first next left all
-leaves_less first now next piece left all before one = record {
-  wrote = before.wrote ++ piece;
-  appended = Appends-trans first now next _ _ before.appended one;
-  makes = append_assoc before.wrote piece left ∙ before.makes;
-}
-
--- a stretch has its first step, and those behind it
-stretch-next : (steps : List KeptStep) (at end : ℕ) (d : KeptStep) → at < end →
-    end ≤ length steps →
-    slice_range steps at end ≡ slice_index_or steps at d ∷ slice_range steps (at + 1) end
-stretch-next steps at end d rises within =
-    let rest = drop (at + 1) steps in
-    let count : end - at ≡ suc (end - (at + 1)) = omega (arith, rises) in
-    ap (take (end - at)) (drop_more steps at d (omega (arith, rises, within)))
-    ∙ ap (λ (n : ℕ). take n (slice_index_or steps at d ∷ rest)) count
-
--- the step at this place is written behind those before it
-pub steps_next : (s : StepSessions) (fs gs : List ℕ) (steps : List KeptStep) (at end : ℕ)
-    (d : KeptStep) (first now next : Option (List ℕ)) (all : List ℕ) →
-    at < end → end ≤ length steps →
-    Leaves first now (step_lines s fs (at + 1) (slice_range steps at end)) all →
-    Appends now next (line_behind s fs (at + 1) (slice_index_or steps at d)) →
-    gs ≡ fetches_behind s fs (at + 1) (slice_index_or steps at d) →
-    Leaves first next (step_lines s gs (at + 1 + 1) (slice_range steps (at + 1) end)) all
-steps_next s fs gs steps at end d first now next all rises within left one fetches =
-    let rest = slice_range steps (at + 1) end in
-    let opened = ap (step_lines s fs (at + 1)) (stretch-next steps at end d rises within) in
-    subst (λ (hs : List ℕ). Leaves first next (step_lines s hs (at + 1 + 1) rest) all)
-    (sym fetches)
-    (leaves_less first now next (line_behind s fs (at + 1) (slice_index_or steps at d)) _ all
-    (subst (λ (l : List ℕ). Leaves first now l all) opened left) one)
-
--- and what was told of the last fetches ends them
-pub steps_end : (s : StepSessions) (fs : List ℕ) (number : ℕ) (steps : List KeptStep)
-    (at end : ℕ) (first now last : Option (List ℕ)) (all : List ℕ) → end ≤ at →
-    Leaves first now (step_lines s fs number (slice_range steps at end)) all →
-    Appends now last (told_line s fs) → Appends first last all
-steps_end s fs number steps at end first now last all done left one =
-    let none : end - at ≡ 0 = omega (arith, done) in
-    let told : step_lines s fs number (slice_range steps at end) ≡ told_line s fs =
-    ap (λ (n : ℕ). step_lines s fs number (take n (drop at steps))) none in
-    subst (Appends first last) (ap (λ l. left.wrote ++ l) (sym told) ∙ left.makes)
-    (Appends-trans first now last _ _ left.appended one)
 
 commands_at : (s : StepSessions) (t : Traced) (m n i j : ℕ) → m ≡ n → i ≡ j →
     command_lines s m i t ≡ command_lines s n j t

@@ -9,4 +9,3 @@ pub mod Seats
 pub mod Texts
 pub mod Traces
 pub mod Writes
-pub mod inside

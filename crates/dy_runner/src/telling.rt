@@ -1,19 +1,14 @@
-// The lines of steps, below those of the commands.
+// The lines of commands, and of steps below them.
 ghost use Rattle.std.specs.Prelude.{◌≡◌, ◌≤◌, ◌+◌, [], List, ℕ, length, IfOk, OnOk};
-ghost use Rattle.std.specs.Prelude.{IsOkUnless, slice_range};
+ghost use Rattle.std.specs.Prelude.{slice_range};
 ghost use Rattle.std.specs.Io.KnownBytes.{Appends};
-ghost use Rattle.dy_dots.specs.declared.faults.Fault.TheVariants as Fault;
+ghost use Rattle.dy_lines.specs.StepLines.{step_lines};
 ghost use Rattle.dy_runner.specs.Runs.{outcomes_in};
-ghost use Rattle.dy_runner.specs.Traces.{AreTraced, command_lines, fetches_behind, fetches_with};
-ghost use Rattle.dy_runner.specs.Traces.{is_fetch as is_a_fetch, line_behind, sessions_of};
-ghost use Rattle.dy_runner.specs.Traces.{step_line, step_lines, told_line};
-ghost use Rattle.dy_runner.specs.inside.Fetches.{IsFirstWithin};
+ghost use Rattle.dy_runner.specs.Traces.{AreTraced, command_lines, sessions_of};
 
 use crate::recordings::Played;
 use crate::traces::Trace;
-use dy_dots::Fault;
-use dy_lines::{CommandLine, StepLine, Stopped, ToldLine};
-use dy_shares::KeptStep;
+use dy_lines::{CommandLine, Stopped, write_step_lines};
 use std::alloc::Global;
 use std::io::Write;
 
@@ -92,101 +87,6 @@ fn write_steps<O: Write>(
     ensures { OnOk result (Appends (O.contents out.old) (O.contents out.new)
         (step_lines (sessions_of trace.now) [] (at + 1) (slice_range trace.now.steps.now at end))) }
 {
-    let mut fetches = Vec::new(alloc);
-    for place in at..end {
-        let step = &trace.steps[place];
-        write_step(trace, &mut fetches, place + 1, step, out)?;
-    }
-    write_told(trace, fetches.as_slice(), out)
-}
-
-// Writes the step, and before one that is no fetch what was told of the fetches before it.
-fn write_step<O: Write>(
-    trace: &Trace<'_>,
-    fetches: &mut Vec<usize>,
-    number: usize,
-    step: &KeptStep,
-    out: &mut O,
-) -> Result<(), Stopped>
-    requires within { number ≤ length trace.now.steps.now }
-    requires first { IsFirstWithin (length trace.now.steps.now) fetches.old.items }
-    ensures first { OnOk result
-        (IsFirstWithin (length trace.now.steps.now) fetches.new.items) }
-    ensures wrote { OnOk result (Appends (O.contents out.old) (O.contents out.new)
-        (line_behind (sessions_of trace.now) fetches.old.items number step.now)) }
-    ensures fetches { OnOk result (fetches.new.items
-        ≡ fetches_behind (sessions_of trace.now) fetches.old.items number step.now) }
-{
-    if is_fetch(step) {
-        write_line(trace, number, step, out)?;
-        note_fetch(trace, fetches, number)?;
-        return Ok(());
-    }
-    write_told(trace, fetches.as_slice(), out)?;
-    fetches.clear();
-    write_line(trace, number, step, out)?;
-    Ok(())
-}
-
-// Whether the step is a fetch.
-fn is_fetch(step: &KeptStep) -> bool
-    ensures { result ≡ is_a_fetch step.now }
-{
-    match step {
-        KeptStep::Fetched { .. } => true,
-        _ => false,
-    }
-}
-
-// Writes the line of the step.
-fn write_line<O: Write>(
-    trace: &Trace<'_>,
-    number: usize,
-    step: &KeptStep,
-    out: &mut O,
-) -> Result<(), Stopped>
-    requires within { number ≤ length trace.now.steps.now }
-    ensures { OnOk result (Appends (O.contents out.old) (O.contents out.new)
-        (step_line (sessions_of trace.now) number step.now)) }
-{
-    let line = StepLine {
-        number,
-        step,
-        session: trace.session_of(number),
-    };
-    writeln!(out, "{line}")?;
-    Ok(())
-}
-
-// Puts the fetch behind those that are still to be told, if a session was told of it.
-fn note_fetch(trace: &Trace<'_>, fetches: &mut Vec<usize>, number: usize) -> Result<(), Fault>
-    requires within { number ≤ length trace.now.steps.now }
-    requires first { IsFirstWithin (length trace.now.steps.now) fetches.old.items }
-    ensures first { OnOk result
-        (IsFirstWithin (length trace.now.steps.now) fetches.new.items) }
-    ensures fetches { OnOk result (fetches.new.items
-        ≡ fetches_with (sessions_of trace.now) fetches.old.items number) }
-    ensures memory { IsOkUnless result Fault.OutOfMemory }
-{
-    if trace.is_told(number) {
-        fetches.push(number)?;
-    }
-    Ok(())
-}
-
-// Writes which fetches a session was told of, if there are any.
-fn write_told<O: Write>(trace: &Trace<'_>, fetches: &[usize], out: &mut O) -> Result<(), Stopped>
-    requires first { IsFirstWithin (length trace.now.steps.now) fetches.now }
-    ensures { OnOk result (Appends (O.contents out.old) (O.contents out.new)
-        (told_line (sessions_of trace.now) fetches.now)) }
-{
-    if fetches.is_empty() {
-        return Ok(());
-    }
-    let line = ToldLine {
-        fetches,
-        session: trace.session_of(fetches[0]),
-    };
-    writeln!(out, "{line}")?;
+    write_step_lines(alloc, trace, at, &trace.steps[at..end], out)?;
     Ok(())
 }

@@ -4,7 +4,7 @@ ghost use Rattle.dy_lines.specs.Sessions.{HasSessions};
 
 use dy_book::Audit;
 use dy_dots::Fault;
-use dy_lines::SessionIndex;
+use dy_lines::{Audience, SessionIndex};
 use dy_shares::{KeptStep, StepNumbers};
 use std::alloc::Global;
 
@@ -21,9 +21,8 @@ pub(crate) struct Trace<'a> {
 }
 
 impl<'a> Trace<'a> {
-    ghost use Rattle.std.specs.Prelude.{◌≡◌, ◌≤◌, IfOk, IsOkUnless};
+    ghost use Rattle.std.specs.Prelude.{◌≡◌, IfOk, IsOkUnless};
     ghost use Rattle.dy_dots.specs.declared.faults.Fault.TheVariants as Fault;
-    ghost use Rattle.dy_runner.specs.Traces.{is_told, session_of, sessions_of};
 
     /// The steps that the audit has, and its sessions, which have these numbers.
     pub(crate) fn new(
@@ -46,20 +45,23 @@ impl<'a> Trace<'a> {
             index,
         })
     }
+}
 
-    /// Whether a session was told the step of this number. Takes no memory.
-    pub(crate) fn is_told(&self, number: usize) -> bool
-        requires within { number ≤ length self.now.steps.now }
-        ensures { result ≡ is_told (sessions_of self.now) number }
-    {
+impl Audience for Trace<'_> {
+    ghost use Rattle.std.specs.Prelude.{length};
+    ghost use Rattle.dy_runner.specs.Traces.{sessions_of};
+
+    ghost sessions = { sessions_of };
+
+    ghost before = { λ trace. 0 };
+
+    ghost last = { λ trace. length trace.steps.now };
+
+    fn is_told(&self, number: usize) -> bool {
         self.index.session_at(number) < self.told.len()
     }
 
-    /// The script's number of the session that was told it, or 0 where none was. Takes no memory.
-    pub(crate) fn session_of(&self, number: usize) -> usize
-        requires within { number ≤ length self.now.steps.now }
-        ensures { result ≡ session_of (sessions_of self.now) number }
-    {
+    fn session_of(&self, number: usize) -> usize {
         number_at(self.numbers, self.index.session_at(number))
     }
 }

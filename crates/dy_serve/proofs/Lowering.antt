@@ -22,7 +22,7 @@ use Rattle.dy_lines.specs.declared.outcomes.Outcome.{Outcome}
 use Rattle.dy_script.specs.Orders.{CommandParts}
 use Rattle.dy_runner.specs.Runs.{Does, seated}
 use Rattle.dy_runner.specs.Seats.{Seated}
-use Rattle.dy_runner.specs.Traces.{step_lines}
+use Rattle.dy_lines.specs.StepLines.{step_lines}
 use Rattle.dy_runner.specs.declared.seats.Seats.{Seats}
 use Rattle.dy_serve.specs.Answers.{IsCarriedInto, IsDone}
 use Rattle.dy_serve.specs.Below.{AreBelow, AreBelowIf, AreNew, Standing, none_standing}

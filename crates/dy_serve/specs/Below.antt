@@ -11,7 +11,7 @@ use Rattle.dy_script.specs.Orders.{CommandParts, WriteParts, written, puts, dele
 use Rattle.dy_script.specs.Orders.{downs, ups, sets_mode, delivers, hands_off, shows}
 use Rattle.dy_runner.specs.Runs.{none_seated, seated}
 use Rattle.dy_runner.specs.Seats.{Seated, seat_of}
-use Rattle.dy_runner.specs.Traces.{StepSessions, step_lines}
+use Rattle.dy_lines.specs.StepLines.{StepSessions, step_lines}
 use Rattle.dy_runner.specs.declared.seats.Seats.{Seats}
 use Rattle.dy_serve.specs.declared.told.ToldSoFar.{ToldSoFar}
 

@@ -11,7 +11,7 @@ use Rattle.dy_cluster.specs.Settings.{Setting}
 use Rattle.dy_cluster.specs.declared.restings.Closed.{Closed}
 use Rattle.dy_script.specs.Reading.{ScriptParts}
 use Rattle.dy_runner.specs.AuditLines.{audit_lines}
-use Rattle.dy_runner.specs.Traces.{step_lines}
+use Rattle.dy_lines.specs.StepLines.{step_lines}
 use Rattle.dy_serve.specs.Below.{Standing, one_session}
 
 -- a service of this script in clusters of this setting, with the steps or without

@@ -9,10 +9,9 @@ ghost use Rattle.dy_runner.specs.AuditLines.{audit_lines};
 ghost use Rattle.dy_serve.specs.Closings.{AreLeft, AreLeftIf};
 
 use crate::news::News;
-use crate::telling::write_news;
 use crate::told::nothing_told;
 use dy_cluster::Audit;
-use dy_lines::Stopped;
+use dy_lines::{Stopped, write_step_lines};
 use dy_runner::write_audit;
 use dy_script::Script;
 use std::alloc::Global;
@@ -76,6 +75,6 @@ fn write_left<O: Write>(
     }
     let rest = &trail[steps..];
     let news = News::new(alloc, steps, rest, 0, nothing_told(alloc))?;
-    write_news(alloc, &news, out)?;
+    write_step_lines(alloc, &news, news.before, news.steps, out)?;
     Ok(())
 }

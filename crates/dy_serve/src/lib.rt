@@ -9,7 +9,6 @@ mod news;
 mod open_clusters;
 mod services;
 mod serving;
-mod telling;
 mod told;
 
 pub use input_lines::MAX_LINE_BYTES;

@@ -3,7 +3,7 @@ ghost use Rattle.std.specs.Prelude.{◌≡◌, ◌+◌, ◌<◌, ◌-◌, ◌^�
 ghost use Rattle.dy_serve.specs.inside.Indexed.{IsIndexed};
 
 use dy_dots::Fault;
-use dy_lines::SessionIndex;
+use dy_lines::{Audience, SessionIndex};
 use dy_shares::{KeptStep, StepNumbers};
 use std::alloc::Global;
 
@@ -46,6 +46,28 @@ impl<'a> News<'a> {
             told,
             index,
         })
+    }
+}
+
+impl Audience for News<'_> {
+    ghost use Rattle.std.specs.Prelude.{◌+◌, length};
+    ghost use Rattle.dy_serve.specs.inside.Telling.{teller_of};
+
+    ghost sessions = { teller_of };
+
+    ghost before = { λ news. news.before };
+
+    ghost last = { λ news. news.before + length news.steps.now };
+
+    fn is_told(&self, number: usize) -> bool {
+        self.index.session_at(number - self.before) < 1
+    }
+
+    fn session_of(&self, number: usize) -> usize {
+        if self.is_told(number) {
+            return usize::from(self.session);
+        }
+        0
     }
 }
 

@@ -9,11 +9,10 @@ ghost use Rattle.dy_serve.specs.Answers.{IsCarriedInto};
 ghost use Rattle.dy_serve.specs.Below.{AreBelowIf, none_standing, standing};
 
 use crate::news::News;
-use crate::telling::write_news;
 use crate::told::{ToldSoFar, told_since};
 use dy_cluster::{Closed, Cluster, DirectCalls, Mark, Session, carry_over};
 use dy_dots::Fault;
-use dy_lines::{Outcome, Stopped};
+use dy_lines::{Outcome, Stopped, write_step_lines};
 use dy_runner::{Seats, run_command};
 use dy_script::Command;
 use dy_shares::Naming;
@@ -155,7 +154,7 @@ impl<'a, J: Naming> OpenCluster<'a, J> {
         let steps = self.cluster.steps_behind(rt, &mut self.mark)?;
         let _end = self.mark.steps();
         let news = News::new(alloc, before, steps.as_slice(), number, told)?;
-        write_news(alloc, &news, out)?;
+        write_step_lines(alloc, &news, news.before, news.steps, out)?;
         Ok(())
     }
 }

@@ -3,7 +3,7 @@ use Rattle.std.proofs.Common.{◌∙◌, ◌+◌, [], arith, drop}
 use Rattle.std.proofs.lemmas.List.{length-drop, take_all}
 use Rattle.dy_shares.specs.Shares.{steps_of}
 use Rattle.dy_cluster.proofs.Marking.{kept_no_fewer}
-use Rattle.dy_runner.specs.Traces.{step_lines}
+use Rattle.dy_lines.specs.StepLines.{step_lines}
 use Rattle.dy_serve.specs.inside.Telling.{teller_of}
 use Rattle.dy_serve.proofs.Lowering.{left_so}
 use Rattle.dy_serve.proofs.closing.write_left.Goals as goal
@@ -31,5 +31,5 @@ returns g c read log steps begins history =
           told news.told begins history (c.kept-trail.ensures.kept (steps_of log) history) steps
           made.before steps_are made.session made.told c.nothing_told.ensures.acks
           c.nothing_told.ensures.fetches,
-      c.in_ok-write_news.ensures,
+      c.in_ok-write_step_lines.ensures,
     )

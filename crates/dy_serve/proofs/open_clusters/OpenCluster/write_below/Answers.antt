@@ -2,7 +2,7 @@
 use Rattle.std.proofs.Common.{◌≡◌, ◌∙◌, ◌+◌, [], Bool, true, ap, arith, length, rules, subst}
 use Rattle.dy_shares.specs.Shares.{steps_of}
 use Rattle.dy_runner.specs.Runs.{seated}
-use Rattle.dy_runner.specs.Traces.{step_lines}
+use Rattle.dy_lines.specs.StepLines.{step_lines}
 use Rattle.dy_serve.specs.Below.{AreBelowIf, standing}
 use Rattle.dy_serve.specs.inside.Telling.{teller_of}
 use Rattle.dy_serve.proofs.Lowering.{below_so, moved_by}
@@ -39,5 +39,5 @@ returns-clause-below g c =
           sessions old now c.in_ok-told.told news.told c.in_ok-steps.steps.items news.steps.now
           c.in_ok-told.ensures.ok c.in_ok-steps.ensures.ok c.steps-before.ensures made.before
           (made.steps ∙ c.as_slice.ensures.value) made.session made.told),
-      c.in_ok-write_news.ensures,
+      c.in_ok-write_step_lines.ensures,
     )

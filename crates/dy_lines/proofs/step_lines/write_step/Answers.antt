@@ -1,17 +1,16 @@
 -- before the line of a step that is no fetch stands what was told of the fetches before it
-use Rattle.std.proofs.Common.{◌≡◌, ◌+◌, ℕ, List, ◌++◌, Bool, false, if◌then◌else◌, subst, sym, ◌∙◌}
+use Rattle.std.proofs.Common.{◌≡◌, ℕ, List, ◌++◌, Bool, false, if◌then◌else◌, subst, sym, ◌∙◌}
 use Rattle.std.proofs.KnownBytes.{Appends-trans}
 use Rattle.std.specs.Io.KnownBytes.{Appends}
-use Rattle.dy_runner.specs.Traces.{is_fetch, step_line, told_line}
-use Rattle.dy_serve.specs.inside.Telling.{teller_of}
-use Rattle.dy_serve.proofs.telling.write_step.Goals as goal
+use Rattle.dy_lines.specs.StepLines.{is_fetch, step_line, told_line}
+use Rattle.dy_lines.proofs.step_lines.write_step.Goals as goal
 
 pub returns-clause-wrote : goal.returns-clause-wrote
 returns-clause-wrote g c =
     let contents = g.O.Write.contents in
-    let s = teller_of c.args.news.now in
+    let s = g.A.Audience.sessions c.args.audience.now in
     let before = c.args.fetches.now.items in
-    let step = step_line s (c.args.news.now.before + c.args.place + 1) c.args.step.now in
+    let step = step_line s c.args.number c.args.step.now in
     let first = contents c.args.out.now in
     let last = contents c.write_line-2.new.out in
     let told : Appends first (contents c.write_told.new.out) (told_line s before) =

@@ -1,2 +1,0 @@
--- What contracts of private functions alone speak of.
-pub mod Fetches
