@@ -1,10 +1,13 @@
 ghost use Rattle.std.specs.Prelude.{◌≡◌, true, IsTrue, IfOk, IfErr, IfSome, IsOkUnless};
+ghost use Rattle.std.specs.Prelude.{OnErr, OnOk};
 ghost use Rattle.std.specs.List.{All};
 ghost use Rattle.std.specs.Sync.Mutex.{mutex_guard_value};
 ghost use Rattle.dy_preference.specs.Preferences.{homes_of, may_hold};
 ghost use Rattle.dy_core.specs.Worlds.{layout_of};
+ghost use Rattle.dy_book.specs.Books.{issue_steps, with_untold};
 ghost use Rattle.dy_node.specs.Answers.{AnsweredBy, MayAsk};
-ghost use Rattle.dy_node.specs.Nodes.{AreForHomes, AreForOthers, hints_of};
+ghost use Rattle.dy_node.specs.Nodes.{AreForHomes, AreForOthers, hints_of, version_begun};
+ghost use Rattle.dy_node.specs.Stored.{versions_at};
 ghost use Rattle.dy_node.specs.declared.asks.Answer.TheVariants.{NoAnswer};
 ghost use Rattle.dy_transport.specs.Asking.{IsAnswerTo, IsBegun, IsSeenAt};
 ghost use Rattle.dy_transport.specs.Refusals.{IsOfBegin, IsOfNode, IsOfOffer};
@@ -55,6 +58,10 @@ fn begin_by<J: Naming>(
     requires may_hold { IsTrue (may_hold (homes_of J.ring J.n key.now) node home) }
     ensures begun { IfOk result (λ b.
         IsBegun (layout_of J.ring J.n) node home key.now context.now value b) }
+    ensures log { OnOk result (book.new ≡ with_untold book.old (issue_steps node home
+        (version_begun book.old held.old key.now context.now value))) }
+    ensures row { IfOk result (λ b. b.row.versions ≡ versions_at held.new.rooms home key.now) }
+    ensures err { OnErr result ((held.new ≡ held.old) × (book.new ≡ book.old)) }
     ensures refused { IfErr result IsOfBegin }
 {
     // Bring the clauses that the book's log is legal, and that the node keeps what it says.

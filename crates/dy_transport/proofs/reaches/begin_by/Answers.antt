@@ -1,8 +1,8 @@
-use Rattle.std.proofs.Common.{◌∙◌, ap, refl, subst, sym, IfOk}
+use Rattle.std.proofs.Common.{◌≡◌, ◌∙◌, ℕ, ap, refl, subst, sym, IfOk, OnOk}
 use Rattle.dy_core.specs.Worlds.{layout_of}
-use Rattle.dy_book.specs.Books.{BookParts, world_of}
+use Rattle.dy_book.specs.Books.{BookParts, issue_steps, with_untold, world_of}
 use Rattle.dy_shares.specs.Shares.{steps_of}
-use Rattle.dy_node.specs.Nodes.{HoldsAs, NodeState}
+use Rattle.dy_node.specs.Nodes.{HoldsAs, NodeState, version_begun}
 use Rattle.dy_transport.specs.Asking.{IsBegun}
 use Rattle.dy_transport.proofs.Reached.{begun_fits}
 use Rattle.dy_transport.proofs.reaches.begin_by.Goals as goal
@@ -25,3 +25,19 @@ returns-clause-begun g c =
     (steps_of book.log) _ _ c.begin.result c.log_is_legal.ensures refl (holds c.args.home key)
     c.begin.ensures.follows c.begin.ensures.dot c.begin.ensures.key c.begin.ensures.row
     c.begin.ensures.in_row c.begin.ensures.receipt)
+
+-- the steps of the issue are the node's own, behind the book that was lent
+pub returns-clause-log : goal.returns-clause-log
+returns-clause-log g c =
+    let made = c.begin.new.book in
+    let key = c.args.key.now in
+    let context = c.args.context.now in
+    subst (λ (b : BookParts). OnOk c.begin.result (made ≡ with_untold b (issue_steps c.args.node
+    c.args.home (version_begun b c.args.held.now key context c.args.value)))) c.agree.ensures.book
+    (subst (λ (n : NodeState). OnOk c.begin.result (made ≡ with_untold c.agree.new.book
+    (issue_steps c.args.node c.args.home
+    (version_begun c.agree.new.book n key context c.args.value)))) c.agree.ensures.node
+    (subst (λ (n : ℕ). OnOk c.begin.result (made ≡ with_untold c.agree.new.book (issue_steps n
+    c.args.home (version_begun c.agree.new.book c.agree.new.self key context c.args.value))))
+    (ap (λ (n : NodeState). n.part.node) c.agree.ensures.node ∙ c.requires.number)
+    c.begin.ensures.log))
