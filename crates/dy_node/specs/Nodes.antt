@@ -56,6 +56,10 @@ pub record RestState : Type 0 where
   pub mode : Mode
   pub waiting : List Message
 
+-- the node is up, and does what it is asked
+abbrev pub IsRestored : RestState → Type 0
+IsRestored rest = (rest.is_up ≡ true) × (rest.mode ≡ Plain)
+
 -- the rest of a node as plain data
 abbrev pub rest_code : Coded RestState
 rest_code =

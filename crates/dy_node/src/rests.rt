@@ -38,6 +38,18 @@ impl Model for Rest {
     } };
 }
 
+impl Rest {
+    ghost use Rattle.std.specs.Prelude.{◌↔◌, IsTrue};
+    ghost use Rattle.dy_node.specs.Nodes.{IsRestored};
+
+    /// Whether the node is up, and does what it is asked. Takes no memory.
+    pub fn is_restored(&self) -> bool
+        ensures { IsTrue result ↔ IsRestored self.now }
+    {
+        self.is_up && self.mode == Mode::Plain
+    }
+}
+
 impl<J: Naming> Node<J> {
     /// Takes the node apart: its share, which can be handed in, and its rest. Takes no memory.
     pub fn retire(self) -> (NodeShare<J>, Rest)
