@@ -1,5 +1,5 @@
 // How a ledger ends: who is missing, and every share comes back.
-ghost use Rattle.std.specs.Prelude.{◌≡◌, ℕ, ◌+◌, ◌<◌, Decides, IfSome, IfNone, map};
+ghost use Rattle.std.specs.Prelude.{◌≡◌, ℕ, ◌+◌, ◌<◌, Decides, MatchBool, map};
 ghost use Rattle.std.specs.List.{All};
 ghost use Rattle.dy_shares.specs.inside.Parts.{AgreesAsNode, AgreesAsSession, CameBack};
 ghost use Rattle.dy_shares.specs.Shares.{HasNode, HasSession};
@@ -38,17 +38,18 @@ fn has_node<J: Naming>(shares: &[NodeShare<J>], node: usize) -> bool
         .any(|share| share.node().number() as usize == node)
 }
 
-// The least node below this number that has no share among these.
-pub(crate) fn missing_node<J: Naming>(shares: &[NodeShare<J>], nodes: usize) -> Option<usize>
-    ensures some { IfSome result (λ node. (node < nodes) × ¬ (HasNode node shares.now)) }
-    ensures none { IfNone result ((node : ℕ) → node < nodes → HasNode node shares.now) }
+// Whether a node below this number has no share among these.
+pub(crate) fn lacks_node<J: Naming>(shares: &[NodeShare<J>], nodes: usize) -> bool
+    ensures { MatchBool result
+        ((node : ℕ) × (node < nodes) × ¬ (HasNode node shares.now))
+        ((node : ℕ) → node < nodes → HasNode node shares.now) }
 {
     for node in 0..nodes {
         if !has_node(shares, node) {
-            return Some(node);
+            return true;
         }
     }
-    None
+    false
 }
 
 fn has_session<J: Naming>(shares: &[SessionShare<J>], session: usize) -> bool
@@ -57,22 +58,18 @@ fn has_session<J: Naming>(shares: &[SessionShare<J>], session: usize) -> bool
     shares.iter().any(|share| share.session() == session)
 }
 
-// The least session below this number that has no share among these.
-pub(crate) fn missing_session<J: Naming>(
-    shares: &[SessionShare<J>],
-    sessions: usize,
-) -> Option<usize>
-    ensures some { IfSome result (λ session.
-        (session < sessions) × ¬ (HasSession session shares.now)) }
-    ensures none { IfNone result ((session : ℕ) →
-        session < sessions → HasSession session shares.now) }
+// Whether a session below this number has no share among these.
+pub(crate) fn lacks_session<J: Naming>(shares: &[SessionShare<J>], sessions: usize) -> bool
+    ensures { MatchBool result
+        ((session : ℕ) × (session < sessions) × ¬ (HasSession session shares.now))
+        ((session : ℕ) → session < sessions → HasSession session shares.now) }
 {
     for session in 0..sessions {
         if !has_session(shares, session) {
-            return Some(session);
+            return true;
         }
     }
-    None
+    false
 }
 
 // Compares each node's share with its seat of the roll, for the last time, and marks the seat.

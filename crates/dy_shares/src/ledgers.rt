@@ -21,7 +21,7 @@ ghost use Rattle.dy_shares.specs.declared.ledgers.TheConstants.{MAX_SESSIONS};
 
 use crate::chronicles::Chronicle;
 use crate::endings::{
-    EndRefused, drop_nodes, drop_sessions, end_nodes, end_sessions, missing_node, missing_session,
+    EndRefused, drop_nodes, drop_sessions, end_nodes, end_sessions, lacks_node, lacks_session,
 };
 use crate::entries::Batch;
 use crate::kept_steps::KeptStep;
@@ -287,13 +287,7 @@ impl<J: Naming> Ledger<J> {
             (IsMissing J.ring.nodes self.now.sessions nodes.now sessions.now)
             (HasAll J.ring.nodes self.now.sessions nodes.now sessions.now) }
     {
-        if let Some(_node) = missing_node(nodes, self.nodes as usize) {
-            return true;
-        }
-        if let Some(_session) = missing_session(sessions, self.sessions) {
-            return true;
-        }
-        false
+        lacks_node(nodes, self.nodes as usize) || lacks_session(sessions, self.sessions)
     }
 
     /// Ends the ledger, where each of its shares is handed in, and gives its trail; otherwise the
@@ -311,14 +305,7 @@ impl<J: Naming> Ledger<J> {
         ensures nodes_back { IfErr result (λ refused. refused.nodes.items ≡ nodes.items) }
         ensures sessions_back { IfErr result (λ refused. refused.sessions.items ≡ sessions.items) }
     {
-        if let Some(_node) = missing_node(nodes.as_slice(), self.nodes as usize) {
-            return Err(EndRefused {
-                ledger: self,
-                nodes,
-                sessions,
-            });
-        }
-        if let Some(_session) = missing_session(sessions.as_slice(), self.sessions) {
+        if self.lacks(nodes.as_slice(), sessions.as_slice()) {
             return Err(EndRefused {
                 ledger: self,
                 nodes,

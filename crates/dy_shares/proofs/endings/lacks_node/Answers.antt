@@ -2,7 +2,7 @@ use Rattle.std.proofs.Common.{rules, sym, subst, arith}
 use mathlib.Core.Logic.{dite}
 use native.Mathlib.Decide.{ℕ_discrete}
 use Rattle.dy_shares.specs.Shares.{HasNode}
-use Rattle.dy_shares.proofs.endings.missing_node.Goals as goal
+use Rattle.dy_shares.proofs.endings.lacks_node.Goals as goal
 
 -- this one was found just now, and those before it earlier
 pub loop-node-preserved : goal.loop-node-preserved

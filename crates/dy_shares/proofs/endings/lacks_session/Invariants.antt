@@ -1,6 +1,6 @@
 use Rattle.std.proofs.Common.{ℕ, ◌<◌}
 use Rattle.dy_shares.specs.Shares.{HasSession}
-use Rattle.dy_shares.proofs.endings.missing_session.Given as goal
+use Rattle.dy_shares.proofs.endings.lacks_session.Given as goal
 
 -- each one before has its share
 abbrev pub invariant-loop-session : goal.invariant-loop-session
