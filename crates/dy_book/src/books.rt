@@ -160,13 +160,14 @@ impl<J: Naming> Book<J> {
     pub fn acks_are_covered(&self)
         ensures { AcksAreCovered (layout_of J.ring J.n) (world_of self.now) }
     {
-        let _alloc = &self.alloc;
+        self.log_is_legal();
     }
 
     /// Whenever the book's lock is free, its log is legal. Takes no memory.
     pub fn log_is_legal(&self)
         ensures { IsLegal (layout_of J.ring J.n) (steps_of self.now.log) }
     {
+        // What the type keeps is known once a field is read.
         let _alloc = &self.alloc;
     }
 
@@ -198,7 +199,7 @@ impl<J: Naming> Book<J> {
         ensures { (key : List ℕ) → IsPart (world_of self.now) key (option_copied part.entry) →
             result ≡ (world_of self.now).counters node key }
     {
-        let _alloc = &self.alloc;
+        self.log_is_legal();
         match part {
             Some(part) => part.count(node),
             None => 0,
@@ -225,7 +226,7 @@ impl<J: Naming> Book<J> {
             (λ v. Contains (world_of self.now).versions v.now
             × (v.now.key ≡ key) × (v.now.dot ≡ dot)) }
     {
-        let _alloc = &self.alloc;
+        self.log_is_legal();
         let _counter = dot.counter();
         match part {
             Some(part) => part.version(dot),

@@ -138,7 +138,6 @@ impl<J: Naming> Book<J> {
             (λ places. ListsCovers (world_of self.now) key.now dot places.items) }
         ensures memory { IsOkUnless result Fault.OutOfMemory }
     {
-        let _alloc = &self.alloc;
         match self.part(key) {
             Some(part) => {
                 let places = dy_core::covering(self.alloc, part.places.as_slice(), key, dot)?;

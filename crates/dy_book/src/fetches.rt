@@ -102,7 +102,7 @@ impl<J: Naming> Book<J> {
     pub fn held_dots(&self, place: Place, key: &Key) -> &[Dot]
         ensures { ListsDots (world_of self.now) place.holder place.home key.now result.now }
     {
-        let _alloc = &self.alloc;
+        self.log_is_legal();
         match self.part(key) {
             Some(part) => custodies::dots_at(part.places.as_slice(), place, key),
             None => &[],

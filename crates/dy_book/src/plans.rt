@@ -56,7 +56,7 @@ impl<J: Naming> Book<J> {
             (AreIssuedBelow (world_of self.now).versions key run.now (run.now.last + 1))
             (IsFirstUnissued (world_of self.now).versions key run.now) }
     {
-        let _alloc = &self.alloc;
+        self.log_is_legal();
         let last = self.last_in(part, run.node);
         if run.last as usize <= last {
             return None;
@@ -112,7 +112,6 @@ impl<J: Naming> Book<J> {
         ensures inside { IfOk result (λ first. HasFrom past.new dot.node first (dot.counter + 1)) }
         ensures memory { IsOkUnless result Fault.OutOfMemory }
     {
-        let _alloc = &self.alloc;
         if past.contains(dot) {
             return Ok(low_end(past, dot));
         }

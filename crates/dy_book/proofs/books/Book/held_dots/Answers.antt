@@ -1,8 +1,7 @@
-use Rattle.std.proofs.Common.{[], map, refl, ap, ◌∙◌, subst}
+use Rattle.std.proofs.Common.{[], map, refl, ap, ◌∙◌}
 use Rattle.dy_siblings.specs.declared.versions.Version.{Version}
 use Rattle.dy_core.specs.Worlds.{layout_of}
 use Rattle.dy_core.specs.inside.Meanings.{row_in}
-use Rattle.dy_core.specs.Logs.{IsLegal}
 use Rattle.dy_shares.specs.Shares.{steps_of}
 use Rattle.dy_book.proofs.Dotting.{lists_dots}
 use Rattle.dy_book.proofs.books.Book.held_dots.Goals as goal
@@ -10,8 +9,7 @@ use Rattle.dy_book.proofs.books.Book.held_dots.Goals as goal
 pub returns-in-Some : goal.returns-in-Some
 returns-in-Some g c =
     let layout = layout_of g.J.Naming.ring g.J.Naming.n in
-    let legal = subst (λ b. IsLegal layout (steps_of b.log)) c.self.view_is
-    c.self.invariant.legal in
+    let legal = c.log_is_legal.ensures in
     let holder = c.args.place.holder in
     let home = c.args.place.home in
     let key = c.args.key.now in
@@ -26,8 +24,7 @@ returns-in-Some g c =
 pub returns-in-None : goal.returns-in-None
 returns-in-None g c =
     let layout = layout_of g.J.Naming.ring g.J.Naming.n in
-    let legal = subst (λ b. IsLegal layout (steps_of b.log)) c.self.view_is
-    c.self.invariant.legal in
+    let legal = c.log_is_legal.ensures in
     lists_dots layout (steps_of c.args.self.now.log) legal c.args.place.holder c.args.place.home
     c.args.key.now [] (c.in-None.ensures.rows_are c.args.place.holder c.args.place.home) [] refl
     tt

@@ -1,7 +1,6 @@
 use Rattle.std.proofs.Common.{None, Some, refl, ap, subst}
 use Rattle.std.specs.Option.{option_copied}
 use Rattle.dy_core.specs.Worlds.{layout_of}
-use Rattle.dy_core.specs.Logs.{IsLegal}
 use Rattle.dy_shares.specs.Shares.{steps_of}
 use Rattle.dy_book.specs.Books.{world_of}
 use Rattle.dy_book.specs.inside.Indexes.{IsPart}
@@ -11,8 +10,7 @@ use Rattle.dy_book.proofs.books.Book.version_in.Goals as goal
 pub returns-in-Some : goal.returns-in-Some
 returns-in-Some g c = λ key of_key.
     let layout = layout_of g.J.Naming.ring g.J.Naming.n in
-    let legal = subst (λ b. IsLegal layout (steps_of b.log)) c.self.view_is
-    c.self.invariant.legal in
+    let legal = c.log_is_legal.ensures in
     found_is layout (steps_of c.args.self.now.log) legal key (Some c.in-Some.part.now)
     (subst (IsPart (world_of c.args.self.now) key) (ap option_copied c.in-Some.is) of_key)
     c.args.dot c.counter-counter.ensures.valid.1 c.version.result c.version.ensures
@@ -20,8 +18,7 @@ returns-in-Some g c = λ key of_key.
 pub returns-in-None : goal.returns-in-None
 returns-in-None g c = λ key of_key.
     let layout = layout_of g.J.Naming.ring g.J.Naming.n in
-    let legal = subst (λ b. IsLegal layout (steps_of b.log)) c.self.view_is
-    c.self.invariant.legal in
+    let legal = c.log_is_legal.ensures in
     found_is layout (steps_of c.args.self.now.log) legal key None
     (subst (IsPart (world_of c.args.self.now) key) (ap option_copied c.in-None.is) of_key)
     c.args.dot c.counter-counter.ensures.valid.1 None refl
