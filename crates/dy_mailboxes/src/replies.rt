@@ -5,11 +5,12 @@ ghost use Rattle.crossbeam_channel.specs.Claims.{IsSeatAt};
 ghost use Rattle.crossbeam_channel.specs.Ends.{ruled_capacity, sends_on};
 ghost use Rattle.dy_mailboxes.specs.inside.Calls.{first_call, next_call, with_ask};
 
+use crate::gates::Gate;
 use crate::parcels::Answered;
 use crossbeam_channel::{Pass, RuledSender};
 use crossbeam_utils::sync::Unparker;
 use dy_channels::{Apart, Counted, Receiver, Sender, channel};
-use dy_dots::Fault;
+use dy_dots::{Fault, NodeId};
 use dy_node::Answer;
 use dy_shares::Naming;
 use std::alloc::Global;
@@ -80,13 +81,6 @@ fn line_of<J: Naming>(
         client,
     };
     Ok(Arc::new(alloc, line)?)
-}
-
-// Whether the client may have to act once it has this answer, whatever else is to come: a get may
-// have enough rows, and what was not done may call for a stand-in. Who asks nodes to store reads
-// every answer.
-fn is_urgent<J: Naming>(answer: &Answer<J>) -> bool {
-    !matches!(answer, Answer::Stored(_))
 }
 
 // The next answer to the call of this number; one to another is dropped.
@@ -199,7 +193,9 @@ impl<J: Naming> ReplyTo<J> {
     {
         let _ = present;
         let is_last = answered.is_last;
-        let is_urgent = is_urgent(&answered.answer);
+        // The client may have to act once it has this one: a get may have enough rows, and what was
+        // not done may call for a stand-in. Who asks nodes to store reads every answer.
+        let is_urgent = !matches!(&answered.answer, Answer::Stored(_));
         let _is_sent = self
             .line
             .end
@@ -212,11 +208,12 @@ impl<J: Naming> ReplyTo<J> {
         }
     }
 
-    /// Sends an answer, and wakes the client where nothing more is to come, or where it may have to
-    /// act before. An answer to an earlier call is dropped, since nobody reads it. Takes no memory.
-    pub fn send<R: Wait>(&mut self, rt: &R, answered: Answered<J>) {
+    /// Sends the node's answer past the gate. It wakes the client where nothing more is to come, or
+    /// where it may have to act before. One to an earlier call is dropped. Takes no memory.
+    pub fn send<G: Gate, R: Wait>(&mut self, rt: &R, gate: &G, to: NodeId, answered: Answered<J>) {
         let present = self.line.present.load(Ordering::SeqCst);
         if answered.call == present {
+            gate.compared(to);
             self.send_present(rt, present, answered);
         }
     }

@@ -210,15 +210,9 @@ impl<J: Naming> Transport<J> for Mailboxes<'_, J> {
 
     fn ask<R: Wait>(&mut self, rt: &R, to: NodeId, ask: &Ask<'_, J>) {
         let number = self.sheet.ask_count();
-        let posted = post_ask(
-            rt,
-            self.alloc,
-            &mut self.post,
-            &mut self.replies,
-            number,
-            to,
-            ask,
-        );
+        let post = &mut self.post;
+        let replies = &mut self.replies;
+        let posted = post_ask(rt, self.alloc, post, replies, number, to, ask);
         tell_ask(&mut self.sheet, to, ask, posted);
     }
 

@@ -16,18 +16,19 @@ use std::sync::{Mutex, Wait};
 // How many asks a worker answers under one hold of its locks, at most.
 const ROUND: usize = 8;
 
-// What came of an ask: where its answers go, and what carries them.
+// What came of an ask: who was asked, where its answers go, and what carries them.
 #[derive(Drop)]
 struct Replied<J: Naming> {
+    to: NodeId,
     reply_to: ReplyTo<J>,
     first: Answered<J>,
     second: Option<Answered<J>>,
 }
 
 /// A worker: answers what comes to the mailbox of its node, the one of these whose place is its
-/// number, until the mailbox is closed and empty. Each ask passes the gate. Those that lie there
-/// together are answered under one hold of the node's lock, and then the book's. Where no node lies
-/// at that place nothing is answered. May wait for an ask, and for locks.
+/// number, until the mailbox is closed and empty. Each ask passes the gate, and each answer sent.
+/// Asks that lie there together are answered under one hold of the node's lock, then the book's.
+/// Where no node lies at that place nothing is answered. May wait for an ask, and for locks.
 pub fn serve<J: Naming, G: Gate, R: Wait>(
     rt: &R,
     nodes: &[Mutex<Node<J>>],
@@ -44,10 +45,10 @@ pub fn serve<J: Naming, G: Gate, R: Wait>(
         };
         gate.pass(first.to, &first.parcel.ask());
         match inbox.take(rt) {
-            None => serve_one(rt, node, book, first),
+            None => serve_one(rt, node, book, first, gate),
             Some(second) => {
                 let asks = with_more(rt, &mut inbox, first, second, gate);
-                serve_round(rt, node, book, asks);
+                serve_round(rt, node, book, asks, gate);
             }
         }
     }
@@ -55,18 +56,19 @@ pub fn serve<J: Naming, G: Gate, R: Wait>(
 
 // Answers the ask, and sends the answers once the locks are free. Most asks lie in their mailbox
 // alone, and a round costs more than they do.
-fn serve_one<J: Naming, R: Wait>(
+fn serve_one<J: Naming, G: Gate, R: Wait>(
     rt: &R,
     node: &Mutex<Node<J>>,
     book: &Mutex<Book<J>>,
     posted: Posted<J>,
+    gate: &G,
 ) {
     let replied = {
         let mut held = node.lock(rt);
         let mut open = book.lock(rt);
         reply_of(&mut held, &mut open, posted)
     };
-    send_all(rt, replied);
+    send_all(rt, replied, gate);
 }
 
 // The first ask, which has passed the gate, the second, and those that lie in the mailbox behind
@@ -93,26 +95,28 @@ fn with_more<J: Naming, G: Gate, R: Wait>(
 }
 
 // Answers the asks, and sends the answers once the locks are free.
-fn serve_round<J: Naming, R: Wait>(
+fn serve_round<J: Naming, G: Gate, R: Wait>(
     rt: &R,
     node: &Mutex<Node<J>>,
     book: &Mutex<Book<J>>,
     asks: [Option<Posted<J>>; ROUND],
+    gate: &G,
 ) {
     let mut replies = answer_round(rt, node, book, asks);
     for replied in replies.iter_mut() {
         if let Some(replied) = replied.take() {
-            send_all(rt, replied);
+            send_all(rt, replied, gate);
         }
     }
 }
 
 // Sends the answers to an ask.
-fn send_all<J: Naming, R: Wait>(rt: &R, replied: Replied<J>) {
+fn send_all<J: Naming, G: Gate, R: Wait>(rt: &R, replied: Replied<J>, gate: &G) {
+    let to = replied.to;
     let mut reply_to = replied.reply_to;
-    reply_to.send(rt, replied.first);
+    reply_to.send(rt, gate, to, replied.first);
     if let Some(second) = replied.second {
-        reply_to.send(rt, second);
+        reply_to.send(rt, gate, to, second);
     }
 }
 
@@ -140,6 +144,7 @@ fn reply_of<J: Naming>(held: &mut Node<J>, book: &mut Book<J>, posted: Posted<J>
     let reply_to = posted.reply_to;
     let (first, second) = messages(reply_to.call, reply_to.number, answer, later);
     Replied {
+        to: posted.to,
         reply_to,
         first,
         second,
