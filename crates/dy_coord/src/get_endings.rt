@@ -102,6 +102,6 @@ pub(crate) fn finish<J: Naming>(
                 answers,
             })
         }
-        Err(fault) => Err(GetFault::unlisted(alloc, fault)),
+        Err(fault) => Err(GetFault::without_answers(alloc, fault)),
     }
 }

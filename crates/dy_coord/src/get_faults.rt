@@ -21,8 +21,8 @@ impl From<GetFault> for Fault {
 }
 
 impl GetFault {
-    // A refusal that lists no answers.
-    pub(crate) fn unlisted(alloc: Global, fault: Fault) -> GetFault
+    /// A refusal that lists no answers. Takes no memory.
+    pub fn without_answers(alloc: Global, fault: Fault) -> GetFault
         ensures fault { result.fault ≡ fault }
         ensures answers { result.answers.items ≡ [] }
     {

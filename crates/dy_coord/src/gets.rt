@@ -72,7 +72,7 @@ pub fn get<J: Naming, T: Transport<J>, R: Wait>(
 {
     let (mut answers, mut gathering) = match prepare(alloc, list, r) {
         Ok(made) => made,
-        Err(fault) => return Err(GetFault::unlisted(alloc, fault)),
+        Err(fault) => return Err(GetFault::without_answers(alloc, fault)),
     };
     let since = session.since();
     match look_somewhere(rt, transport, list, key, &since) {
@@ -96,7 +96,7 @@ pub fn get<J: Naming, T: Transport<J>, R: Wait>(
             }
             finish(alloc, gathering, answers, session)
         }
-        Somewhere::NoNode => Err(GetFault::unlisted(alloc, Fault::NoNode)),
-        Somewhere::Refused(fault) => Err(GetFault::unlisted(alloc, fault)),
+        Somewhere::NoNode => Err(GetFault::without_answers(alloc, Fault::NoNode)),
+        Somewhere::Refused(fault) => Err(GetFault::without_answers(alloc, fault)),
     }
 }

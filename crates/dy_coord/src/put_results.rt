@@ -50,8 +50,8 @@ impl From<PutFault> for Fault {
 }
 
 impl PutFault {
-    // Refused before a version was made.
-    pub(crate) fn early(alloc: Global, fault: Fault) -> PutFault
+    /// Refused before a version was made, so with no answer to list. Takes no memory.
+    pub fn early(alloc: Global, fault: Fault) -> PutFault
         ensures fault { result.fault ≡ fault }
         ensures dot { result.dot ≡ None }
         ensures answers { result.answers.items ≡ [] }

@@ -91,8 +91,8 @@ returns-in-NoNode-clause-refused g c =
     inr (inr (record {
       asks = l.asks ∙ c.requires.fresh_asks;
       replies = l.replies ∙ c.requires.fresh_replies;
-      answers = c.unlisted-in-NoNode.ensures.answers;
-      cause = inr (inl (c.unlisted-in-NoNode.ensures.fault, rw (← c.since-since.ensures) l.tries));
+      answers = c.without_answers-in-NoNode.ensures.answers;
+      cause = inr (inl (c.without_answers-in-NoNode.ensures.fault, rw (← c.since-since.ensures) l.tries));
     }))
 
 -- a node refused
@@ -102,8 +102,8 @@ returns-in-Refused-clause-refused g c =
     inr (inr (record {
       asks = l.asks ∙ c.requires.fresh_asks;
       replies = l.replies ∙ c.requires.fresh_replies;
-      answers = c.unlisted-in-Refused.ensures.answers;
-      cause = inr (inr (rw (c.unlisted-in-Refused.ensures.fault, ← c.since-since.ensures) l.tries));
+      answers = c.without_answers-in-Refused.ensures.answers;
+      cause = inr (inr (rw (c.without_answers-in-Refused.ensures.fault, ← c.since-since.ensures) l.tries));
     }))
 
 -- r homes answered, and nothing is listed
