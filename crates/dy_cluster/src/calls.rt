@@ -8,6 +8,8 @@ ghost use Rattle.dy_coord.specs.Gets.{IsGetRefused, IsGot};
 ghost use Rattle.dy_coord.specs.PutDones.{IsPutDone};
 ghost use Rattle.dy_coord.specs.PutEnds.{PutEnds};
 ghost use Rattle.dy_repair.specs.Repairs.{IsRepaired};
+ghost use Rattle.dy_repair.specs.Stales.{AreCurrent};
+ghost use Rattle.dy_cluster.specs.Connections.{IsMended};
 ghost use Rattle.dy_cluster.specs.Lists.{list_of};
 
 use crate::clusters::Cluster;
@@ -15,9 +17,10 @@ use crate::kept_lists::KeptLists;
 use dy_coord::{GetDone, GetFault, PutDone, PutFault};
 use dy_dots::{Context, Fault};
 use dy_preference::{Preference, preference};
+use dy_repair::are_current;
 use dy_shares::{Naming, Seen, SessionShare};
 use dy_siblings::{Key, Row, Value};
-use dy_transport::{AnswerVec, Transport};
+use dy_transport::Transport;
 use std::sync::Wait;
 
 impl<J: Naming> Cluster<J> {
@@ -26,30 +29,6 @@ impl<J: Naming> Cluster<J> {
         ensures { result ≡ list_of J.ring J.n key.now }
     {
         preference(&self.ring, key, self.options.n)
-    }
-
-    // A put that was refused before anybody was tried.
-    pub(crate) fn put_untried(&self, fault: Fault) -> PutFault
-        ensures fault { result.fault ≡ fault }
-        ensures dot { result.dot ≡ None }
-        ensures answers { result.answers.items ≡ [] }
-    {
-        PutFault {
-            fault,
-            dot: None,
-            answers: AnswerVec::new(self.alloc),
-        }
-    }
-
-    // A get that was refused before anybody was asked.
-    pub(crate) fn get_unasked(&self, fault: Fault) -> GetFault
-        ensures fault { result.fault ≡ fault }
-        ensures answers { result.answers.items ≡ [] }
-    {
-        GetFault {
-            fault,
-            answers: AnswerVec::new(self.alloc),
-        }
     }
 
     /// A put of the key at w homes, over a transport of this cluster. May wait for answers and
@@ -294,5 +273,30 @@ impl<J: Naming> Cluster<J> {
             Some(list) => dy_repair::repair(rt, self.alloc, transport, seens, row, list),
             None => self.repair(rt, transport, seens, row),
         }
+    }
+
+    // Renews the transport, and asks each home that gave the get a stale answer to store the merged
+    // row. Where none did, nobody is asked, and the transport stays.
+    pub(crate) fn mend_kept<T: Transport<J>, R: Wait>(
+        &self,
+        rt: &R,
+        transport: &mut T,
+        lists: &KeptLists<J>,
+        done: &GetDone<J>,
+    ) -> Result<(), Fault>
+        requires room { MAX_NODES ≤ (T.told transport.old).room }
+        ensures ok { IfOk result (λ _. IsMended
+            (homes_in (list_of J.ring J.n done.now.row.key)) done.now.row done.now.seen.items
+            (T.told transport.old) (T.told transport.new)) }
+        ensures stale { IfErr result (λ _.
+            AreCurrent done.now.row done.now.seen.items → ⊥) }
+        ensures memory { IsOkUnless result Fault.OutOfMemory }
+        ensures room { (T.told transport.new).room ≡ (T.told transport.old).room }
+    {
+        if are_current(done.seen.as_slice(), &done.row) {
+            return Ok(());
+        }
+        transport.renew(rt)?;
+        self.repair_kept(rt, transport, lists, done.seen.as_slice(), &done.row)
     }
 }

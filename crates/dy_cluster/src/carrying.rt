@@ -88,7 +88,7 @@ impl<'a, J: Naming, T: Transport<J>> Connection<'a, J, T> {
         let mut copies = match copies_of(alloc, values) {
             Ok(copies) => copies,
             Err(fault) => {
-                let refused = self.cluster().put_untried(fault);
+                let refused = PutFault::early(alloc, fault);
                 return Err(CarryFault { count: 0, refused });
             }
         };
@@ -128,7 +128,7 @@ pub fn carry_over<J: Naming, T: Transport<J>, R: Wait>(
     let values = match closed.values(alloc) {
         Ok(values) => values,
         Err(fault) => {
-            let refused = connection.cluster().put_untried(fault);
+            let refused = PutFault::early(alloc, fault);
             return Err(CarryFault { count: 0, refused });
         }
     };

@@ -18,7 +18,6 @@ use crate::mending_gets::MendingGet;
 use dy_coord::{GetDone, GetFault, PutDone, PutFault};
 use dy_dots::{Context, Fault};
 use dy_mailboxes::{Mailboxes, Post};
-use dy_repair::are_current;
 use dy_shares::{Naming, SessionShare};
 use dy_siblings::{Key, Value};
 use dy_transport::{Direct, Transport};
@@ -186,7 +185,7 @@ impl<'a, J: Naming, T: Transport<J>> Connection<'a, J, T> {
         ensures w { self.new.w ≡ self.old.w }
     {
         if let Err(fault) = self.transport.renew(rt) {
-            return Err(self.cluster.put_untried(fault));
+            return Err(PutFault::early(self.cluster.alloc, fault));
         }
         self.cluster.put_kept(
             rt,
@@ -235,7 +234,7 @@ impl<'a, J: Naming, T: Transport<J>> Connection<'a, J, T> {
         ensures w { self.new.w ≡ self.old.w }
     {
         if let Err(fault) = self.transport.renew(rt) {
-            return Err(self.cluster.get_unasked(fault));
+            return Err(GetFault::without_answers(self.cluster.alloc, fault));
         }
         self.cluster.get_kept(
             rt,
@@ -258,16 +257,7 @@ impl<'a, J: Naming, T: Transport<J>> Connection<'a, J, T> {
         ensures session { self.new.session ≡ self.old.session }
         ensures w { self.new.w ≡ self.old.w }
     {
-        if are_current(done.seen.as_slice(), &done.row) {
-            return Ok(());
-        }
-        self.transport.renew(rt)?;
-        self.cluster.repair_kept(
-            rt,
-            &mut self.transport,
-            &self.lists,
-            done.seen.as_slice(),
-            &done.row,
-        )
+        self.cluster
+            .mend_kept(rt, &mut self.transport, &self.lists, done)
     }
 }

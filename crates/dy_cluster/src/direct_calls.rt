@@ -7,15 +7,16 @@ ghost use Rattle.dy_quorum.specs.Gatherings.{first_answers};
 ghost use Rattle.dy_coord.specs.Gets.{IsGetRefused, IsGot};
 ghost use Rattle.dy_coord.specs.PutDones.{IsPutDone};
 ghost use Rattle.dy_coord.specs.PutEnds.{PutEnds};
-ghost use Rattle.dy_repair.specs.Repairs.{IsRepaired};
+ghost use Rattle.dy_repair.specs.Stales.{AreCurrent};
+ghost use Rattle.dy_cluster.specs.Connections.{IsMended};
 ghost use Rattle.dy_cluster.specs.Lists.{list_of};
 
 use crate::clusters::Cluster;
 use crate::kept_lists::KeptLists;
 use dy_coord::{GetDone, GetFault, PutDone, PutFault};
 use dy_dots::{Context, Fault};
-use dy_shares::{Naming, Seen, SessionShare};
-use dy_siblings::{Key, Row, Value};
+use dy_shares::{Naming, SessionShare};
+use dy_siblings::{Key, Value};
 use dy_transport::{Direct, Transport};
 use std::marker::Model;
 use std::sync::Wait;
@@ -124,24 +125,23 @@ impl<'a, J: Naming> DirectCalls<'a, J> {
         cluster.get_kept(rt, &mut self.direct, &mut self.lists, session, key)
     }
 
-    /// Repairs: asks each home that gave a stale answer to store this row. May wait for locks.
-    pub fn repair<R: Wait>(
+    /// Renews, and asks each home that gave the get a stale answer to store the merged row (Dynamo,
+    /// section 5). Takes no memory where none did. May wait for locks.
+    pub fn mend<R: Wait>(
         &mut self,
         rt: &R,
         cluster: &Cluster<J>,
-        seens: &[Seen<J>],
-        row: &Row,
+        done: &GetDone<J>,
     ) -> Result<(), Fault>
-        requires fresh_asks { self.old.asks ≡ [] }
-        requires fresh_replies { self.old.replies ≡ [] }
         requires room { MAX_NODES ≤ self.old.room }
-        ensures ok { IfOk result (λ _. IsRepaired (homes_in (list_of J.ring J.n row.now.key))
-            row.now seens.now self.new) }
-        ensures err { IfErr result (λ _. self.new ≡ self.old) }
+        ensures ok { IfOk result (λ _. IsMended
+            (homes_in (list_of J.ring J.n done.now.row.key)) done.now.row done.now.seen.items
+            self.old self.new) }
+        ensures stale { IfErr result (λ _.
+            AreCurrent done.now.row done.now.seen.items → ⊥) }
         ensures memory { IsOkUnless result Fault.OutOfMemory }
-        ensures tries { self.new.tries ≡ self.old.tries }
         ensures room { self.new.room ≡ self.old.room }
     {
-        cluster.repair_kept(rt, &mut self.direct, &self.lists, seens, row)
+        cluster.mend_kept(rt, &mut self.direct, &self.lists, done)
     }
 }

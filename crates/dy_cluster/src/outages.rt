@@ -40,14 +40,14 @@ impl<J: Naming> Cluster<J> {
     pub fn set_up(&self, rt: &impl Wait, node: NodeId, is_up: bool)
         requires ring { IsNodeOf J.ring node }
     {
-        self.lock_of(node).lock(rt).set_up(is_up);
+        set_one_up(&mut self.lock_of(node).lock(rt), is_up);
     }
 
     /// Sets what the node does with asks. May wait for a lock.
     pub fn fault(&self, rt: &impl Wait, node: NodeId, mode: Mode)
         requires ring { IsNodeOf J.ring node }
     {
-        self.lock_of(node).lock(rt).set_fault(mode);
+        set_one_mode(&mut self.lock_of(node).lock(rt), mode);
     }
 
     /// Brings every node up, and sets its mode to `Plain`. May wait for locks.
@@ -65,10 +65,24 @@ fn place_of(node: NodeId) -> usize
     usize::from(node.number())
 }
 
+// The node goes down, or comes up.
+fn set_one_up<J: Naming>(node: &mut Node<J>, is_up: bool)
+    ensures { node.new ≡ with_up node.old is_up }
+{
+    node.set_up(is_up);
+}
+
+// The node does this with asks from now on.
+fn set_one_mode<J: Naming>(node: &mut Node<J>, mode: Mode)
+    ensures { node.new ≡ with_mode node.old mode }
+{
+    node.set_fault(mode);
+}
+
 // Brings the node up, and sets its mode to `Plain`.
 fn restore_one<J: Naming>(node: &mut Node<J>)
     ensures { node.new ≡ with_mode (with_up node.old true) Mode.Plain }
 {
-    node.set_up(true);
-    node.set_fault(Mode::Plain);
+    set_one_up(node, true);
+    set_one_mode(node, Mode::Plain);
 }

@@ -1,10 +1,5 @@
-ghost use Rattle.std.specs.Prelude.{◌≡◌, ◌↔◌, ℕ, List, Result, false, length, IfOk, IsOk};
-ghost use Rattle.std.specs.Prelude.{IsOkUnless};
+ghost use Rattle.std.specs.Prelude.{◌≡◌, ◌↔◌, ℕ, List, Result, false, length};
 ghost use Rattle.dy_dots.specs.declared.nodes.TheConstants.{MAX_NODES};
-ghost use Rattle.dy_reads.specs.Lists.{homes_in};
-ghost use Rattle.dy_repair.specs.Stales.{AreCurrent};
-ghost use Rattle.dy_cluster.specs.Connections.{IsMended};
-ghost use Rattle.dy_cluster.specs.Lists.{list_of};
 ghost use Rattle.dy_dots.specs.declared.faults.Fault.{Fault as FaultParts};
 ghost use Rattle.dy_runner.specs.Answers.{TellsGet};
 ghost use Rattle.dy_runner.specs.Seats.{IsOpen, IsOpened, seat_of};
@@ -18,7 +13,6 @@ use dy_cluster::{Cluster, DirectCalls, Session};
 use dy_coord::{GetDone, GetFault};
 use dy_dots::Fault;
 use dy_lines::{Outcome, Word};
-use dy_repair::are_current;
 use dy_shares::Naming;
 use dy_siblings::Key;
 use std::alloc::Global;
@@ -76,30 +70,8 @@ fn get_in<J: Naming, R: Wait>(
         Ok(done) => done,
         Err(refusal) => return read::<J>(Err(refusal)),
     };
-    let _ = mend(rt, cluster, direct, &done);
+    let _ = direct.mend(rt, cluster, &done);
     read(Ok(done))
-}
-
-// Has each home that the get found stale store what it gave. Takes no memory where none was.
-fn mend<J: Naming, R: Wait>(
-    rt: &R,
-    cluster: &Cluster<J>,
-    direct: &mut DirectCalls<'_, J>,
-    done: &GetDone<J>,
-) -> Result<(), Fault>
-    requires room { direct.old.room ≡ MAX_NODES }
-    ensures room { direct.new.room ≡ MAX_NODES }
-    ensures ok { IfOk result (λ _. IsMended
-        (homes_in (list_of J.ring J.n done.now.row.key)) done.now.row done.now.seen.items
-        direct.old direct.new) }
-    ensures memory { IsOkUnless result Fault.OutOfMemory }
-    ensures spared { AreCurrent done.now.row done.now.seen.items → IsOk result }
-{
-    if are_current(done.seen.as_slice(), &done.row) {
-        return Ok(());
-    }
-    direct.renew(rt);
-    direct.repair(rt, cluster, done.seen.as_slice(), &done.row)
 }
 
 // What came of a get, as its line tells it.

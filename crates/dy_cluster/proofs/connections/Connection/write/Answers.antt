@@ -7,10 +7,10 @@ returns-in-Err-clause-ends g c = inr (
   refl,
   c.in-Err.ensures.err,
   (
-    c.put_untried.result,
+    c.early.result,
     refl,
-    c.put_untried.ensures.dot,
-    c.put_untried.ensures.answers,
-    c.put_untried.ensures.fault ∙ c.in-Err.ensures.memory,
+    c.early.ensures.dot,
+    c.early.ensures.answers,
+    c.early.ensures.fault ∙ c.in-Err.ensures.memory,
   ),
 )
