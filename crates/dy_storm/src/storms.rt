@@ -1,7 +1,9 @@
-ghost use Rattle.std.specs.Prelude.{◌≡◌, ◌+◌, ◌%◌, ◌^◌, IfOk, IfErr};
+ghost use Rattle.std.specs.Prelude.{◌≡◌, ◌+◌, ◌%◌, ◌^◌, IfOk, IfErr, IsOkUnless};
+ghost use Rattle.std.specs.List.{All};
 ghost use Rattle.std.specs.declared.marker.Brand.{Brand as BrandParts};
 ghost use Rattle.dy_ring.specs.Rings.{Tokens};
 ghost use Rattle.dy_ring.specs.Lists.{IsRingOf};
+ghost use Rattle.dy_node.specs.Nodes.{IsRestored};
 ghost use Rattle.dy_cluster.specs.Settings.{setting};
 ghost use Rattle.dy_clients.specs.Refusals.{IsRunRefusal};
 ghost use Rattle.dy_clients.specs.Runs.{HaveRun};
@@ -58,12 +60,28 @@ pub(crate) fn storm_on<R: Threads + Wait + Sync>(
 {
     let clients = Clients::new(plan);
     let closed = run(rt, alloc, ring, &clients)?.closed;
+    check_restored(&closed)?;
     let counts = Counts::of(plan, &closed.audit);
     Ok(StormDone {
         counts,
         closed,
         handed_over: clients.outages.handed_over(),
     })
+}
+
+// Each node is up and plain, as the faults leave it. Otherwise the storm would be refused as one
+// that lacks a share.
+fn check_restored(closed: &Closed) -> Result<(), Fault>
+    ensures ok { IfOk result (λ _. All IsRestored closed.now.rests.items) }
+    ensures only { IsOkUnless result Fault.SharesMissing }
+{
+    let rests = closed.rests.as_slice();
+    for rest in rests {
+        if !rest.is_restored() {
+            return Err(Fault::SharesMissing);
+        }
+    }
+    Ok(())
 }
 
 // Opens a cluster on the ring, runs the clients, with faults where there are to be some, and closes
