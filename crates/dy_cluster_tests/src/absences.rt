@@ -2,9 +2,8 @@
 ghost use Rattle.dy_cluster.specs.Named.{NamesBook};
 
 use crate::alone::call_alone;
-use crate::rings::{five_nodes, options};
-use crate::scenes::Put;
 use dy_cluster::{Closed, Cluster, ClusterRefused, Fault, Naming, Opened, Resting, Session};
+use dy_scenes::{Put, five_nodes, options};
 use std::alloc::Global;
 use std::marker::Brand;
 use std::sync::Wait;

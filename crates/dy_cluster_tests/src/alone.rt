@@ -1,7 +1,6 @@
 // A scene of one client, on the caller's own thread.
-use crate::rings::{five_nodes, options};
-use crate::scenes::Scene;
 use dy_cluster::{Closed, Cluster, Fault, Naming, Session, Work, with_cluster};
+use dy_scenes::{Scene, five_nodes, options};
 use std::alloc::Global;
 use std::sync::Wait;
 

@@ -1,7 +1,6 @@
 // Mailboxes that are closed.
 use crate::alone::played_alone;
-use crate::scenes::Put;
-use crate::texts::is_told;
+use dy_scenes::{Put, is_told};
 use std::test::Fail;
 
 // Every mailbox is closed: nothing comes of the homes, nor of those that stand in for them, and the

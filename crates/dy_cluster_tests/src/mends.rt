@@ -1,9 +1,7 @@
 // What a get mends.
 use crate::alone::played_alone;
-use crate::calls::Calls;
-use crate::scenes::Scene;
-use crate::texts::is_told;
 use dy_cluster::Fault;
+use dy_scenes::{Calls, Scene, is_told};
 use std::alloc::Global;
 use std::sync::{Mutex, Wait};
 use std::test::Fail;

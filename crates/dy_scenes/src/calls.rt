@@ -8,8 +8,8 @@ use dy_handoff::worker;
 use std::alloc::Global;
 use std::sync::Wait;
 
-// What a get gave: how many homes' rows were used, the letter that is the one value, and the
-// answers as a text. Where there is no such letter it is 0.
+/// What a get gave: how many homes' rows were used, the letter that is the one value, and the
+/// answers as a text. Where there is no such letter it is 0.
 #[derive(Drop)]
 pub struct Got {
     pub homes: usize,
@@ -17,30 +17,30 @@ pub struct Got {
     pub told: String,
 }
 
-// The calls of a client. The names and values of keys are letters.
+/// The calls of a client. The names and values of keys are letters.
 pub trait Calls {
-    // A put of the letter as its own value that names so many homes: its answers, as a text.
+    /// A put of the letter as its own value that names so many homes: its answers, as a text.
     fn put<R: Wait>(&mut self, rt: &R, alloc: Global, w: u8, letter: u8) -> Result<String, Fault>;
 
-    // A put that names two homes, of which no text is made.
+    /// A put that names two homes, of which no text is made.
     fn put_untold<R: Wait>(&mut self, rt: &R, alloc: Global, letter: u8) -> Result<(), Fault>;
 
-    // A get of the letter, which mends nothing.
+    /// A get of the letter, which mends nothing.
     fn get<R: Wait>(&mut self, rt: &R, alloc: Global, letter: u8) -> Result<Got, Fault>;
 
-    // A get of the letter, which mends what it finds stale.
+    /// A get of the letter, which mends what it finds stale.
     fn mend<R: Wait>(&mut self, rt: &R, alloc: Global, letter: u8) -> Result<(), Fault>;
 
-    // Two passes of the node.
+    /// Two passes of the node.
     fn hand_over<R: Wait>(&self, rt: &R, node: u8);
 
-    // The node goes down, or comes up.
+    /// The node goes down, or comes up.
     fn set_up<R: Wait>(&self, rt: &R, node: u8, is_up: bool);
 
-    // The node gets this mode.
+    /// The node gets this mode.
     fn set_mode<R: Wait>(&self, rt: &R, node: u8, mode: Mode);
 
-    // What the node keeps of the letter, as a text.
+    /// What the node keeps of the letter, as a text.
     fn kept<R: Wait>(&self, rt: &R, alloc: Global, node: u8, letter: u8) -> Result<String, Fault>;
 }
 

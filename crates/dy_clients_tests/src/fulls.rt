@@ -1,9 +1,8 @@
 // A worker that is held until its mailbox is full.
-use crate::calls::Calls;
-use crate::rings::with_five_workers;
-use crate::scenes::Scene;
-use dy_cluster::Fault;
+use crate::workers::with_five_workers;
+use dy_clients::Fault;
 use dy_mailboxes::MAILBOX_ROOM;
+use dy_scenes::{Calls, Scene};
 use std::alloc::Global;
 use std::sync::Wait;
 use std::sync::atomic::{AtomicBool, AtomicU64, Ordering};

@@ -78,7 +78,7 @@ pub fn kept_text(alloc: Global, holder: NodeId, rows: &[RowFor]) -> Result<Strin
     Ok(text)
 }
 
-// Whether this was told.
+/// Whether this was told.
 pub fn is_told<R: Wait>(rt: &R, told: &Mutex<Option<String>>, wanted: &str) -> bool {
     match &*told.lock(rt) {
         Some(text) => text.as_str() == wanted,

@@ -1,10 +1,8 @@
 // A handoff that comes before the ack of its put.
-use crate::calls::Calls;
-use crate::rings::with_five_workers;
-use crate::scenes::Scene;
 use crate::signals::Signal;
-use crate::texts::is_told;
-use dy_cluster::{AckedAt, Fault};
+use crate::workers::with_five_workers;
+use dy_clients::{AckedAt, Fault};
+use dy_scenes::{Calls, Scene, is_told};
 use std::alloc::Global;
 use std::sync::{Mutex, Wait};
 use std::test::Fail;

@@ -1,11 +1,8 @@
-// The cluster that the tests use, and clients beside its workers.
-use crate::scenes::{Played, Scene};
+// The cluster that the tests use.
 use dy_book::{MAX_STEPS, MAX_VERSIONS};
-use dy_clients::{Closed, Fault, Options, Ring, with_workers};
+use dy_cluster::{Fault, Options, Ring};
 use dy_dots::MAX_COUNTER;
 use std::alloc::Global;
-use std::sync::Wait;
-use std::thread::Threads;
 
 // How many nodes there are.
 pub const NODES: u8 = 5;
@@ -35,13 +32,13 @@ fn five_lists(alloc: Global) -> Result<Vec<Vec<u128>>, Fault> {
     Ok(lists)
 }
 
-// A ring of five nodes with a token each.
+/// A ring of five nodes with a token each. The key `a` has the homes 0, 1 and 2.
 pub fn five_nodes(alloc: Global) -> Result<Ring, Fault> {
     let lists = five_lists(alloc)?;
     Ring::from_tokens(alloc, lists.as_slice())
 }
 
-// Three homes a key, of which a put and a get need two.
+/// Three homes a key, of which a put and a get need two.
 pub fn options() -> Options {
     Options {
         n: 3,
@@ -51,17 +48,4 @@ pub fn options() -> Options {
         versions_limit: MAX_VERSIONS,
         steps_limit: MAX_STEPS,
     }
-}
-
-// Plays the scene with so many clients beside five workers, and closes the cluster.
-pub fn with_five_workers<S: Scene + Sync, R: Threads + Wait + Sync>(
-    rt: &R,
-    alloc: Global,
-    clients: u8,
-    scene: &S,
-) -> Result<Closed, Fault> {
-    let ring = five_nodes(alloc)?;
-    let played = Played { scene };
-    let done = with_workers(rt, alloc, ring, options(), &played, clients, &played)?;
-    Ok(done.closed)
 }

@@ -1,9 +1,7 @@
 // An answer that comes late, over mailboxes.
-use crate::calls::Calls;
-use crate::rings::with_five_workers;
-use crate::scenes::{Put, Scene};
-use crate::texts::is_told;
-use dy_cluster::{Fault, Mode};
+use crate::workers::with_five_workers;
+use dy_clients::{Fault, Mode};
+use dy_scenes::{Calls, Put, Scene, is_told};
 use std::alloc::Global;
 use std::sync::Wait;
 use std::sync::atomic::{AtomicU64, Ordering};

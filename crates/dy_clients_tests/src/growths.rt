@@ -1,10 +1,9 @@
 //! A put over mailboxes whose growths may be refused. Run with each allocation refused in turn, one
 //! a run.
 
-use crate::calls::Calls;
-use crate::rings::with_five_workers;
-use crate::scenes::Scene;
-use dy_cluster::{Closed, Fault};
+use crate::workers::with_five_workers;
+use dy_clients::{Closed, Fault};
+use dy_scenes::{Calls, Scene};
 use std::alloc::Global;
 use std::sync::Wait;
 use std::test::Fail;

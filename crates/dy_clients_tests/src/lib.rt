@@ -1,0 +1,20 @@
+//! The tests of clients in threads beside the nodes' workers, apart from what they test, so that its
+//! own functions are not proved once more.
+#![tactic(auto)]
+
+#[cfg(test)]
+mod crossings;
+#[cfg(test)]
+mod early;
+#[cfg(test)]
+mod fulls;
+#[cfg(test)]
+mod growths;
+#[cfg(test)]
+mod holds;
+#[cfg(test)]
+mod lates;
+#[cfg(test)]
+mod signals;
+#[cfg(test)]
+mod workers;

@@ -1,0 +1,51 @@
+// What clients do on the cluster that the tests use, and what its workers pass.
+use crate::calls::Calls;
+use dy_cluster::Fault;
+use std::alloc::Global;
+use std::sync::{Mutex, Wait};
+
+/// A scene: its clients, and the gate of its workers.
+pub trait Scene {
+    /// What a node's worker passes with an ask to store a row, or else to give one.
+    fn pass(&self, _node: u8, _is_store: bool) {}
+
+    /// What the client of this number does.
+    fn call<C: Calls, R: Wait>(
+        &self,
+        rt: &R,
+        alloc: Global,
+        number: usize,
+        calls: &mut C,
+    ) -> Result<(), Fault>;
+}
+
+/// Puts the key `a`, and keeps what was told.
+#[derive(Drop)]
+pub struct Put {
+    pub w: u8,
+    pub told: Mutex<Option<String>>,
+}
+
+impl Put {
+    /// A put that names so many homes.
+    pub fn new(w: u8) -> Put {
+        Put {
+            w,
+            told: Mutex::new(None),
+        }
+    }
+}
+
+impl Scene for Put {
+    fn call<C: Calls, R: Wait>(
+        &self,
+        rt: &R,
+        alloc: Global,
+        _number: usize,
+        calls: &mut C,
+    ) -> Result<(), Fault> {
+        let told = calls.put(rt, alloc, self.w, b'a')?;
+        *self.told.lock(rt) = Some(told);
+        Ok(())
+    }
+}
