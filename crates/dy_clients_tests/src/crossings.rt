@@ -14,10 +14,10 @@ const KEYS: [u8; 5] = [b'a', b'b', b'c', b'd', b'e'];
 // How often all keys are got.
 const ROUNDS: u64 = 400;
 
-// Holds what node 1 is asked to give until a call has ended since it came. A worker compares the
-// number of its ask's call with the present one behind the gate, and no test can stop it there: so
-// it is let go when its client is about to begin the next call, and many times over. Some of its
-// answers are sent when the client has begun that call, and were compared before.
+// Holds what node 1 is asked to give until a call has ended since it came. So its worker is let go
+// when its client is about to begin the next call, many times over. It may compare the number of
+// its ask's call with the present one, and send, before the client begins that call, behind it, or
+// on both sides.
 #[derive(Drop)]
 struct Crossing {
     ended: AtomicU64,

@@ -1,5 +1,5 @@
-//! The tests of clients in threads beside the nodes' workers, apart from what they test, so that its
-//! own functions are not proved once more.
+//! The tests of clients in threads beside the nodes' workers, apart from what they test, so that
+//! its own functions are not proved once more.
 #![tactic(auto)]
 
 #[cfg(test)]
@@ -16,5 +16,7 @@ mod holds;
 mod lates;
 #[cfg(test)]
 mod signals;
+#[cfg(test)]
+mod stops;
 #[cfg(test)]
 mod workers;

@@ -18,6 +18,10 @@ impl<S: Scene> Gate for Played<'_, S> {
         let is_store = matches!(ask, Ask::Store { .. });
         self.scene.pass(node.number(), is_store);
     }
+
+    fn compared(&self, node: NodeId) {
+        self.scene.compared(node.number());
+    }
 }
 
 impl<S: Scene> Client for Played<'_, S> {

@@ -9,6 +9,9 @@ pub trait Scene {
     /// What a node's worker passes with an ask to store a row, or else to give one.
     fn pass(&self, _node: u8, _is_store: bool) {}
 
+    /// What it passes once it has found an answer to be of the present call, before it sends it.
+    fn compared(&self, _node: u8) {}
+
     /// What the client of this number does.
     fn call<C: Calls, R: Wait>(
         &self,
