@@ -1,5 +1,5 @@
 -- What clients answered, and what their sessions were told.
-use Rattle.std.specs.Prelude.{◌≡◌, ℕ, List, Result, Some, length, slice_get}
+use Rattle.std.specs.Prelude.{◌≡◌, ℕ, List, Result, Some, slice_get}
 use Rattle.dy_dots.specs.declared.faults.Fault.{Fault}
 use Rattle.dy_shares.specs.Shares.{SessionPart}
 
