@@ -1,5 +1,4 @@
-use Rattle.std.proofs.Common.{◌≡◌, ◌∙◌, ℕ, length}
-use Rattle.std.proofs.Common.{arith, ap, sym, subst}
+use Rattle.std.proofs.Common.{◌∙◌, ℕ, arith, ap, sym, subst}
 use Rattle.dy_ring.specs.Rings.{Tokens}
 use Rattle.dy_book.specs.Limits.{IsQuorum}
 use Rattle.dy_book.specs.declared.options.Options.{Options}

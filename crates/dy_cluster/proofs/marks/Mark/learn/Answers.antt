@@ -1,5 +1,5 @@
 -- where nothing was read, each log begins with it
-use Rattle.std.proofs.Common.{◌≡◌, ◌∙◌, ◌++◌, [], ap, rules, sym}
+use Rattle.std.proofs.Common.{◌≡◌, ◌∙◌, ◌++◌, [], ap, sym}
 use Rattle.dy_cluster.specs.Marks.{log_of}
 use Rattle.dy_cluster.proofs.marks.Mark.learn.Goals as goal
 
