@@ -4,7 +4,6 @@ use Rattle.dy_ring.specs.Rings.{Tokens}
 use Rattle.dy_shares.specs.Shares.{SessionPart}
 use Rattle.dy_book.specs.declared.options.Options.{Options}
 use Rattle.dy_cluster.specs.Ends.{IsClosed}
-use Rattle.dy_cluster.specs.Stores.{TellsAcks}
 use Rattle.dy_clients.specs.Tellings.{AreAnswered, ClientAnswer, as_answered}
 use Rattle.dy_clients.specs.declared.clients_dones.ClientsDone.{ClientsDone}
 
@@ -14,7 +13,6 @@ pub record HaveRun (ring : Tokens) (options : Options) (clients : ℕ)
     (says : ℕ → ClientAnswer → SessionPart → Type 0) (done : ClientsDone) : Type 0 where
   pub tellings : List SessionPart
   pub closed : IsClosed ring options.n options.r tellings done.closed
-  pub acks : TellsAcks tellings done.closed
   pub options_are : done.closed.options ≡ options
   pub sessions : length tellings ≡ clients
   pub answers : length done.answers.items ≡ clients

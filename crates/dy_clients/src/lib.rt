@@ -20,8 +20,9 @@ pub use dy_cluster::{
     Acked, AckedAt, Ask, Audit, CarryFault, Closed, Cluster, ClusterRefused, Connection, Context,
     DirectCalls, Dot, Fault, Gate, GetDone, GetFault, Handover, Holding, Key, Mark, MarkedWork,
     MendingGet, Mode, Naming, NodeId, Opened, Options, Place, Post, PresentValue, PutDone,
-    PutFault, Resting, Ring, Row, Session, Transport, Value, Version, Work, carry_over,
-    gets_give_what_homes_took, session_guarantees, stores_cover_acks, what_is_held_is_kept,
-    what_is_seen_is_there, what_was_acknowledged_is_present, with_cluster, with_marked_cluster,
+    PutFault, Resting, Ring, Row, Session, Transport, Value, Version, Work,
+    audit_lists_what_was_told, carry_over, gets_give_what_homes_took, session_guarantees,
+    stores_cover_acks, what_is_held_is_kept, what_is_seen_is_there,
+    what_was_acknowledged_is_present, with_cluster, with_marked_cluster,
 };
 pub use dy_mailboxes::Open;

@@ -6,7 +6,7 @@ ghost use Rattle.dy_book.specs.Limits.{IsQuorum};
 ghost use Rattle.dy_transport.specs.Told.{nothing_told};
 ghost use Rattle.dy_cluster.specs.Ends.{IsClosed};
 ghost use Rattle.dy_cluster.specs.Named.{NamesBook};
-ghost use Rattle.dy_cluster.specs.Stores.{TellsAcks, TellsStores};
+ghost use Rattle.dy_cluster.specs.Stores.{TellsStores};
 
 use crate::books::{OpenBook, open_book};
 use crate::locks::{lock_all, rejoin_all, retire_all};
@@ -183,7 +183,6 @@ impl<J: Naming> Cluster<J> {
     /// come back. A caller that may lack a session uses `rest` and `Resting::lacks`.
     pub fn close(self, sessions: Vec<SessionShare<J>>) -> Result<Closed, ClusterRefused<J>>
         ensures stores { IfOk result (TellsStores J.ring J.n) }
-        ensures acks { IfOk result (TellsAcks sessions.items) }
         ensures closed { IfOk result (λ closed. IsClosed J.ring J.n J.r sessions.items closed) }
         ensures shares_missing { IfErr result (λ refused. (refused.fault ≡ Fault.SharesMissing)
             ↔ IsMissing J.ring.nodes refused.cluster.book.sessions refused.cluster.parts
@@ -202,7 +201,6 @@ impl<J: Naming> Cluster<J> {
     /// session that was not handed in.
     pub fn end(self, sessions: Vec<SessionShare<J>>) -> Result<Closed, Fault>
         ensures stores { IfOk result (TellsStores J.ring J.n) }
-        ensures acks { IfOk result (TellsAcks sessions.items) }
         ensures closed { IfOk result (λ closed. IsClosed J.ring J.n J.r sessions.items closed) }
         ensures options { IfOk result (λ closed. closed.options ≡ self.options) }
         ensures only { IfErr result (λ fault. (fault ≡ Fault.OutOfMemory)

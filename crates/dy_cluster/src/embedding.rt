@@ -7,7 +7,7 @@ ghost use Rattle.dy_cluster.specs.Ends.{IsClosed};
 ghost use Rattle.dy_cluster.specs.Named.{NamesBook};
 ghost use Rattle.dy_cluster.specs.Refusals.{IsOpenRefusal};
 ghost use Rattle.dy_cluster.specs.Settings.{Setting, setting};
-ghost use Rattle.dy_cluster.specs.Stores.{TellsAcks, TellsStores};
+ghost use Rattle.dy_cluster.specs.Stores.{TellsStores};
 
 use crate::clusters::Cluster;
 use crate::openings::Opened;
@@ -55,9 +55,6 @@ pub fn with_cluster<W: Work, R: Wait>(
     work: &mut W,
 ) -> Result<Closed, Fault>
     ensures stores { IfOk result (TellsStores ring options.n) }
-    ensures acks { IfOk result (λ closed. (tellings : List SessionPart)
-        × TellsAcks tellings closed
-        × W.told (setting BrandParts ring options.n options.r options) work.old work.new tellings) }
     ensures closed { IfOk result (λ closed. (tellings : List SessionPart)
         × IsClosed ring options.n options.r tellings closed
         × W.told (setting BrandParts ring options.n options.r options) work.old work.new tellings) }
@@ -82,10 +79,6 @@ fn run_named<J: Naming, W: Work, R: Wait>(
 ) -> Result<Closed, Fault>
     requires named { NamesBook J.book J.table J.ring J.n J.r opened }
     ensures stores { IfOk result (TellsStores opened.ring opened.options.n) }
-    ensures acks { IfOk result (λ closed. (tellings : List SessionPart)
-        × TellsAcks tellings closed
-        × W.told (setting J opened.ring opened.options.n opened.options.r opened.options)
-        work.old work.new tellings) }
     ensures closed { IfOk result (λ closed. (tellings : List SessionPart)
         × IsClosed opened.ring opened.options.n opened.options.r tellings closed
         × W.told (setting J opened.ring opened.options.n opened.options.r opened.options)

@@ -25,7 +25,7 @@ ghost use Rattle.dy_cluster.specs.Guarantees.{GivesNothingDeleted, IsRead, Never
 ghost use Rattle.dy_cluster.specs.Guarantees.{ReadsOwnWrites, ReadsWritesOf};
 ghost use Rattle.dy_cluster.specs.Lists.{list_of};
 ghost use Rattle.dy_cluster.specs.PresentValues.{ArePresent, KeepsVersion, versions_held};
-ghost use Rattle.dy_cluster.specs.Stores.{AreCovering, IsKept};
+ghost use Rattle.dy_cluster.specs.Stores.{AreCovering, IsKept, TellsAcks};
 ghost use Rattle.dy_cluster.specs.declared.restings.Closed.{Closed};
 ghost use Rattle.dy_cluster.specs.declared.values.PresentValue.{PresentValue as PresentParts};
 
@@ -43,6 +43,12 @@ pub fn stores_cover_acks()
     ensures covered { (ring : Tokens) (n r : ℕ) (tellings : List SessionPart) (closed : Closed) →
         IsClosed ring n r tellings closed → (x : Acked) → IsTold tellings x →
         AreCovering ring n closed.rests.items x.key x.dot x.w }
+{}
+
+/// Of a closed cluster. As acknowledged, its audit lists exactly what its sessions were told.
+pub fn audit_lists_what_was_told()
+    ensures { (ring : Tokens) (n r : ℕ) (tellings : List SessionPart) (closed : Closed) →
+        IsClosed ring n r tellings closed → TellsAcks tellings closed }
 {}
 
 /// Of a closed cluster. Its audit lists as held exactly the versions in the nodes' stores, as their

@@ -31,8 +31,8 @@ pub use direct_calls::DirectCalls;
 pub use embedding::{Work, with_cluster};
 pub use handovers::Handover;
 pub use laws::{
-    gets_give_what_homes_took, session_guarantees, stores_cover_acks, what_is_held_is_kept,
-    what_is_seen_is_there, what_was_acknowledged_is_present,
+    audit_lists_what_was_told, gets_give_what_homes_took, session_guarantees, stores_cover_acks,
+    what_is_held_is_kept, what_is_seen_is_there, what_was_acknowledged_is_present,
 };
 pub use marked_works::{MarkedWork, with_marked_cluster};
 pub use marks::Mark;

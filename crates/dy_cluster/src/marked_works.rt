@@ -1,11 +1,13 @@
 // A cluster that is opened for a work that reads its steps.
-ghost use Rattle.std.specs.Prelude.{◌≡◌, ◌↔◌, [], List, IfOk, IsErrOf};
+ghost use Rattle.std.specs.Prelude.{◌≡◌, ◌⊎◌, [], List, IfOk, IfErr, IsErrOf};
 ghost use Rattle.std.specs.declared.marker.Brand.{Brand as BrandParts};
+ghost use Rattle.dy_dots.specs.declared.faults.Fault.{Fault as FaultParts};
 ghost use Rattle.dy_book.specs.Limits.{AreLimits, IsQuorum};
 ghost use Rattle.dy_shares.specs.Shares.{SessionPart};
 ghost use Rattle.dy_shares.specs.declared.entries.Entry.{Entry};
 ghost use Rattle.dy_cluster.specs.Marks.{IsClosedBehind};
 ghost use Rattle.dy_cluster.specs.Named.{NamesBook};
+ghost use Rattle.dy_cluster.specs.Refusals.{IsOpenRefusal};
 ghost use Rattle.dy_cluster.specs.Settings.{Setting, setting};
 
 use crate::clusters::Cluster;
@@ -27,6 +29,10 @@ pub trait MarkedWork {
     // lists, and of the beginning of the log that was read.
     ghost told: { Setting → Self → Self → List SessionPart → List Entry → Type 0 };
 
+    // What it says of itself before and after it, where it is refused for this fault. If it is left
+    // out, it says nothing.
+    ghost refused: { Setting → Self → Self → FaultParts → Type 0 } = { λ _ _ _ _. Unit {0} };
+
     /// When the cluster closes, the sessions in the list are handed in. Its log then begins with
     /// what the mark says.
     fn run<J: Naming, R: Wait>(
@@ -39,7 +45,9 @@ pub trait MarkedWork {
     ) -> Result<(), Fault>
         requires none { sessions.old.items ≡ [] }
         ensures told { IfOk result (λ _. told (setting J J.ring J.n J.r cluster.now.options)
-            self.old self.new sessions.new.items mark.new) };
+            self.old self.new sessions.new.items mark.new) }
+        ensures refused { IfErr result (refused (setting J J.ring J.n J.r cluster.now.options)
+            self.old self.new) };
 }
 
 /// Opens a cluster on the ring, runs the work, and closes the cluster, whose log begins with what
@@ -60,6 +68,9 @@ pub fn with_marked_cluster<W: MarkedWork, R: Wait>(
     ensures too_many { ¬ (AreLimits options) → IsErrOf result Fault.TooMany }
     ensures bad_quorum { AreLimits options → ¬ (IsQuorum options ring.nodes) →
         IsErrOf result Fault.BadQuorum }
+    ensures only { IfErr result (λ fault. IsOpenRefusal options ring.nodes fault
+        ⊎ (fault ≡ Fault.SharesMissing)
+        ⊎ W.refused (setting BrandParts ring options.n options.r options) work.old work.new fault) }
 {
     let opened = Opened::new(alloc, ring, options)?;
     run_marked::<Brand, W, R>(rt, alloc, opened, work)
@@ -78,6 +89,10 @@ fn run_marked<J: Naming, W: MarkedWork, R: Wait>(
         × W.told (setting J opened.ring opened.options.n opened.options.r opened.options)
         work.old work.new tellings read) }
     ensures options { IfOk result (λ closed. closed.options ≡ opened.options) }
+    ensures only { IfErr result (λ fault. (fault ≡ Fault.OutOfMemory)
+        ⊎ (fault ≡ Fault.SharesMissing)
+        ⊎ W.refused (setting J opened.ring opened.options.n opened.options.r opened.options)
+        work.old work.new fault) }
 {
     let cluster = Cluster::<J>::open(alloc, opened)?;
     let mut sessions = Vec::new(alloc);
@@ -97,6 +112,8 @@ fn close_behind<J: Naming>(
     ensures closed { IfOk result (λ closed.
         IsClosedBehind J.ring J.n J.r sessions.items mark.now closed) }
     ensures options { IfOk result (λ closed. closed.options ≡ cluster.options) }
+    ensures only { IfErr result (λ fault. (fault ≡ Fault.OutOfMemory)
+        ⊎ (fault ≡ Fault.SharesMissing)) }
 {
     let options = cluster.options;
     let mut resting = cluster.rest();

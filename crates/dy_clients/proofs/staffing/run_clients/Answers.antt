@@ -25,7 +25,6 @@ returns-clause-closed g c =
           (sym named.2)
           (subst (λ (r : ℕ). IsClosed g.J.Naming.ring g.J.Naming.n r sessions closed)
           (sym named.3) ends.closed));
-      acks = ends.acks;
       options_are = ends.options ∙ c.in_ok-cluster.ensures.options;
       sessions = c.in_ok-answers.ensures.ok;
       answers = c.in_ok-answers.ensures.answers;

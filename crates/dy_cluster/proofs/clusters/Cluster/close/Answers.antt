@@ -11,9 +11,6 @@ returns-in-Ok-clause-stores g c =
     tells_stores g.J.Naming.ring g.J.Naming.n g.J.Naming.r _ c.args.sessions.items c.in-Ok.closed
     c.in-Ok.ensures.exact
 
-pub returns-in-Ok-clause-acks : goal.returns-in-Ok-clause-acks
-returns-in-Ok-clause-acks g c = λ x. c.in-Ok.ensures.exact.audit.acked_told x
-
 -- what comes back is what rested
 pub returns-in-Err-clause-shares_missing : goal.returns-in-Err-clause-shares_missing
 returns-in-Err-clause-shares_missing g c =
