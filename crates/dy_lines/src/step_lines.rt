@@ -3,6 +3,7 @@ ghost use Rattle.std.specs.Prelude.{◌≡◌, ◌≤◌, ◌<◌, ◌+◌, ◌^
 ghost use Rattle.std.specs.Io.KnownBytes.{Appends};
 ghost use Rattle.dy_lines.specs.StepLines.{fetches_behind, fetches_with, is_fetch as is_a_fetch};
 ghost use Rattle.dy_lines.specs.StepLines.{line_behind, step_line, step_lines, told_line};
+ghost use Rattle.dy_lines.specs.Stops.{IsStoppedForMemory};
 ghost use Rattle.dy_lines.specs.inside.Fetches.{IsFirstBetween};
 
 use crate::audiences::Audience;
@@ -26,8 +27,9 @@ pub fn write_step_lines<A: Audience, O: Write>(
     requires behind { A.before audience.now ≤ before }
     requires within { before + length steps.now ≤ A.last audience.now }
     requires fits { before + length steps.now < 2 ^ 64 }
-    ensures { OnOk result (Appends (O.contents out.old) (O.contents out.new)
+    ensures written { OnOk result (Appends (O.contents out.old) (O.contents out.new)
         (step_lines (A.sessions audience.now) [] (before + 1) steps.now)) }
+    ensures memory { IfErr result IsStoppedForMemory }
 {
     let mut fetches = Vec::new(alloc);
     for (index, step) in steps.iter().enumerate() {
@@ -55,6 +57,7 @@ fn write_step<A: Audience, O: Write>(
         (line_behind (A.sessions audience.now) fetches.old.items number step.now)) }
     ensures fetches { OnOk result (fetches.new.items
         ≡ fetches_behind (A.sessions audience.now) fetches.old.items number step.now) }
+    ensures memory { IfErr result IsStoppedForMemory }
 {
     if is_fetch(step) {
         write_line(audience, number, step, out)?;

@@ -36,8 +36,8 @@ loop-index-init g c =
           (steps_none s steps before now);
     }
 
-pub returns : goal.returns
-returns g c =
+pub returns-clause-written : goal.returns-clause-written
+returns-clause-written g c =
     let contents = g.O.Write.contents in
     let loop = c.loop-index in
     let s = g.A.Audience.sessions c.args.audience.now in
