@@ -31,5 +31,5 @@ returns g c read log steps begins history =
           told news.told begins history (c.kept-trail.ensures.kept (steps_of log) history) steps
           made.before steps_are made.session made.told c.nothing_told.ensures.acks
           c.nothing_told.ensures.fetches,
-      c.in_ok-write_step_lines.ensures,
+      c.in_ok-write_step_lines.ensures.written,
     )

@@ -39,5 +39,5 @@ returns-clause-below g c =
           sessions old now c.in_ok-told.told news.told c.in_ok-steps.steps.items news.steps.now
           c.in_ok-told.ensures.ok c.in_ok-steps.ensures.ok c.steps-before.ensures made.before
           (made.steps ∙ c.as_slice.ensures.value) made.session made.told),
-      c.in_ok-write_step_lines.ensures,
+      c.in_ok-write_step_lines.ensures.written,
     )
