@@ -1,19 +1,33 @@
--- Which refusal comes first.
-use Rattle.std.proofs.Common.{◌≡◌, ◌↔◌, ◌∙◌, Bool, true, false, ap, sym, inl, inr, ⊎_elim}
+-- Which refusal comes first, and which others there are.
+use Rattle.std.proofs.Common.{◌≡◌, ◌↔◌, ◌∙◌, Bool, true, false, ap, subst, sym, inl, inr, ⊎_elim}
 use Rattle.std.proofs.lemmas.Bool.{true≢false}
-use Rattle.std.specs.Prelude.{Result, Ok, Err, IsErrOf, OnOk, is_ok}
+use Rattle.std.specs.Prelude.{◌⊎◌, ℕ, Result, Ok, Err, IfErr, IsErrAnd, IsErrOf, OnOk, is_ok}
 use Rattle.dy_dots.specs.declared.faults.Fault.{Fault}
-use Rattle.dy_dots.specs.declared.faults.Fault.TheVariants.{BadQuorum, TooMany}
+use Rattle.dy_dots.specs.declared.faults.Fault.TheVariants.{BadQuorum, OutOfMemory, SharesMissing}
+use Rattle.dy_dots.specs.declared.faults.Fault.TheVariants.{TooMany}
 use Rattle.dy_ring.specs.Rings.{Tokens}
 use Rattle.dy_book.specs.Limits.{AreLimits, IsQuorum}
 use Rattle.dy_book.specs.declared.options.Options.{Options}
+use Rattle.dy_cluster.specs.Refusals.{IsOpenRefusal}
+use Rattle.dy_lines.specs.Stops.{IsStoppedFor}
 use Rattle.dy_lines.specs.declared.stops.Stopped.{Stopped}
 use Rattle.dy_lines.specs.declared.stops.Stopped.TheVariants.{Refused, Output}
-use Rattle.dy_runner.specs.Refusals.{IsFirstRefusal}
+use Rattle.dy_script.specs.Reading.{ScriptParts}
+use Rattle.dy_runner.specs.Openings.{IsPlanOf}
+use Rattle.dy_runner.specs.Refusals.{HasFailed, IsFirstRefusal, IsStoppedOnlyBy}
+use Rattle.dy_runner.specs.declared.plans.Plan.{Plan}
 
 abbrev tokens_refusal : Fault → Result Tokens Fault → Fault
 tokens_refusal f (Ok x) = f
 tokens_refusal f (Err e) = e
+
+abbrev stop_fault : Fault → Stopped → Fault
+stop_fault f (Refused e) = e
+stop_fault f (Output e) = f
+
+-- one refusal that stops this is the other
+pub same_stop : (e f : Fault) → Refused e ≡ Refused f → e ≡ f
+same_stop e f same = ap (stop_fault f) same
 
 module _ {T : Type 0} where
   -- what is so whatever comes of a call is so where it is Ok
@@ -92,3 +106,41 @@ module _ {T : Type 0} where
     (λ same. absurd (true≢false (sym (ap is_refusal same) ∙ none))),
     (λ same. absurd (true≢false (ap is_ok same))),
   )
+
+  -- what can but fail is stopped by nothing else, whatever refuses besides
+  pub failed_only : (r : Result T Stopped) (Refuses : Fault → Type 0) →
+      IfErr r (IsStoppedFor HasFailed) → IsStoppedOnlyBy Refuses r
+  failed_only (Ok x) Refuses only = tt
+  failed_only (Err e) Refuses only = λ f stops. inr (only f stops)
+
+  -- what ends by this refusal is stopped for its cause
+  pub ends_for : (r : Result T Stopped) (e : Fault) (Causes : Fault → Type 0) →
+      IsErrAnd r (λ s. s ≡ Refused e) → Causes e → IfErr r (IsStoppedFor Causes)
+  ends_for (Ok x) e Causes gives cause = tt
+  ends_for (Err s) e Causes gives cause =
+      λ f stops. subst Causes (same_stop e f (sym gives ∙ stops)) cause
+
+  -- what ends as another did is stopped for the same causes
+  pub ends_as : (r : Result T Stopped) (s : Stopped) (Causes : Fault → Type 0) →
+      IsErrAnd r (λ t. t ≡ s) → IsStoppedFor Causes s → IfErr r (IsStoppedFor Causes)
+  ends_as (Ok x) s Causes gives only = tt
+  ends_as (Err t) s Causes gives only = λ f stops. only f (sym gives ∙ stops)
+
+-- a cluster is not opened, or misses a share, or its work wanted memory
+pub open_or_failed : (options : Options) (nodes : ℕ) (f : Fault) →
+    IsOpenRefusal options nodes f ⊎ (f ≡ SharesMissing) ⊎ (f ≡ OutOfMemory) →
+    IsOpenRefusal options nodes f ⊎ HasFailed f
+open_or_failed options nodes f =
+    ⊎_elim inl (⊎_elim (λ missing. inr (inr missing)) (λ memory. inr (inl memory)))
+
+-- a plan that nothing refuses can but fail
+pub plan_fails : (s : ScriptParts) (plan : Plan) (f : Fault) → IsPlanOf s plan →
+    IsOpenRefusal plan.options plan.ring.nodes f ⊎ HasFailed f → HasFailed f
+plan_fails s plan f planned =
+    let limits : AreLimits plan.options = subst AreLimits (sym planned.options) planned.limits in
+    let fits : IsQuorum plan.options plan.ring.nodes =
+    subst (λ (o : Options). IsQuorum o plan.ring.nodes) (sym planned.options) planned.quorum in
+    ⊎_elim
+    (⊎_elim (λ limit. absurd (limit.1 limits))
+    (⊎_elim (λ quorum. absurd (quorum.1 fits)) (λ memory. inl memory)))
+    (λ failed. failed)

@@ -1,5 +1,5 @@
 -- What a script does, from its commands to what is printed of them.
-use Rattle.std.specs.Prelude.{◌≡◌, ◌⊎◌, ◌<◌, ℕ, ◌+◌, Bool, false, true, List, [], ◌∷◌, ◌++◌}
+use Rattle.std.specs.Prelude.{◌≡◌, ℕ, ◌+◌, Bool, false, true, List, [], ◌∷◌, ◌++◌}
 use Rattle.std.specs.Prelude.{None, Option, Result, map}
 use Rattle.std.specs.Io.KnownBytes.{Appends}
 use Rattle.std.specs.declared.marker.Brand.{Brand}
@@ -161,8 +161,9 @@ IsPrinted true s ring outcomes numbers audit wrote =
     IsTraced s ring outcomes numbers audit wrote
 
 -- what was written is what is printed of the commands of the script, done in their order on a
--- cluster that the script asks for, and behind them the audit of this cluster as it was closed;
--- its book has the name that is picked where a cluster is opened for some work
+-- cluster that the script asks for, and behind them the audit of this cluster as it was closed,
+-- which has the script's options; its book has the name that is picked where a cluster is opened
+-- for some work
 pub record IsRun (s : ScriptParts) (with_steps : Bool) (wrote : List ℕ) : Type 0 where
   pub ring : Tokens
   pub laid_out : IsLaidOut s.layout ring
@@ -174,4 +175,5 @@ pub record IsRun (s : ScriptParts) (with_steps : Bool) (wrote : List ℕ) : Type
       sessions
   pub closed : Closed
   pub ended : IsClosed ring s.n s.r sessions.tellings closed
+  pub options : closed.options ≡ options_for s
   pub wrote_is : IsPrinted with_steps s ring outcomes sessions.numbers closed.audit wrote

@@ -1,5 +1,5 @@
 // A run whose outcomes are kept until its cluster is closed.
-ghost use Rattle.std.specs.Prelude.{◌≡◌, [], length, IfOk};
+ghost use Rattle.std.specs.Prelude.{◌≡◌, [], length, IfOk, IsOkUnless};
 ghost use Rattle.dy_dots.specs.declared.nodes.TheConstants.{MAX_NODES};
 ghost use Rattle.dy_script.specs.Reading.{script_parts};
 ghost use Rattle.dy_cluster.specs.Settings.{setting};
@@ -50,12 +50,15 @@ pub(crate) struct Recording<'a> {
 }
 
 impl Work for Recording<'_> {
+    ghost use Rattle.dy_dots.specs.declared.faults.Fault.TheVariants as Fault;
     ghost use Rattle.dy_script.specs.Reading.{script_parts as parts};
     ghost use Rattle.dy_runner.specs.Runs.{HasPlayed as IsRecorded};
 
-    // The commands are done, and recorded.
+    // The commands are done, and recorded. A refusal is for want of memory.
     ghost told = { λ setting before after tellings.
         IsRecorded setting (parts before.script.now) tellings after.recorded };
+
+    ghost refused = { λ _ _ _ fault. fault ≡ Fault.OutOfMemory };
 
     fn run<J: Naming, R: Wait>(
         &mut self,
@@ -81,8 +84,9 @@ fn record_all<J: Naming, R: Wait>(
 ) -> Result<Recorded, Fault>
     requires room { direct.room ≡ MAX_NODES }
     requires none { sessions.old.items ≡ [] }
-    ensures { IfOk result (HasPlayed (setting J J.ring J.n J.r cluster.now.options)
+    ensures played { IfOk result (HasPlayed (setting J J.ring J.n J.r cluster.now.options)
         (script_parts script.now) sessions.new.items) }
+    ensures memory { IsOkUnless result Fault.OutOfMemory }
 {
     let mut seats = Seats::new(alloc);
     let mut plays = Vec::new(alloc);

@@ -29,16 +29,19 @@ pub(crate) struct Run<'a, O: Write> {
 
 impl<O: Write> Work for Run<'_, O> {
     ghost use Rattle.std.specs.Prelude.{None};
+    ghost use Rattle.dy_dots.specs.declared.faults.Fault.TheVariants as Fault;
     ghost use Rattle.dy_script.specs.Reading.{script_parts as parts};
     ghost use Rattle.dy_runner.specs.Runs.{HasRun as IsDone};
 
     // The output stays the same one; and where it took all, the commands are done, and their lines
-    // are written.
+    // are written. A refusal is for want of memory.
     ghost told = { λ setting before after tellings.
         (after.out.ghost_name ≡ before.out.ghost_name)
         × (after.lost ≡ None →
         IsDone setting (parts before.script.now) tellings
         (O.contents before.out.now) (O.contents after.out.now)) };
+
+    ghost refused = { λ _ _ _ fault. fault ≡ Fault.OutOfMemory };
 
     fn run<J: Naming, R: Wait>(
         &mut self,

@@ -1,8 +1,9 @@
 // The lines of commands, and of steps below them.
-ghost use Rattle.std.specs.Prelude.{◌≡◌, ◌≤◌, ◌+◌, [], List, ℕ, length, IfOk, OnOk};
+ghost use Rattle.std.specs.Prelude.{◌≡◌, ◌≤◌, ◌+◌, [], List, ℕ, length, IfErr, IfOk, OnOk};
 ghost use Rattle.std.specs.Prelude.{slice_range};
 ghost use Rattle.std.specs.Io.KnownBytes.{Appends};
 ghost use Rattle.dy_lines.specs.StepLines.{step_lines};
+ghost use Rattle.dy_lines.specs.Stops.{IsStoppedForMemory};
 ghost use Rattle.dy_runner.specs.Runs.{outcomes_in};
 ghost use Rattle.dy_runner.specs.Traces.{AreTraced, command_lines, sessions_of};
 
@@ -20,9 +21,10 @@ pub(crate) fn write_plays<O: Write>(
     plays: &[Played],
     out: &mut O,
 ) -> Result<(), Stopped>
-    ensures { OnOk result ((wrote : List ℕ)
+    ensures written { OnOk result ((wrote : List ℕ)
         × AreTraced (sessions_of trace.now) (outcomes_in plays.now) trace.now.steps.now wrote
         × Appends (O.contents out.old) (O.contents out.new) wrote) }
+    ensures memory { IfErr result IsStoppedForMemory }
 {
     let mut at = 0;
     for (index, play) in plays.iter().enumerate() {
@@ -47,6 +49,7 @@ fn write_play<O: Write>(
     ensures wrote { IfOk result (λ end. Appends (O.contents out.old) (O.contents out.new)
         (command_lines (sessions_of trace.now) number (at + 1)
         (record { outcome = play.now.outcome; steps = slice_range trace.now.steps.now at end }))) }
+    ensures memory { IfErr result IsStoppedForMemory }
 {
     let line = CommandLine {
         number,
@@ -84,8 +87,9 @@ fn write_steps<O: Write>(
 ) -> Result<(), Stopped>
     requires rises { at ≤ end }
     requires within { end ≤ length trace.now.steps.now }
-    ensures { OnOk result (Appends (O.contents out.old) (O.contents out.new)
+    ensures written { OnOk result (Appends (O.contents out.old) (O.contents out.new)
         (step_lines (sessions_of trace.now) [] (at + 1) (slice_range trace.now.steps.now at end))) }
+    ensures memory { IfErr result IsStoppedForMemory }
 {
     write_step_lines(alloc, trace, at, &trace.steps[at..end], out)?;
     Ok(())

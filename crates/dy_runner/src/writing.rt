@@ -1,4 +1,5 @@
-ghost use Rattle.std.specs.Prelude.{◌≡◌, ◌↔◌, List, ℕ, Result, IfOk, IsErrOf, OnErr, OnOk, true};
+ghost use Rattle.std.specs.Prelude.{◌≡◌, ◌↔◌, List, ℕ, Result, IfErr, IfOk, IsErrOf, OnErr};
+ghost use Rattle.std.specs.Prelude.{OnOk, true};
 ghost use Rattle.std.specs.Io.KnownBytes.{Appends};
 ghost use Rattle.std.specs.List.{flat_map};
 ghost use Rattle.std.specs.declared.marker.Brand.{Brand};
@@ -8,11 +9,14 @@ ghost use Rattle.dy_script.specs.Reading.{script_parts};
 ghost use Rattle.dy_book.specs.Limits.{AreLimits};
 ghost use Rattle.dy_shares.specs.Shares.{SessionPart};
 ghost use Rattle.dy_cluster.specs.Ends.{IsClosed};
+ghost use Rattle.dy_cluster.specs.Refusals.{IsOpenRefusal};
 ghost use Rattle.dy_cluster.specs.Settings.{setting};
+ghost use Rattle.dy_lines.specs.Stops.{IsStoppedFor, IsStoppedForMemory};
 ghost use Rattle.dy_runner.specs.AuditLines.{acked_line, audit_lines, end_line, held_line};
 ghost use Rattle.dy_runner.specs.AuditLines.{settled_line, settled_lines};
 ghost use Rattle.dy_runner.specs.Openings.{IsPlanOf, options_for};
-ghost use Rattle.dy_runner.specs.Refusals.{IsFirstRefusal, IsStoppedBy};
+ghost use Rattle.dy_runner.specs.Refusals.{HasFailed, IsFirstRefusal, IsStoppedBy};
+ghost use Rattle.dy_runner.specs.Refusals.{IsStoppedOnlyBy};
 ghost use Rattle.dy_runner.specs.RingLines.{IsLaidOut, IsRingMade, key_lines, lists_of, ring_lines};
 ghost use Rattle.dy_runner.specs.Runs.{HasRun, IsRun};
 
@@ -51,7 +55,8 @@ pub fn write_run<O: Write, R: Wait>(
     ensures refused { (made : Result Tokens FaultParts)
         × IsRingMade (lists_of (script_parts script.now).layout) made
         × IsStoppedBy (IsFirstRefusal made (options_for (script_parts script.now))) result
-        (O.contents out.old) (O.contents out.new) }
+        (O.contents out.old) (O.contents out.new)
+        × IsStoppedOnlyBy (IsFirstRefusal made (options_for (script_parts script.now))) result }
     ensures run { OnOk result ((wrote : List ℕ) × IsRun (script_parts script.now) with_steps wrote
         × Appends (O.contents out.old) (O.contents out.new) wrote) }
 {
@@ -71,8 +76,9 @@ fn write_planned<O: Write, R: Wait>(
     out: &mut O,
 ) -> Result<(), Stopped>
     requires planned { IsPlanOf (script_parts script.now) plan }
-    ensures { OnOk result ((wrote : List ℕ) × IsRun (script_parts script.now) with_steps wrote
+    ensures run { OnOk result ((wrote : List ℕ) × IsRun (script_parts script.now) with_steps wrote
         × Appends (O.contents out.old) (O.contents out.new) wrote) }
+    ensures only { IfErr result (IsStoppedFor HasFailed) }
 {
     if with_steps {
         return write_with_steps(rt, alloc, plan, script, out);
@@ -93,8 +99,9 @@ fn write_with_steps<O: Write, R: Wait>(
     out: &mut O,
 ) -> Result<(), Stopped>
     requires planned { IsPlanOf (script_parts script.now) plan }
-    ensures { OnOk result ((wrote : List ℕ) × IsRun (script_parts script.now) true wrote
+    ensures run { OnOk result ((wrote : List ℕ) × IsRun (script_parts script.now) true wrote
         × Appends (O.contents out.old) (O.contents out.new) wrote) }
+    ensures only { IfErr result (IsStoppedFor HasFailed) }
 {
     let Plan { ring, options } = plan;
     let again = ring.try_clone(alloc)?;
@@ -127,10 +134,12 @@ pub fn run_script<O: Write, R: Wait>(
     script: &Script,
     out: &mut O,
 ) -> Result<Closed, Stopped>
-    ensures { IfOk result (λ closed. (tellings : List SessionPart)
+    ensures run { IfOk result (λ closed. (tellings : List SessionPart)
         × IsClosed ring options.n options.r tellings closed
         × HasRun (setting Brand ring options.n options.r options) (script_parts script.now) tellings
         (O.contents out.old) (O.contents out.new)) }
+    ensures options { IfOk result (λ closed. closed.options ≡ options) }
+    ensures only { IsStoppedOnlyBy (IsOpenRefusal options ring.nodes) result }
 {
     let mut run = Run {
         script,
@@ -153,8 +162,9 @@ pub fn write_audit<O: Write>(
     audit: &Audit,
     out: &mut O,
 ) -> Result<(), Stopped>
-    ensures { OnOk result (Appends (O.contents out.old) (O.contents out.new)
+    ensures written { OnOk result (Appends (O.contents out.old) (O.contents out.new)
         (audit_lines w is_settled audit.now)) }
+    ensures memory { IfErr result IsStoppedForMemory }
 {
     write_held(alloc, audit.held.as_slice(), out)?;
     write_acked(w, audit.acked.as_slice(), out)?;
@@ -164,8 +174,9 @@ pub fn write_audit<O: Write>(
 }
 
 fn write_held<O: Write>(alloc: Global, held: &[Holding], out: &mut O) -> Result<(), Stopped>
-    ensures { OnOk result (Appends (O.contents out.old) (O.contents out.new)
+    ensures written { OnOk result (Appends (O.contents out.old) (O.contents out.new)
         (flat_map held_line held.now)) }
+    ensures memory { IfErr result IsStoppedForMemory }
 {
     for holding in held {
         let line = HeldLine::of(alloc, holding)?;
@@ -174,7 +185,7 @@ fn write_held<O: Write>(alloc: Global, held: &[Holding], out: &mut O) -> Result<
     Ok(())
 }
 
-fn write_acked<O: Write>(w: u8, acked: &[AckedAt], out: &mut O) -> Result<(), Stopped>
+fn write_acked<O: Write>(w: u8, acked: &[AckedAt], out: &mut O) -> io::Result<()>
     ensures { OnOk result (Appends (O.contents out.old) (O.contents out.new)
         (flat_map (acked_line w) acked.now)) }
 {
@@ -185,7 +196,7 @@ fn write_acked<O: Write>(w: u8, acked: &[AckedAt], out: &mut O) -> Result<(), St
     Ok(())
 }
 
-fn write_settled<O: Write>(keys: &[Key], out: &mut O) -> Result<(), Stopped>
+fn write_settled<O: Write>(keys: &[Key], out: &mut O) -> io::Result<()>
     ensures { OnOk result (Appends (O.contents out.old) (O.contents out.new)
         (flat_map settled_line keys.now)) }
 {
@@ -196,7 +207,7 @@ fn write_settled<O: Write>(keys: &[Key], out: &mut O) -> Result<(), Stopped>
     Ok(())
 }
 
-fn write_wanted<O: Write>(is_wanted: bool, keys: &[Key], out: &mut O) -> Result<(), Stopped>
+fn write_wanted<O: Write>(is_wanted: bool, keys: &[Key], out: &mut O) -> io::Result<()>
     ensures { OnOk result (Appends (O.contents out.old) (O.contents out.new)
         (settled_lines is_wanted keys.now)) }
 {
@@ -206,7 +217,7 @@ fn write_wanted<O: Write>(is_wanted: bool, keys: &[Key], out: &mut O) -> Result<
     Ok(())
 }
 
-fn write_end<O: Write>(audit: &Audit, out: &mut O) -> Result<(), Stopped>
+fn write_end<O: Write>(audit: &Audit, out: &mut O) -> io::Result<()>
     ensures { OnOk result (Appends (O.contents out.old) (O.contents out.new)
         (end_line audit.now)) }
 {

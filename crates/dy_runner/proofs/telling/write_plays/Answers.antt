@@ -19,11 +19,11 @@ loop-index-preserved g c =
           c.loop-index-test.true play.is wrote.rises wrote.within loop.invariant.so_far wrote.wrote;
     }
 
-pub returns : goal.returns
-returns g c =
+pub returns-clause-written : goal.returns-clause-written
+returns-clause-written g c =
     let contents = g.O.Write.contents in
     let loop = c.loop-index in
     traces_all (sessions_of c.args.trace.now) c.args.plays.now loop.index loop.at
     c.args.trace.now.steps.now (contents c.args.out.now) (contents loop.out)
     (contents c.write_steps.new.out) (take_all loop.index c.args.plays.now c.loop-index-test.false)
-    loop.invariant.within loop.invariant.so_far c.in_ok-write_steps.ensures
+    loop.invariant.within loop.invariant.so_far c.in_ok-write_steps.ensures.written

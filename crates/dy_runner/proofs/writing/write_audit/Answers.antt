@@ -8,15 +8,15 @@ use Rattle.dy_runner.specs.AuditLines.{acked_line, held_line, settled_lines}
 use Rattle.dy_runner.proofs.writing.write_audit.Goals as goal
 
 -- the four parts come one behind the other
-pub returns : goal.returns
-returns g c =
+pub returns-clause-written : goal.returns-clause-written
+returns-clause-written g c =
     let contents = g.O.Write.contents in
     let first = contents c.write_held.new.out in
     let second = contents c.write_acked.new.out in
     let held : Appends (contents c.args.out.now) first
     (flat_map held_line c.args.audit.now.held.items) =
     subst (λ (hs : List Holding). Appends (contents c.args.out.now) first (flat_map held_line hs))
-    c.as_slice.ensures.value c.in_ok-write_held.ensures in
+    c.as_slice.ensures.value c.in_ok-write_held.ensures.written in
     let acked : Appends first second
     (flat_map (acked_line c.args.w) c.args.audit.now.acked.items) =
     subst (λ (xs : List AckedAt). Appends first second (flat_map (acked_line c.args.w) xs))

@@ -1,7 +1,6 @@
 -- The ring's own refusal is the only one.
 use Rattle.std.proofs.Common.{refl}
 use Rattle.std.specs.Prelude.{Ok, Err}
-use Rattle.dy_lines.specs.declared.stops.Stopped.TheVariants.{Output}
 use Rattle.dy_runner.proofs.Refusing.{ring_passes, ring_stops}
 use Rattle.dy_runner.proofs.writing.write_ring.Goals as goal
 

@@ -9,12 +9,14 @@ use Rattle.dy_cluster.specs.Ends.{IsClosed}
 use Rattle.dy_cluster.specs.Settings.{setting}
 use Rattle.dy_lines.specs.Clusters.{cluster_lines}
 use Rattle.dy_runner.specs.AuditLines.{audit_lines}
+use Rattle.dy_runner.specs.Refusals.{HasFailed}
 use Rattle.dy_runner.specs.Runs.{DoAll, none_seated, outcomes_in, seated}
+use Rattle.dy_runner.proofs.Refusing.{ends_for, open_or_failed, plan_fails}
 use Rattle.dy_runner.proofs.Tracing.{traced_as}
 use Rattle.dy_runner.proofs.writing.write_with_steps.Goals as goal
 
-pub returns : goal.returns
-returns g c =
+pub returns-clause-run : goal.returns-clause-run
+returns-clause-run g c =
     let contents = g.O.Write.contents in
     let script = script_parts c.args.script.now in
     let plan = c.requires.planned in
@@ -24,7 +26,7 @@ returns g c =
     let recorded = c.with_cluster.new.work.recorded in
     let outcomes = outcomes_in recorded.plays.items in
     let trace = c.in_ok-trace.ensures in
-    let lines = c.in_ok-write_plays.ensures in
+    let lines = c.in_ok-write_plays.ensures.written in
     let first = cluster_lines script.n script.r script.w ring.tokens in
     let last = audit_lines script.w script.settled closed.audit in
     let cluster = subst (λ ts. Appends (contents c.args.out.now) (contents c.write_cluster.new.out)
@@ -44,6 +46,7 @@ returns g c =
         closed = closed;
         ended = subst (λ (o : Options). IsClosed ring o.n o.r told.0 closed) plan.options
             told.1;
+        options = c.in_ok-closed.ensures.options ∙ plan.options;
         wrote_is = (
           lines.0,
           traced_as _ recorded.seats.numbers.items _ closed.audit.told.items _ outcomes _
@@ -54,5 +57,14 @@ returns g c =
         );
       },
       Appends-trans _ _ _ _ _ (Appends-trans _ _ _ _ _ cluster lines.2)
-          c.in_ok-write_audit.ensures,
+          c.in_ok-write_audit.ensures.written,
     )
+
+-- a run of them can but fail
+pub returns-in_err-closed-clause-only : goal.returns-in_err-closed-clause-only
+returns-in_err-closed-clause-only g c =
+    let plan = c.args.plan in
+    let f = c.in_err-closed.field-0.0 in
+    ends_for c.from_residual-in_err-closed.result f HasFailed c.from_residual-in_err-closed.ensures.1
+    (plan_fails (script_parts c.args.script.now) plan f c.requires.planned
+    (open_or_failed plan.options plan.ring.nodes f c.in_err-closed.ensures.only))
