@@ -3,8 +3,6 @@ use crate::signals::LOOKS;
 use crate::workers::with_five_workers;
 use dy_clients::Fault;
 use dy_scenes::{Calls, Scene};
-use std::alloc::Global;
-use std::sync::Wait;
 use std::sync::atomic::{AtomicBool, AtomicU64, Ordering};
 use std::test::Fail;
 
@@ -37,14 +35,8 @@ impl Crossing {
     }
 
     // Gets the letter, and counts whether two homes answered and gave the letter alone.
-    fn get<C: Calls, R: Wait>(
-        &self,
-        rt: &R,
-        alloc: Global,
-        calls: &mut C,
-        letter: u8,
-    ) -> Result<(), Fault> {
-        let got = calls.get(rt, alloc, letter)?;
+    fn get<C: Calls>(&self, calls: &mut C, letter: u8) -> Result<(), Fault> {
+        let got = calls.get(letter)?;
         if got.homes == 2 && got.letter == letter {
             self.right.fetch_add(1, Ordering::SeqCst);
         }
@@ -53,18 +45,13 @@ impl Crossing {
     }
 
     // Puts all keys, and gets them often.
-    fn put_and_get<C: Calls, R: Wait>(
-        &self,
-        rt: &R,
-        alloc: Global,
-        calls: &mut C,
-    ) -> Result<(), Fault> {
+    fn put_and_get<C: Calls>(&self, calls: &mut C) -> Result<(), Fault> {
         for letter in KEYS {
-            calls.put(rt, alloc, 2, letter)?;
+            calls.put(2, letter)?;
         }
         for _ in 0..ROUNDS {
             for letter in KEYS {
-                self.get(rt, alloc, calls, letter)?;
+                self.get(calls, letter)?;
             }
         }
         Ok(())
@@ -78,14 +65,8 @@ impl Scene for Crossing {
         }
     }
 
-    fn call<C: Calls, R: Wait>(
-        &self,
-        rt: &R,
-        alloc: Global,
-        _number: usize,
-        calls: &mut C,
-    ) -> Result<(), Fault> {
-        let done = self.put_and_get(rt, alloc, calls);
+    fn call<C: Calls>(&self, _number: usize, calls: &mut C) -> Result<(), Fault> {
+        let done = self.put_and_get(calls);
         self.is_over.store(true, Ordering::SeqCst);
         done
     }

@@ -3,8 +3,7 @@ use crate::signals::Signal;
 use crate::workers::with_five_workers;
 use dy_clients::{AckedAt, Fault};
 use dy_scenes::{Calls, Scene, is_told};
-use std::alloc::Global;
-use std::sync::{Mutex, Wait};
+use std::sync::Mutex;
 use std::test::Fail;
 
 // Holds the row that node 2 is asked to store until node 3 has handed over its own.
@@ -33,30 +32,25 @@ impl Early {
     }
 
     // Puts while node 1 is down.
-    fn put<C: Calls, R: Wait>(&self, rt: &R, alloc: Global, calls: &mut C) {
-        calls.set_up(rt, 1, false);
-        let told = calls.put(rt, alloc, 3, b'a');
+    fn put<C: Calls>(&self, calls: &mut C) {
+        calls.set_up(1, false);
+        let told = calls.put(3, b'a');
         self.is_put.say();
-        *self.put.lock(rt) = told.ok();
+        calls.keep(&self.put, told.ok());
     }
 
     // Gets: node 3 answers that once it has stored what the put asks of it. Then node 1 comes back,
     // and node 3 hands over.
-    fn hand_over<C: Calls, R: Wait>(
-        &self,
-        rt: &R,
-        alloc: Global,
-        calls: &mut C,
-    ) -> Result<(), Fault> {
-        let got = calls.get(rt, alloc, b'a')?;
+    fn hand_over<C: Calls>(&self, calls: &mut C) -> Result<(), Fault> {
+        let got = calls.get(b'a')?;
         if got.letter == b'a' {
-            *self.got.lock(rt) = Some(got.told);
+            calls.keep(&self.got, Some(got.told));
         }
-        calls.set_up(rt, 1, true);
-        calls.hand_over(rt, 3);
-        let kept = calls.kept(rt, alloc, 3, b'a')?;
+        calls.set_up(1, true);
+        calls.hand_over(3);
+        let kept = calls.kept(3, b'a')?;
         if !self.is_put.is_said() {
-            *self.kept.lock(rt) = Some(kept);
+            calls.keep(&self.kept, Some(kept));
         }
         Ok(())
     }
@@ -74,17 +68,11 @@ impl Scene for Early {
 
     // One client puts. The other one hands over while the put waits for node 2, and then lets it go
     // on.
-    fn call<C: Calls, R: Wait>(
-        &self,
-        rt: &R,
-        alloc: Global,
-        number: usize,
-        calls: &mut C,
-    ) -> Result<(), Fault> {
+    fn call<C: Calls>(&self, number: usize, calls: &mut C) -> Result<(), Fault> {
         if number == 0 {
-            self.put(rt, alloc, calls);
+            self.put(calls);
         } else if self.is_asked.wait() {
-            let done = self.hand_over(rt, alloc, calls);
+            let done = self.hand_over(calls);
             self.is_over.say();
             return done;
         }

@@ -3,8 +3,6 @@ use crate::workers::with_five_workers;
 use dy_clients::Fault;
 use dy_mailboxes::MAILBOX_ROOM;
 use dy_scenes::{Calls, Scene};
-use std::alloc::Global;
-use std::sync::Wait;
 use std::sync::atomic::{AtomicBool, AtomicU64, Ordering};
 use std::test::Fail;
 
@@ -63,15 +61,9 @@ impl Scene for Full {
         }
     }
 
-    fn call<C: Calls, R: Wait>(
-        &self,
-        rt: &R,
-        alloc: Global,
-        _number: usize,
-        calls: &mut C,
-    ) -> Result<(), Fault> {
+    fn call<C: Calls>(&self, _number: usize, calls: &mut C) -> Result<(), Fault> {
         for _ in 0..GETS {
-            let got = calls.get(rt, alloc, b'a')?;
+            let got = calls.get(b'a')?;
             if got.homes == 2 {
                 self.answered.fetch_add(1, Ordering::SeqCst);
             }

@@ -14,15 +14,9 @@ use std::thread::Threads;
 struct Retry;
 
 impl Scene for Retry {
-    fn call<C: Calls, R: Wait>(
-        &self,
-        rt: &R,
-        alloc: Global,
-        _number: usize,
-        calls: &mut C,
-    ) -> Result<(), Fault> {
-        if let Err(Fault::OutOfMemory) = calls.put_untold(rt, alloc, b'a') {
-            calls.put_untold(rt, alloc, b'a')?;
+    fn call<C: Calls>(&self, _number: usize, calls: &mut C) -> Result<(), Fault> {
+        if let Err(Fault::OutOfMemory) = calls.put_untold(b'a') {
+            calls.put_untold(b'a')?;
         }
         Ok(())
     }

@@ -3,8 +3,7 @@ use crate::signals::Signal;
 use crate::workers::with_five_workers;
 use dy_clients::Fault;
 use dy_scenes::{Calls, Scene, is_told};
-use std::alloc::Global;
-use std::sync::{Mutex, Wait};
+use std::sync::Mutex;
 use std::test::Fail;
 
 // Holds the row that node 1 is asked to store until a get was answered.
@@ -30,17 +29,17 @@ impl Hold {
     }
 
     // Puts.
-    fn put<C: Calls, R: Wait>(&self, rt: &R, alloc: Global, calls: &mut C) {
-        let told = calls.put(rt, alloc, 3, b'a');
+    fn put<C: Calls>(&self, calls: &mut C) {
+        let told = calls.put(3, b'a');
         self.is_put.say();
-        *self.put.lock(rt) = told.ok();
+        calls.keep(&self.put, told.ok());
     }
 
     // Gets while the put waits for node 1.
-    fn get<C: Calls, R: Wait>(&self, rt: &R, alloc: Global, calls: &mut C) -> Result<(), Fault> {
-        let got = calls.get(rt, alloc, b'a')?;
+    fn get<C: Calls>(&self, calls: &mut C) -> Result<(), Fault> {
+        let got = calls.get(b'a')?;
         if got.letter == b'a' && !self.is_put.is_said() {
-            *self.got.lock(rt) = Some(got.told);
+            calls.keep(&self.got, Some(got.told));
         }
         Ok(())
     }
@@ -55,17 +54,11 @@ impl Scene for Hold {
     }
 
     // One client puts. The other one gets meanwhile, and then lets node 1 go on.
-    fn call<C: Calls, R: Wait>(
-        &self,
-        rt: &R,
-        alloc: Global,
-        number: usize,
-        calls: &mut C,
-    ) -> Result<(), Fault> {
+    fn call<C: Calls>(&self, number: usize, calls: &mut C) -> Result<(), Fault> {
         if number == 0 {
-            self.put(rt, alloc, calls);
+            self.put(calls);
         } else if self.is_held.wait() {
-            let got = self.get(rt, alloc, calls);
+            let got = self.get(calls);
             self.is_got.say();
             return got;
         }

@@ -2,8 +2,6 @@
 use crate::workers::with_five_workers;
 use dy_clients::{Fault, Mode};
 use dy_scenes::{Calls, Put, Scene, is_told};
-use std::alloc::Global;
-use std::sync::Wait;
 use std::sync::atomic::{AtomicU64, Ordering};
 use std::test::Fail;
 
@@ -21,15 +19,9 @@ impl Scene for Late {
         }
     }
 
-    fn call<C: Calls, R: Wait>(
-        &self,
-        rt: &R,
-        alloc: Global,
-        number: usize,
-        calls: &mut C,
-    ) -> Result<(), Fault> {
-        calls.set_mode(rt, 1, Mode::Late);
-        self.put.call(rt, alloc, number, calls)
+    fn call<C: Calls>(&self, number: usize, calls: &mut C) -> Result<(), Fault> {
+        calls.set_mode(1, Mode::Late);
+        self.put.call(number, calls)
     }
 }
 

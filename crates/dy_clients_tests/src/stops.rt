@@ -60,14 +60,8 @@ impl Stop {
     }
 
     // Gets the letter, and gives what was told.
-    fn get<C: Calls, R: Wait>(
-        &self,
-        rt: &R,
-        alloc: Global,
-        calls: &mut C,
-        letter: u8,
-    ) -> Result<String, Fault> {
-        let got = calls.get(rt, alloc, letter)?;
+    fn get<C: Calls>(&self, calls: &mut C, letter: u8) -> Result<String, Fault> {
+        let got = calls.get(letter)?;
         if got.homes == 2 && got.letter == letter {
             self.right.fetch_add(1, Ordering::SeqCst);
         }
@@ -76,23 +70,18 @@ impl Stop {
     }
 
     // Gets all keys.
-    fn get_all<C: Calls, R: Wait>(
-        &self,
-        rt: &R,
-        alloc: Global,
-        calls: &mut C,
-    ) -> Result<(), Fault> {
+    fn get_all<C: Calls>(&self, calls: &mut C) -> Result<(), Fault> {
         for letter in KEYS {
-            let _told = self.get(rt, alloc, calls, letter)?;
+            let _told = self.get(calls, letter)?;
         }
         Ok(())
     }
 
     // Gets what meets the answer of node 1, which passes no further ask before.
-    fn meet<C: Calls, R: Wait>(&self, rt: &R, alloc: Global, calls: &mut C) {
-        let told = self.get(rt, alloc, calls, b'a');
+    fn meet<C: Calls>(&self, calls: &mut C) {
+        let told = self.get(calls, b'a');
         self.is_met.say();
-        *self.told.lock(rt) = told.ok();
+        calls.keep(&self.told, told.ok());
     }
 
     // Lets node 1 go on, now or once the next get waits.
@@ -138,22 +127,16 @@ impl Scene for Stop {
 
     // Puts all keys, gets one, all of them while node 1 is stopped, one that meets its answer, and
     // all of them.
-    fn call<C: Calls, R: Wait>(
-        &self,
-        rt: &R,
-        alloc: Global,
-        _number: usize,
-        calls: &mut C,
-    ) -> Result<(), Fault> {
+    fn call<C: Calls>(&self, _number: usize, calls: &mut C) -> Result<(), Fault> {
         for letter in KEYS {
-            calls.put_untold(rt, alloc, letter)?;
+            calls.put_untold(letter)?;
         }
         self.is_set.store(true, Ordering::SeqCst);
-        let _told = self.get(rt, alloc, calls, b's')?;
-        self.get_all(rt, alloc, calls)?;
+        let _told = self.get(calls, b's')?;
+        self.get_all(calls)?;
         self.let_go();
-        self.meet(rt, alloc, calls);
-        self.get_all(rt, alloc, calls)
+        self.meet(calls);
+        self.get_all(calls)
     }
 }
 

@@ -2,7 +2,7 @@
 use dy_clients::{
     Ask, Client, Closed, Connection, Fault, Gate, Naming, NodeId, Transport, with_workers,
 };
-use dy_scenes::{Scene, five_nodes, options};
+use dy_scenes::{Caller, Scene, five_nodes, options, play};
 use std::alloc::Global;
 use std::sync::Wait;
 use std::thread::Threads;
@@ -32,7 +32,12 @@ impl<S: Scene> Client for Played<'_, S> {
         number: usize,
         connection: &mut Connection<'_, J, T>,
     ) -> Result<(), Fault> {
-        self.scene.call(rt, alloc, number, connection)
+        let client = Caller {
+            rt,
+            alloc,
+            connection,
+        };
+        play(self.scene, number, client)
     }
 }
 

@@ -1,6 +1,6 @@
 // A scene of one client, on the caller's own thread.
 use dy_cluster::{Closed, Cluster, Fault, Naming, Session, Work, with_cluster};
-use dy_scenes::{Scene, five_nodes, options};
+use dy_scenes::{Caller, Scene, five_nodes, options, play};
 use std::alloc::Global;
 use std::sync::Wait;
 
@@ -14,7 +14,12 @@ pub fn call_alone<J: Naming, S: Scene, R: Wait>(
 ) -> Result<(), Fault> {
     sessions.reserve(1)?;
     let mut connection = cluster.connect(rt)?;
-    let called = scene.call(rt, alloc, 0, &mut connection);
+    let client = Caller {
+        rt,
+        alloc,
+        connection: &mut connection,
+    };
+    let called = play(scene, 0, client);
     let (session, _direct) = connection.into_parts();
     sessions.push_reserved(session);
     called
@@ -32,7 +37,12 @@ fn call_closed<J: Naming, S: Scene, R: Wait>(
     let (post, inboxes) = cluster.post()?;
     drop(inboxes);
     let mut connection = cluster.connect_by_post(rt, post)?;
-    let called = scene.call(rt, alloc, 0, &mut connection);
+    let client = Caller {
+        rt,
+        alloc,
+        connection: &mut connection,
+    };
+    let called = play(scene, 0, client);
     let (session, _mailboxes) = connection.into_parts();
     sessions.push_reserved(session);
     called

@@ -2,8 +2,7 @@
 use crate::alone::played_alone;
 use dy_cluster::Fault;
 use dy_scenes::{Calls, Scene, is_told};
-use std::alloc::Global;
-use std::sync::{Mutex, Wait};
+use std::sync::Mutex;
 use std::test::Fail;
 
 // What node 1 keeps behind a get that mends nothing, and behind one that mends.
@@ -14,26 +13,20 @@ struct Outage {
 }
 
 // Puts, and puts once more while node 1 is down. A put that is refused is missing in the audit.
-fn put_past<C: Calls, R: Wait>(rt: &R, alloc: Global, calls: &mut C) {
-    let _first = calls.put(rt, alloc, 2, b'a');
-    calls.set_up(rt, 1, false);
-    let _second = calls.put(rt, alloc, 2, b'a');
-    calls.set_up(rt, 1, true);
+fn put_past<C: Calls>(calls: &mut C) {
+    let _first = calls.put(2, b'a');
+    calls.set_up(1, false);
+    let _second = calls.put(2, b'a');
+    calls.set_up(1, true);
 }
 
 impl Scene for Outage {
-    fn call<C: Calls, R: Wait>(
-        &self,
-        rt: &R,
-        alloc: Global,
-        _number: usize,
-        calls: &mut C,
-    ) -> Result<(), Fault> {
-        put_past(rt, alloc, calls);
-        let _got = calls.get(rt, alloc, b'a');
-        *self.unrepaired.lock(rt) = calls.kept(rt, alloc, 1, b'a').ok();
-        let mended = calls.mend(rt, alloc, b'a');
-        *self.mended.lock(rt) = calls.kept(rt, alloc, 1, b'a').ok();
+    fn call<C: Calls>(&self, _number: usize, calls: &mut C) -> Result<(), Fault> {
+        put_past(calls);
+        let _got = calls.get(b'a');
+        calls.keep(&self.unrepaired, calls.kept(1, b'a').ok());
+        let mended = calls.mend(b'a');
+        calls.keep(&self.mended, calls.kept(1, b'a').ok());
         mended
     }
 }

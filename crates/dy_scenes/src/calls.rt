@@ -6,7 +6,7 @@ use dy_cluster::{
 };
 use dy_handoff::worker;
 use std::alloc::Global;
-use std::sync::Wait;
+use std::sync::{Mutex, Wait};
 
 /// What a get gave: how many homes' rows were used, the letter that is the one value, and the
 /// answers as a text. Where there is no such letter it is 0.
@@ -20,28 +20,39 @@ pub struct Got {
 /// The calls of a client. The names and values of keys are letters.
 pub trait Calls {
     /// A put of the letter as its own value that names so many homes: its answers, as a text.
-    fn put<R: Wait>(&mut self, rt: &R, alloc: Global, w: u8, letter: u8) -> Result<String, Fault>;
+    fn put(&mut self, w: u8, letter: u8) -> Result<String, Fault>;
 
     /// A put that names two homes, of which no text is made.
-    fn put_untold<R: Wait>(&mut self, rt: &R, alloc: Global, letter: u8) -> Result<(), Fault>;
+    fn put_untold(&mut self, letter: u8) -> Result<(), Fault>;
 
     /// A get of the letter, which mends nothing.
-    fn get<R: Wait>(&mut self, rt: &R, alloc: Global, letter: u8) -> Result<Got, Fault>;
+    fn get(&mut self, letter: u8) -> Result<Got, Fault>;
 
     /// A get of the letter, which mends what it finds stale.
-    fn mend<R: Wait>(&mut self, rt: &R, alloc: Global, letter: u8) -> Result<(), Fault>;
+    fn mend(&mut self, letter: u8) -> Result<(), Fault>;
 
     /// Two passes of the node.
-    fn hand_over<R: Wait>(&self, rt: &R, node: u8);
+    fn hand_over(&self, node: u8);
 
     /// The node goes down, or comes up.
-    fn set_up<R: Wait>(&self, rt: &R, node: u8, is_up: bool);
+    fn set_up(&self, node: u8, is_up: bool);
 
     /// The node gets this mode.
-    fn set_mode<R: Wait>(&self, rt: &R, node: u8, mode: Mode);
+    fn set_mode(&self, node: u8, mode: Mode);
 
     /// What the node keeps of the letter, as a text.
-    fn kept<R: Wait>(&self, rt: &R, alloc: Global, node: u8, letter: u8) -> Result<String, Fault>;
+    fn kept(&self, node: u8, letter: u8) -> Result<String, Fault>;
+
+    /// Keeps the text at this place, until a test reads it.
+    fn keep(&self, place: &Mutex<Option<String>>, text: Option<String>);
+}
+
+/// A client who calls by a connection.
+#[derive(Drop)]
+pub struct Caller<'r, 'c, 'a, J: Naming, T: Transport<J>, R: Wait> {
+    pub rt: &'r R,
+    pub alloc: Global,
+    pub connection: &'c mut Connection<'a, J, T>,
 }
 
 // A put of the letter.
@@ -87,51 +98,57 @@ fn kept_at<J: Naming, R: Wait>(
     kept_text(alloc, node, rows.as_slice())
 }
 
-impl<J: Naming, T: Transport<J>> Calls for Connection<'_, J, T> {
-    fn put<R: Wait>(&mut self, rt: &R, alloc: Global, w: u8, letter: u8) -> Result<String, Fault> {
-        let done = put_letter(rt, alloc, self, w, letter)?;
-        text_of(alloc, done.answers.as_slice())
+impl<J: Naming, T: Transport<J>, R: Wait> Calls for Caller<'_, '_, '_, J, T, R> {
+    fn put(&mut self, w: u8, letter: u8) -> Result<String, Fault> {
+        let done = put_letter(self.rt, self.alloc, self.connection, w, letter)?;
+        text_of(self.alloc, done.answers.as_slice())
     }
 
-    fn put_untold<R: Wait>(&mut self, rt: &R, alloc: Global, letter: u8) -> Result<(), Fault> {
-        let _done = put_letter(rt, alloc, self, 2, letter)?;
+    fn put_untold(&mut self, letter: u8) -> Result<(), Fault> {
+        let _done = put_letter(self.rt, self.alloc, self.connection, 2, letter)?;
         Ok(())
     }
 
-    fn get<R: Wait>(&mut self, rt: &R, alloc: Global, letter: u8) -> Result<Got, Fault> {
-        let done = get_letter(rt, alloc, self, letter)?;
+    fn get(&mut self, letter: u8) -> Result<Got, Fault> {
+        let alloc = self.alloc;
+        let done = get_letter(self.rt, alloc, self.connection, letter)?;
         got_of(alloc, done.from.len(), &done.row, done.answers.as_slice())
     }
 
-    fn mend<R: Wait>(&mut self, rt: &R, alloc: Global, letter: u8) -> Result<(), Fault> {
-        let key = Key::new(alloc, &[letter])?;
-        let _done = Connection::get(self, rt, &key)?;
+    fn mend(&mut self, letter: u8) -> Result<(), Fault> {
+        let key = Key::new(self.alloc, &[letter])?;
+        let _done = self.connection.get(self.rt, &key)?;
         Ok(())
     }
 
-    fn hand_over<R: Wait>(&self, rt: &R, node: u8) {
-        let cluster = self.cluster();
+    fn hand_over(&self, node: u8) {
+        let cluster = self.connection.cluster();
         if let Some(node) = cluster.node(usize::from(node)) {
             let mut passes = cluster.handover(None, node);
-            worker(rt, &mut passes, 2);
+            worker(self.rt, &mut passes, 2);
         }
     }
 
-    fn set_up<R: Wait>(&self, rt: &R, node: u8, is_up: bool) {
-        let cluster = self.cluster();
+    fn set_up(&self, node: u8, is_up: bool) {
+        let cluster = self.connection.cluster();
         if let Some(node) = cluster.node(usize::from(node)) {
-            cluster.set_up(rt, node, is_up);
+            cluster.set_up(self.rt, node, is_up);
         }
     }
 
-    fn set_mode<R: Wait>(&self, rt: &R, node: u8, mode: Mode) {
-        let cluster = self.cluster();
+    fn set_mode(&self, node: u8, mode: Mode) {
+        let cluster = self.connection.cluster();
         if let Some(node) = cluster.node(usize::from(node)) {
-            cluster.fault(rt, node, mode);
+            cluster.fault(self.rt, node, mode);
         }
     }
 
-    fn kept<R: Wait>(&self, rt: &R, alloc: Global, node: u8, letter: u8) -> Result<String, Fault> {
-        kept_at(rt, alloc, self.cluster(), node, letter)
+    fn kept(&self, node: u8, letter: u8) -> Result<String, Fault> {
+        let cluster = self.connection.cluster();
+        kept_at(self.rt, self.alloc, cluster, node, letter)
+    }
+
+    fn keep(&self, place: &Mutex<Option<String>>, text: Option<String>) {
+        *place.lock(self.rt) = text;
     }
 }

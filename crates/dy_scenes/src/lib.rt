@@ -6,7 +6,7 @@ mod rings;
 mod scenes;
 mod texts;
 
-pub use calls::{Calls, Got};
+pub use calls::{Caller, Calls, Got};
 pub use rings::{five_nodes, options};
-pub use scenes::{Put, Scene};
+pub use scenes::{Put, Scene, play};
 pub use texts::is_told;

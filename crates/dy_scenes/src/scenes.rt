@@ -1,8 +1,7 @@
 // What clients do on the cluster that the tests use, and what its workers pass.
 use crate::calls::Calls;
 use dy_cluster::Fault;
-use std::alloc::Global;
-use std::sync::{Mutex, Wait};
+use std::sync::Mutex;
 
 /// A scene: its clients, and the gate of its workers.
 pub trait Scene {
@@ -13,13 +12,16 @@ pub trait Scene {
     fn compared(&self, _node: u8) {}
 
     /// What the client of this number does.
-    fn call<C: Calls, R: Wait>(
-        &self,
-        rt: &R,
-        alloc: Global,
-        number: usize,
-        calls: &mut C,
-    ) -> Result<(), Fault>;
+    fn call<C: Calls>(&self, number: usize, calls: &mut C) -> Result<(), Fault>;
+}
+
+/// Has the client of this number play the scene.
+pub fn play<S: Scene, C: Calls + Drop>(
+    scene: &S,
+    number: usize,
+    mut client: C,
+) -> Result<(), Fault> {
+    scene.call(number, &mut client)
 }
 
 /// Puts the key `a`, and keeps what was told.
@@ -40,15 +42,9 @@ impl Put {
 }
 
 impl Scene for Put {
-    fn call<C: Calls, R: Wait>(
-        &self,
-        rt: &R,
-        alloc: Global,
-        _number: usize,
-        calls: &mut C,
-    ) -> Result<(), Fault> {
-        let told = calls.put(rt, alloc, self.w, b'a')?;
-        *self.told.lock(rt) = Some(told);
+    fn call<C: Calls>(&self, _number: usize, calls: &mut C) -> Result<(), Fault> {
+        let told = calls.put(self.w, b'a')?;
+        calls.keep(&self.told, Some(told));
         Ok(())
     }
 }
