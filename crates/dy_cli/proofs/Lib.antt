@@ -1,1 +1,3 @@
+pub mod Ending
 pub mod Flags
+pub mod Halting

@@ -1,13 +1,9 @@
--- What a job writes, and the status that it ends with.
-use Rattle.std.specs.Prelude.{◌≡◌, ◌⊎◌, ℕ, Bool, true, false, IsTrue, List, Option, Ok}
+-- What a job writes.
+use Rattle.std.specs.Prelude.{◌≡◌, ℕ, Bool, true, false, IsTrue, List, Option, Ok}
 use Rattle.std.specs.declared.marker.Brand.{Brand}
-use Rattle.dy_dots.specs.declared.faults.Fault.{Fault}
-use Rattle.dy_dots.specs.declared.faults.Fault.TheVariants.{OutOfMemory, SharesMissing}
 use Rattle.dy_ring.specs.Rings.{Tokens}
 use Rattle.dy_ring.specs.Lists.{IsRingOf}
 use Rattle.dy_script.specs.Reading.{ScriptParts, script_of_text}
-use Rattle.dy_lines.specs.declared.stops.Stopped.{Stopped}
-use Rattle.dy_lines.specs.declared.stops.Stopped.TheVariants.{Refused, Output}
 use Rattle.dy_runner.specs.RingLines.{IsLaidOut, ring_lines}
 use Rattle.dy_runner.specs.Runs.{IsRun}
 use Rattle.dy_serve.specs.InputLines.{IsAllOf}
@@ -23,10 +19,6 @@ use Rattle.dy_cli.specs.declared.jobs.Job.TheVariants as Job
 -- the script that these bytes spell
 abbrev pub IsSpelt : List ℕ → ScriptParts → Type 0
 IsSpelt bytes s = script_of_text bytes ≡ Ok s
-
--- memory ran out, or a share of the cluster was missing, which never is
-abbrev pub HasFailed : Fault → Type 0
-HasFailed f = (f ≡ OutOfMemory) ⊎ (f ≡ SharesMissing)
 
 -- the lines of a run of the script that these bytes spell
 abbrev pub IsRunOf : List ℕ → Bool → List ℕ → Type 0
@@ -70,9 +62,3 @@ has_script (Job.Storm plan) = false
 -- of a job that reads a script the bytes are all that the input gives, where that is known
 abbrev pub AreRead : Job → Option (List ℕ) → List ℕ → Type 0
 AreRead job given bytes = IsTrue (has_script job) → IsAllOf given bytes
-
--- a job that stopped ends with 1 where memory or the output failed, and with 2 for any other cause
-abbrev pub IsStatusOf : Stopped → ℕ → Type 0
-IsStatusOf (Refused f) status =
-    (HasFailed f × (status ≡ 1)) ⊎ (¬ (HasFailed f) × (status ≡ 2))
-IsStatusOf (Output e) status = status ≡ 1

@@ -1,2 +1,4 @@
+pub mod Ends
 pub mod Jobs
+pub mod Refusals
 pub mod Words

@@ -1,4 +1,6 @@
-ghost use Rattle.std.specs.Prelude.{◌≡◌, ◌≢◌, ◌≤◌, ◌⊎◌, IfErr, IfOk, IfSome, map, string_bytes};
+ghost use Rattle.std.specs.Prelude.{◌≡◌, ◌≢◌, ◌≤◌, ◌⊎◌, IfErr, IfOk, IfSome, IsNone, OnErr, false};
+ghost use Rattle.std.specs.Prelude.{map, string_bytes};
+ghost use Rattle.clap.specs.Matches.{has_subcommand};
 ghost use Rattle.clap.specs.Values.{kind_of};
 ghost use Rattle.dy_cli.specs.Words.{AreNamed, IsJobOf};
 
@@ -42,13 +44,37 @@ pub fn words(alloc: Global, words: &[String]) -> Result<Job, u8>
     ensures status { IfErr result (λ status. (1 ≤ status) × (status ≤ 2)) }
     ensures job { IfOk result (IsJobOf (map string_bytes words.now)) }
 {
-    match matches_of(alloc, words) {
-        Ok(matches) => match job_of(alloc, words, &matches) {
-            Ok(Some(job)) => Ok(job),
-            Ok(None) => Err(2),
-            Err(_) => Err(1),
-        },
+    judged(alloc, words, matches_of(alloc, words))
+}
+
+/// The job that the words ask for by what clap makes of them, or the status to end with.
+fn judged(alloc: Global, words: &[String], answer: Result<ArgMatches, Error>) -> Result<Job, u8>
+    ensures memory { IfErr answer.entry (λ error. kind_of error ≡ ErrorKind.OutOfMemory
+        → result ≡ Err 1) }
+    ensures refused { IfErr answer.entry (λ error. kind_of error ≢ ErrorKind.OutOfMemory
+        → result ≡ Err 2) }
+    ensures none { IfOk answer.entry (λ matches. has_subcommand matches ≡ false
+        → result ≡ Err 2) }
+    ensures status { IfErr result (λ status. (1 ≤ status) × (status ≤ 2)) }
+    ensures job { IfOk result (IsJobOf (map string_bytes words.now)) }
+{
+    match answer {
+        Ok(matches) => asked(job_of(alloc, words, &matches)),
         Err(error) => Err(status_of(&error)),
+    }
+}
+
+/// The job that was found, or the status to end with: 2 where none was asked for, and 1 where memory
+/// ran out.
+fn asked(found: Result<Option<Job>, AllocError>) -> Result<Job, u8>
+    ensures job { IfOk found (λ job. IfSome job (λ job. result ≡ Ok job)) }
+    ensures none { IfOk found (λ job. IsNone job → result ≡ Err 2) }
+    ensures memory { OnErr found (result ≡ Err 1) }
+{
+    match found {
+        Ok(Some(job)) => Ok(job),
+        Ok(None) => Err(2),
+        Err(_) => Err(1),
     }
 }
 
@@ -80,7 +106,8 @@ pub fn explain<R: Print + Eprint>(rt: &R, alloc: Global, words: &[String]) -> io
 
 /// The job that the matches of the words name.
 fn job_of(alloc: Global, words: &[String], matches: &ArgMatches) -> Result<Option<Job>, AllocError>
-    ensures { IfOk result (λ found. IfSome found (IsJobOf (map string_bytes words.now))) }
+    ensures job { IfOk result (λ found. IfSome found (IsJobOf (map string_bytes words.now))) }
+    ensures none { has_subcommand matches.now ≡ false → result ≡ Ok None }
 {
     let Some((name, inner)) = matches.subcommand() else {
         return Ok(None);

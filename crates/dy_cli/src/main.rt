@@ -3,6 +3,7 @@
 #![tactic(auto)]
 
 mod command_lines;
+mod ends;
 mod jobs;
 mod numbers;
 mod performing;
@@ -29,11 +30,11 @@ fn status_of_words<R: Threads + Wait + Sync>(rt: &HostRuntime, leave: &R) -> u8 
     let mut err = rt.stderr();
     let words = match given_words(rt, alloc) {
         Ok(words) => words,
-        Err(error) => return refusing::refuse_words(&mut err, &error),
+        Err(error) => return refusing::refuse_words(&mut err, &error).status,
     };
     match command_lines::words(alloc, words.as_slice()) {
         Ok(job) => status_of_job(rt, leave, &job),
-        Err(1) => refusing::refuse_for_memory(&mut err),
+        Err(1) => refusing::refuse_for_memory(&mut err).status,
         Err(status) => {
             if let Err(error) = command_lines::explain(rt, alloc, words.as_slice()) {
                 refusing::lose_output(&mut err, &error);
@@ -55,7 +56,7 @@ fn status_of_job<R: Threads + Wait + Sync>(rt: &HostRuntime, leave: &R, job: &Jo
     }
     match File::open(rt, file) {
         Ok(mut input) => status_over(rt, leave, job, &mut input),
-        Err(error) => refusing::refuse_file(&mut rt.stderr(), file, &error),
+        Err(error) => refusing::refuse_file(&mut rt.stderr(), file, &error).status,
     }
 }
 
@@ -70,7 +71,7 @@ fn status_over<I: Read, R: Threads + Wait + Sync>(
     if let Job::Serve { .. } = job {
         return match io::BufReader::new(rt.alloc(), rt.stdin()) {
             Ok(mut lines) => status_over_lines(rt, leave, job, input, &mut lines),
-            Err(_) => refusing::refuse_for_memory(&mut rt.stderr()),
+            Err(_) => refusing::refuse_for_memory(&mut rt.stderr()).status,
         };
     }
     let mut nothing: &[u8] = &[];
@@ -88,8 +89,10 @@ fn status_over_lines<I: Read, L: BufRead, R: Threads + Wait + Sync>(
     let alloc = rt.alloc();
     let mut err = rt.stderr();
     match io::BufWriter::new(alloc, io::writer(rt)) {
-        Ok(mut out) => performing::perform(leave, alloc, job, input, lines, &mut out, &mut err),
-        Err(_) => refusing::refuse_for_memory(&mut err),
+        Ok(mut out) => {
+            performing::perform(leave, alloc, job, input, lines, &mut out, &mut err).status
+        }
+        Err(_) => refusing::refuse_for_memory(&mut err).status,
     }
 }
 

@@ -4,7 +4,9 @@ ghost use Rattle.std.specs.IoError.{error_kind};
 ghost use Rattle.dy_lines.specs.Refusals.{refusal_text};
 ghost use Rattle.dy_lines.specs.Stops.{stopped_text};
 ghost use Rattle.dy_lines.specs.Texts.{line};
+ghost use Rattle.dy_cli.specs.Ends.{IsStatusOf, IsTold};
 
+use crate::ends::Ended;
 use dy_dots::Fault;
 use dy_lines::{Refusal, Stopped};
 use std::io;
@@ -38,41 +40,73 @@ fn tell_bad_word<E: Write>(err: &mut E) -> io::Result<()>
     writeln!(err, "dynamo: a word of the command line is not UTF-8")
 }
 
-/// Says that memory ran out, and gives the status. Where it can't be said, it is left unsaid.
-pub fn refuse_for_memory<E: Write>(err: &mut E) -> u8
-    ensures { result ≡ 1 }
+/// Says that memory ran out, which ends with 1. Where it can't be said, it is left unsaid.
+pub fn refuse_for_memory<E: Write>(err: &mut E) -> Ended
+    ensures status { result.status ≡ 1 }
+    ensures told { IsTold result (refusal_text Fault.OutOfMemory)
+        (E.contents err.old) (E.contents err.new) }
 {
-    let _ = tell_refusal(err, Fault::OutOfMemory);
-    1
+    let told = tell_refusal(err, Fault::OutOfMemory).is_ok();
+    Ended { status: 1, told }
 }
 
-/// Says why there are no words, and gives the status: 1 where memory ran out, and 2 where a word is
+/// Says why there are no words, which ends with 1 where memory ran out, and with 2 where a word is
 /// not UTF-8.
-pub fn refuse_words<E: Write>(err: &mut E, error: &io::Error) -> u8
-    ensures memory { error_kind error.now ≡ ErrorKind.OutOfMemory → result ≡ 1 }
-    ensures other { error_kind error.now ≢ ErrorKind.OutOfMemory → result ≡ 2 }
+pub fn refuse_words<E: Write>(err: &mut E, error: &io::Error) -> Ended
+    ensures memory { error_kind error.now ≡ ErrorKind.OutOfMemory → (result.status ≡ 1)
+        × IsTold result (refusal_text Fault.OutOfMemory) (E.contents err.old) (E.contents err.new) }
+    ensures other { error_kind error.now ≢ ErrorKind.OutOfMemory → (result.status ≡ 2)
+        × IsTold result (codes "a word of the command line is not UTF-8")
+        (E.contents err.old) (E.contents err.new) }
 {
     match error.kind() {
         ErrorKind::OutOfMemory => refuse_for_memory(err),
         _ => {
-            let _ = tell_bad_word(err);
-            2
+            let told = tell_bad_word(err).is_ok();
+            Ended { status: 2, told }
         }
     }
 }
 
-/// Says why the file can't be read, and gives the status: 1 where memory ran out, and 2 for any
+/// Says why the file can't be read, which ends with 1 where memory ran out, and with 2 for any
 /// other cause.
-pub fn refuse_file<E: Write>(err: &mut E, file: &str, error: &io::Error) -> u8
-    ensures memory { error_kind error.now ≡ ErrorKind.OutOfMemory → result ≡ 1 }
-    ensures other { error_kind error.now ≢ ErrorKind.OutOfMemory → result ≡ 2 }
-    ensures some { (result ≡ 1) ⊎ (result ≡ 2) }
+pub fn refuse_file<E: Write>(err: &mut E, file: &str, error: &io::Error) -> Ended
+    ensures memory { error_kind error.now ≡ ErrorKind.OutOfMemory → (result.status ≡ 1)
+        × IsTold result (refusal_text Fault.OutOfMemory) (E.contents err.old) (E.contents err.new) }
+    ensures other { error_kind error.now ≢ ErrorKind.OutOfMemory → result.status ≡ 2 }
+    ensures some { ((result.status ≡ 1)
+        × IsTold result (refusal_text Fault.OutOfMemory) (E.contents err.old) (E.contents err.new))
+        ⊎ (result.status ≡ 2) }
 {
     if error.kind() == ErrorKind::OutOfMemory {
         return refuse_for_memory(err);
     }
-    let _ = writeln!(err, "dynamo: {file}: {error}");
-    2
+    let told = writeln!(err, "dynamo: {file}: {error}").is_ok();
+    Ended { status: 2, told }
+}
+
+/// Says why a job stopped, and gives the status of that.
+pub fn refuse_stopped<E: Write>(err: &mut E, stopped: &Stopped) -> Ended
+    ensures status { IsStatusOf stopped.now result.status }
+    ensures told { (text : List ℕ) → stopped_text stopped.now ≡ Some text →
+        IsTold result text (E.contents err.old) (E.contents err.new) }
+{
+    let told = tell_stopped(err, stopped).is_ok();
+    Ended {
+        status: status_of(stopped),
+        told,
+    }
+}
+
+/// The status that a job ends with where it stopped early.
+fn status_of(stopped: &Stopped) -> u8
+    ensures { IsStatusOf stopped.now result }
+{
+    match stopped {
+        Stopped::Refused(Fault::OutOfMemory) | Stopped::Refused(Fault::SharesMissing) => 1,
+        Stopped::Refused(_) => 2,
+        Stopped::Output(_) => 1,
+    }
 }
 
 /// Says that help or its like could not be written, where even that can be said.
