@@ -3,4 +3,5 @@ pub mod LineByLine
 pub mod Lines
 pub mod Lowering
 pub mod Printing
+pub mod Stopping
 pub mod Stretching

@@ -11,6 +11,7 @@ use Rattle.dy_cluster.specs.Settings.{Setting}
 use Rattle.dy_cluster.specs.declared.restings.Closed.{Closed}
 use Rattle.dy_script.specs.Reading.{ScriptParts}
 use Rattle.dy_runner.specs.AuditLines.{audit_lines}
+use Rattle.dy_runner.specs.Openings.{options_for}
 use Rattle.dy_lines.specs.StepLines.{step_lines}
 use Rattle.dy_serve.specs.Below.{Standing, one_session}
 
@@ -37,10 +38,11 @@ abbrev pub AreLeftIf : Bool → List Step → Audit → List ℕ → Type 0
 AreLeftIf false read audit text = text ≡ []
 AreLeftIf true read audit text = AreLeft read audit text
 
--- a cluster that was so far was closed, and so it was printed
+-- a cluster that was so far was closed, with the options of the script, and so it was printed
 pub record IsClosing (v : Service) (before : Standing) (closed : Closed) (text : List ℕ)
     : Type 0 where
   pub ended : IsClosed v.setting.ring v.setting.n v.setting.r before.sessions.tellings closed
+  pub options : closed.options ≡ options_for v.script
   pub rest : List ℕ
   pub left : AreLeftIf v.with_steps before.read closed.audit rest
   pub text_is : text ≡ rest ++ audit_lines v.script.w v.script.settled closed.audit

@@ -1,6 +1,7 @@
 -- The lines of an input, and what is kept of one that is read.
 use Rattle.std.specs.Prelude.{◌≡◌, ◌≢◌, ◌==◌, ◌||◌, ◌++◌, ◌∷◌, [], List, ℕ, Bool, false}
 use Rattle.std.specs.Prelude.{All, IfSome, Option, true, if◌then◌else◌, length, nat_lt}
+use Rattle.std.specs.Io.KnownBytes.{Consumes}
 use Rattle.std.specs.List.{flat_map, list_all}
 use Rattle.dy_serve.specs.declared.input_lines.Piece.{Piece}
 use Rattle.dy_serve.specs.declared.input_lines.Piece.TheVariants.{Part, Rest, End}
@@ -39,6 +40,15 @@ AreLines true text lines = text ++ 10 ∷ [] ≡ ended lines
 pub record AreLinesOf (text : List ℕ) (lines : List (List ℕ)) : Type 0 where
   pub none_within : All (λ l. All (λ x. x ≢ 10) l) lines
   pub lines_are : AreLines true text lines
+
+-- these are the first lines of what was given
+pub record AreFirstLines (is_last : Bool) (given : Option (List ℕ)) (lines : List (List ℕ))
+    : Type 0 where
+  pub bytes : List ℕ
+  pub left : Option (List ℕ)
+  pub consumed : Consumes given left bytes
+  pub none_within : All (λ l. All (λ x. x ≢ 10) l) lines
+  pub lines_are : AreLines is_last bytes lines
 
 -- of so much that was read of a line these bytes are kept, unless it is too long
 pub record IsKept (is_long : Bool) (kept whole : List ℕ) : Type 0 where

@@ -1,5 +1,6 @@
 -- What contracts of private functions alone speak of.
 pub mod Indexed
 pub mod Meeting
+pub mod Shortages
 pub mod Stretches
 pub mod Telling

@@ -1,14 +1,16 @@
 // How a command and a line are answered.
-ghost use Rattle.std.specs.Prelude.{◌≡◌, ◌+◌, List, ℕ, length, IfOk, OnOk};
+ghost use Rattle.std.specs.Prelude.{◌≡◌, ◌⊎◌, ◌+◌, List, ℕ, length, IfErr, IfOk, OnOk};
 ghost use Rattle.std.specs.Io.KnownBytes.{Appends};
 ghost use Rattle.dy_lines.specs.Outcomes.{command_text};
 ghost use Rattle.dy_lines.specs.Served.{refused_text};
+ghost use Rattle.dy_lines.specs.Stops.{IsStoppedFor, IsStoppedForMemory};
 ghost use Rattle.dy_lines.specs.Texts.{line as text_line};
 ghost use Rattle.dy_script.specs.Orders.{command_parts};
 ghost use Rattle.dy_cluster.specs.Settings.{setting};
 ghost use Rattle.dy_serve.specs.Answers.{IsDone};
 ghost use Rattle.dy_serve.specs.Below.{standing};
 ghost use Rattle.dy_serve.specs.inside.Meeting.{AsksSo, MeetsLine};
+ghost use Rattle.dy_serve.specs.inside.Shortages.{HasNoNumber};
 ghost use Rattle.dy_serve.specs.InputLines.{IsKept};
 
 use crate::input_lines::{Line, is_blank};
@@ -37,7 +39,8 @@ enum LineAsked {
 
 /// The number behind this one, of which there are 4,294,967,295.
 pub(crate) fn next_number(count: u32) -> Result<u32, Fault>
-    ensures { IfOk result (λ number. number ≡ count + 1) }
+    ensures number { IfOk result (λ number. number ≡ count + 1) }
+    ensures only { IfErr result (HasNoNumber count) }
 {
     match count.checked_add(1) {
         Some(number) => Ok(number),
@@ -67,6 +70,7 @@ pub(crate) fn answer_command<J: Naming, O: Write, R: Wait>(
         (standing opened.old.seats sessions.old.items opened.old.mark)
         (standing opened.new.seats sessions.new.items opened.new.mark) text
         × Appends (O.contents out.old) (O.contents out.new) text) }
+    ensures memory { IfErr result IsStoppedForMemory }
 {
     let session = session_of(command);
     let so_far = told_so_far(&opened.seats, sessions.as_slice(), session);
@@ -104,9 +108,10 @@ fn refuse<O: Write>(number: u32, fault: Fault, out: &mut O) -> io::Result<()>
 /// What the line asks for, of a store with so many nodes, and its number, which is behind this one
 /// unless the line is blank.
 fn asked_of_line(alloc: Global, nodes: usize, count: u32, line: &Line) -> Result<LineAsked, Fault>
-    ensures { IfOk result (λ asked. (whole : List ℕ) →
+    ensures asked { IfOk result (λ asked. (whole : List ℕ) →
         IsKept line.now.is_long line.now.bytes.items whole →
         AsksSo nodes count whole asked) }
+    ensures only { IfErr result (HasNoNumber count) }
 {
     let Some(bytes) = line.bytes() else {
         let number = next_number(count)?;
@@ -155,6 +160,8 @@ pub(crate) fn answer_line<J: Naming, O: Write, R: Wait>(
         (standing opened.old.seats sessions.old.items opened.old.mark)
         (standing opened.new.seats sessions.new.items opened.new.mark) text
         × Appends (O.contents out.old) (O.contents out.new) text) }
+    ensures only { IfErr result (IsStoppedFor
+        (λ fault. (fault ≡ Fault.OutOfMemory) ⊎ HasNoNumber count fault)) }
 {
     match asked_of_line(alloc, opened.nodes, count, line)? {
         LineAsked::Nothing => Ok(Answered {

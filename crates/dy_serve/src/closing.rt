@@ -1,10 +1,11 @@
 // What is printed of a cluster that was closed.
-ghost use Rattle.std.specs.Prelude.{◌≡◌, ◌++◌, List, ℕ, OnOk, length};
+ghost use Rattle.std.specs.Prelude.{◌≡◌, ◌++◌, List, ℕ, IfErr, OnOk, length};
 ghost use Rattle.std.specs.Io.KnownBytes.{Appends};
 ghost use mathlib.Core.List.{IsPrefix};
 ghost use Rattle.dy_shares.specs.Shares.{steps_of};
 ghost use Rattle.dy_shares.specs.declared.entries.Entry.{Entry};
 ghost use Rattle.dy_book.specs.Audits.{IsHistoryOf};
+ghost use Rattle.dy_lines.specs.Stops.{IsStoppedForMemory};
 ghost use Rattle.dy_runner.specs.AuditLines.{audit_lines};
 ghost use Rattle.dy_serve.specs.Closings.{AreLeft, AreLeftIf};
 
@@ -27,11 +28,12 @@ pub(crate) fn write_closing<O: Write>(
     audit: &Audit,
     out: &mut O,
 ) -> Result<(), Stopped>
-    ensures { OnOk result ((read log : List Entry) → steps ≡ length read → IsPrefix read log
-        → IsHistoryOf audit.now.history (steps_of log) → (rest : List ℕ)
+    ensures written { OnOk result ((read log : List Entry) → steps ≡ length read
+        → IsPrefix read log → IsHistoryOf audit.now.history (steps_of log) → (rest : List ℕ)
         × AreLeftIf with_steps (steps_of read) audit.now rest
         × Appends (O.contents out.old) (O.contents out.new)
         (rest ++ audit_lines script.now.w script.now.settled audit.now)) }
+    ensures memory { IfErr result IsStoppedForMemory }
 {
     if !with_steps {
         write_last(alloc, script, audit, out)?;
@@ -49,8 +51,9 @@ fn write_last<O: Write>(
     audit: &Audit,
     out: &mut O,
 ) -> Result<(), Stopped>
-    ensures { OnOk result (Appends (O.contents out.old) (O.contents out.new)
+    ensures written { OnOk result (Appends (O.contents out.old) (O.contents out.new)
         (audit_lines script.now.w script.now.settled audit.now)) }
+    ensures memory { IfErr result IsStoppedForMemory }
 {
     write_audit(alloc, script.w, script.settled, audit, out)?;
     out.flush()?;
@@ -64,10 +67,11 @@ fn write_left<O: Write>(
     audit: &Audit,
     out: &mut O,
 ) -> Result<(), Stopped>
-    ensures { OnOk result ((read log : List Entry) → steps ≡ length read → IsPrefix read log
-        → IsHistoryOf audit.now.history (steps_of log) → (rest : List ℕ)
+    ensures written { OnOk result ((read log : List Entry) → steps ≡ length read
+        → IsPrefix read log → IsHistoryOf audit.now.history (steps_of log) → (rest : List ℕ)
         × AreLeft (steps_of read) audit.now rest
         × Appends (O.contents out.old) (O.contents out.new) rest) }
+    ensures memory { IfErr result IsStoppedForMemory }
 {
     let trail = audit.history.kept();
     if trail.len() < steps {

@@ -1,12 +1,14 @@
-ghost use Rattle.std.specs.Prelude.{◌≡◌, [], List, ℕ, length, IfOk, OnOk};
+ghost use Rattle.std.specs.Prelude.{◌≡◌, ◌⊎◌, [], List, ℕ, length, IfErr, IfOk, IsOkUnless, OnOk};
 ghost use Rattle.std.specs.Io.KnownBytes.{Appends};
 ghost use Rattle.dy_dots.specs.declared.nodes.TheConstants.{MAX_NODES};
 ghost use Rattle.dy_script.specs.Orders.{command_parts};
 ghost use Rattle.dy_cluster.specs.Settings.{setting};
+ghost use Rattle.dy_lines.specs.Stops.{IsStoppedForMemory};
 ghost use Rattle.dy_runner.specs.Runs.{Does, seated};
 ghost use Rattle.dy_shares.specs.Shares.{steps_of};
 ghost use Rattle.dy_serve.specs.Answers.{IsCarriedInto};
 ghost use Rattle.dy_serve.specs.Below.{AreBelowIf, none_standing, standing};
+ghost use Rattle.dy_serve.specs.Refusals.{IsNotCarried};
 
 use crate::news::News;
 use crate::told::{ToldSoFar, told_since};
@@ -54,6 +56,7 @@ impl<'a, J: Naming> OpenCluster<'a, J> {
         ensures nodes { IfOk result (λ opened. opened.nodes ≡ nodes) }
         ensures none { IfOk result
             (λ opened. standing opened.seats [] opened.mark ≡ none_standing) }
+        ensures memory { IsOkUnless result Fault.OutOfMemory }
     {
         let direct = cluster.direct_calls()?;
         Ok(OpenCluster {
@@ -115,6 +118,8 @@ impl<'a, J: Naming> OpenCluster<'a, J> {
         ensures carried { IfOk result (IsCarriedInto (setting J J.ring J.n J.r
             self.old.cluster.now.options) closed.now
             (seated self.new.seats sessions.new.items)) }
+        ensures only { IfErr result (λ fault. (fault ≡ Fault.OutOfMemory) ⊎ IsNotCarried
+            (setting J J.ring J.n J.r self.old.cluster.now.options) closed.now fault) }
     {
         self.seats.numbers.reserve(1)?;
         sessions.reserve(1)?;
@@ -145,6 +150,7 @@ impl<'a, J: Naming> OpenCluster<'a, J> {
             × AreBelowIf self.old.w.with_steps so_far (steps_of self.old.mark) number
             (standing self.new.seats sessions.now self.new.mark) text
             × Appends (O.contents out.old) (O.contents out.new) text) }
+        ensures memory { IfErr result IsStoppedForMemory }
     {
         if !self.w.with_steps {
             return Ok(());

@@ -1,10 +1,15 @@
 // What is served in one cluster.
-ghost use Rattle.std.specs.Prelude.{◌≡◌, List, ℕ, None, false, true, IfOk, IsTrue, length};
+ghost use Rattle.std.specs.Prelude.{◌≡◌, ◌⊎◌, List, ℕ, None, false, true, IfErr, IfOk, IsTrue};
+ghost use Rattle.std.specs.Prelude.{length};
 ghost use Rattle.std.specs.Option.{option_copied};
 ghost use Rattle.std.specs.Io.KnownBytes.{Appends};
 ghost use Rattle.dy_script.specs.Reading.{script_parts, node_count};
 ghost use Rattle.dy_cluster.specs.Settings.{setting};
+ghost use Rattle.dy_lines.specs.Stops.{IsStoppedFor};
 ghost use Rattle.dy_serve.specs.Below.{none_standing, standing};
+ghost use Rattle.dy_serve.specs.Refusals.{IsNotCarried};
+ghost use Rattle.dy_serve.specs.inside.Shortages.{StopsBeginning, StopsLines, StopsScript};
+ghost use Rattle.dy_serve.specs.inside.Shortages.{StopsServing};
 ghost use Rattle.dy_serve.specs.inside.Stretches.{Begins, GoesOn, HasServed, RunsScript};
 ghost use Rattle.dy_serve.specs.inside.Stretches.{ServesLines, ServesRest};
 
@@ -63,6 +68,7 @@ pub(crate) struct Service<'s, 'p, 'i, 'o, I: BufRead, O: Write> {
 impl<I: BufRead, O: Write> MarkedWork for Service<'_, '_, '_, '_, I, O> {
     ghost use Rattle.dy_script.specs.Reading.{script_parts as parts};
     ghost use Rattle.dy_serve.specs.Below.{standing as standing_at};
+    ghost use Rattle.dy_serve.specs.inside.Shortages.{StopsServing as IsStopping};
     ghost use Rattle.dy_serve.specs.inside.Stretches.{HasServed as HasServedLines};
 
     ghost told = { λ setting before after tellings read.
@@ -79,6 +85,13 @@ impl<I: BufRead, O: Write> MarkedWork for Service<'_, '_, '_, '_, I, O> {
         (standing_at after.progress.now.seats tellings read)
         (I.remaining before.input.now) (I.remaining after.input.now)
         (O.contents before.out.now) (O.contents after.out.now)) };
+
+    // Where it is refused, the output stays the same one, and a cause is told.
+    ghost refused = { λ setting before after fault.
+        (after.out.ghost_name ≡ before.out.ghost_name)
+        × IsStopping setting (parts before.script.now) before.progress.now.closed
+        before.progress.now.stop (I.remaining before.input.now)
+        (O.contents before.out.now) (O.contents after.out.now) fault };
 
     fn run<J: Naming, R: Wait>(
         &mut self,
@@ -137,6 +150,11 @@ impl<I: BufRead, O: Write> Service<'_, '_, '_, '_, I, O> {
             (standing opened.new.seats sessions.new.items opened.new.mark)
             (I.remaining self.old.input.now) (I.remaining self.new.input.now)
             (O.contents self.old.out.now) (O.contents self.new.out.now)) }
+        ensures only { IfErr result (IsStoppedFor (StopsServing
+            (setting J J.ring J.n J.r opened.old.cluster.now.options)
+            (script_parts self.old.script.now) self.old.progress.now.closed
+            self.old.progress.now.stop (I.remaining self.old.input.now)
+            (O.contents self.old.out.now) (O.contents self.new.out.now))) }
     {
         let Stop { count, is_last, .. } = self.progress.stop;
         let closed = self.progress.closed.take();
@@ -191,6 +209,9 @@ fn begin<J: Naming, O: Write, R: Wait>(
         (script_parts script.now) (option_copied closed.entry) number
         (standing opened.new.seats sessions.new.items opened.new.mark) count text
         × Appends (O.contents out.old) (O.contents out.new) text) }
+    ensures only { IfErr result (IsStoppedFor (StopsBeginning
+        (setting J J.ring J.n J.r opened.old.cluster.now.options) (script_parts script.now)
+        (option_copied closed.entry) (O.contents out.old) (O.contents out.new))) }
 {
     match closed {
         Some(closed) => go_on(rt, alloc, opened, sessions, number, closed, out),
@@ -220,6 +241,9 @@ fn go_on<J: Naming, O: Write, R: Wait>(
         opened.old.w.with_steps closed.now number
         (standing opened.new.seats sessions.new.items opened.new.mark) count text
         × Appends (O.contents out.old) (O.contents out.new) text) }
+    ensures only { IfErr result (IsStoppedFor (λ fault. (fault ≡ Fault.OutOfMemory)
+        ⊎ (IsNotCarried (setting J J.ring J.n J.r opened.old.cluster.now.options) closed.now fault
+        × (O.contents out.new ≡ O.contents out.old)))) }
 {
     let carried = opened.carry(rt, alloc, sessions, closed)?;
     let line = RenewedLine { number, carried };
@@ -253,6 +277,7 @@ fn run_script<J: Naming, O: Write, R: Wait>(
         (script_parts script.now)
         (standing opened.new.seats sessions.new.items opened.new.mark) count text
         × Appends (O.contents out.old) (O.contents out.new) text) }
+    ensures only { IfErr result (IsStoppedFor (StopsScript (script_parts script.now))) }
 {
     let mut count = 0;
     for command in script.run.as_slice() {
@@ -281,6 +306,8 @@ fn serve_rest<J: Naming, I: BufRead, O: Write, R: Wait>(
         (standing opened.new.seats sessions.new.items opened.new.mark)
         (I.remaining input.old) (I.remaining input.new) text
         × Appends (O.contents out.old) (O.contents out.new) text) }
+    ensures only { IfErr result (IsStoppedFor (λ fault. (begun.is_last ≡ false)
+        × StopsLines opened.old.nodes begun.count (I.remaining input.old) fault)) }
 {
     if begun.is_last {
         return Ok(Stop {
@@ -314,6 +341,8 @@ fn serve_lines<J: Naming, I: BufRead, O: Write, R: Wait>(
         (standing opened.new.seats sessions.new.items opened.new.mark)
         (I.remaining input.old) (I.remaining input.new) text
         × Appends (O.contents out.old) (O.contents out.new) text) }
+    ensures only { IfErr result (IsStoppedFor
+        (StopsLines opened.old.nodes count (I.remaining input.old))) }
 {
     let mut count = count;
     for _ in rt.forever() {

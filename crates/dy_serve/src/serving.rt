@@ -1,4 +1,5 @@
-ghost use Rattle.std.specs.Prelude.{◌≡◌, List, ℕ, Result, None, false, IfOk, OnOk, length};
+ghost use Rattle.std.specs.Prelude.{◌≡◌, ◌⊎◌, List, ℕ, Result, None, false, IfErr, IfOk, OnOk};
+ghost use Rattle.std.specs.Prelude.{length};
 ghost use Rattle.std.specs.Io.KnownBytes.{Appends};
 ghost use Rattle.std.specs.declared.marker.Brand.{Brand};
 ghost use Rattle.dy_dots.specs.declared.faults.Fault.{Fault as FaultParts};
@@ -8,12 +9,16 @@ ghost use Rattle.dy_shares.specs.Shares.{SessionPart};
 ghost use Rattle.dy_shares.specs.declared.entries.Entry.{Entry};
 ghost use Rattle.dy_cluster.specs.Marks.{IsClosedBehind};
 ghost use Rattle.dy_cluster.specs.Settings.{setting};
+ghost use Rattle.dy_lines.specs.Stops.{IsStoppedFor};
 ghost use Rattle.dy_runner.specs.Openings.{IsPlanOf, options_for};
-ghost use Rattle.dy_runner.specs.Refusals.{IsFirstRefusal, IsStoppedBy};
+ghost use Rattle.dy_runner.specs.Refusals.{HasFailed, IsFirstRefusal, IsStoppedBy};
+ghost use Rattle.dy_runner.specs.Refusals.{IsStoppedOnlyBy};
 ghost use Rattle.dy_runner.specs.RingLines.{IsRingMade, lists_of};
 ghost use Rattle.dy_serve.specs.Below.{standing};
 ghost use Rattle.dy_serve.specs.InputLines.{IsAllOf};
+ghost use Rattle.dy_serve.specs.Refusals.{CutsService};
 ghost use Rattle.dy_serve.specs.Served.{IsServed, first_lines, service_of};
+ghost use Rattle.dy_serve.specs.inside.Shortages.{StopsCluster, StopsClusters};
 ghost use Rattle.dy_serve.specs.inside.Stretches.{HasServed, HasServedSo, ServesCluster};
 
 use crate::closing::write_closing;
@@ -44,7 +49,11 @@ pub fn serve<I: BufRead, O: Write, R: Wait>(
     ensures refused { (made : Result Tokens FaultParts)
         × IsRingMade (lists_of (script_parts script.now).layout) made
         × IsStoppedBy (IsFirstRefusal made (options_for (script_parts script.now))) result
-        (O.contents out.old) (O.contents out.new) }
+        (O.contents out.old) (O.contents out.new)
+        × IsStoppedOnlyBy (λ fault.
+        IsFirstRefusal made (options_for (script_parts script.now)) fault
+        ⊎ CutsService (script_parts script.now) with_steps (I.remaining input.old)
+        (O.contents out.old) (O.contents out.new) fault) result }
     ensures served { OnOk result ((text wrote : List ℕ)
         × IsServed (script_parts script.now) with_steps text wrote
         × IsAllOf (I.remaining input.old) text
@@ -71,6 +80,9 @@ fn serve_planned<I: BufRead, O: Write, R: Wait>(
         × IsServed (script_parts script.now) with_steps text wrote
         × IsAllOf (I.remaining input.old) text
         × Appends (O.contents out.old) (O.contents out.new) wrote) }
+    ensures only { IfErr result (IsStoppedFor (λ fault. CutsService (script_parts script.now)
+        with_steps (I.remaining input.old) (O.contents out.old) (O.contents out.new) fault
+        ⊎ HasFailed fault)) }
 {
     write_head(plan, script, with_steps, out)?;
     let line = Line::new(alloc)?;
@@ -110,7 +122,7 @@ fn serve_clusters<I: BufRead, O: Write, R: Wait>(
     input: &mut I,
     out: &mut O,
 ) -> Result<(), Stopped>
-    requires options { plan.now.options ≡ options_for (script_parts script.now) }
+    requires planned { IsPlanOf (script_parts script.now) plan.now }
     requires closed { progress.old.closed ≡ None }
     requires more { progress.old.stop.is_last ≡ false }
     ensures ended { OnOk result (progress.new.stop.renews ≡ false) }
@@ -119,6 +131,9 @@ fn serve_clusters<I: BufRead, O: Write, R: Wait>(
         progress.new.closed progress.new.stop
         (I.remaining input.old) (I.remaining input.new)
         (O.contents out.old) (O.contents out.new)) }
+    ensures only { IfErr result (IsStoppedFor (StopsClusters
+        (service_of (script_parts script.now) plan.now.ring with_steps) (I.remaining input.old)
+        (O.contents out.old) (O.contents out.new))) }
 {
     serve_cluster(rt, alloc, plan, script, with_steps, progress, input, out)?;
     for _ in rt.forever() {
@@ -163,6 +178,7 @@ fn serve_cluster<I: BufRead, O: Write, R: Wait>(
     input: &mut I,
     out: &mut O,
 ) -> Result<(), Stopped>
+    requires planned { IsPlanOf (script_parts script.now) plan.now }
     ensures served { OnOk result (ServesCluster
         (record {
           setting = setting Brand plan.now.ring plan.now.options.n plan.now.options.r
@@ -173,6 +189,10 @@ fn serve_cluster<I: BufRead, O: Write, R: Wait>(
         progress.old.closed progress.old.stop progress.new.closed progress.new.stop
         (I.remaining input.old) (I.remaining input.new)
         (O.contents out.old) (O.contents out.new)) }
+    ensures only { IfErr result (IsStoppedFor (StopsCluster
+        (setting Brand plan.now.ring plan.now.options.n plan.now.options.r plan.now.options)
+        (script_parts script.now) progress.old.closed progress.old.stop (I.remaining input.old)
+        (O.contents out.old) (O.contents out.new))) }
 {
     let closed = close_served(rt, alloc, plan, script, with_steps, progress, input, out)?;
     write_closing(
@@ -198,6 +218,7 @@ fn close_served<I: BufRead, O: Write, R: Wait>(
     input: &mut I,
     out: &mut O,
 ) -> Result<Closed, Stopped>
+    requires planned { IsPlanOf (script_parts script.now) plan.now }
     ensures served { IfOk result (λ closed. (tellings : List SessionPart) × (read : List Entry)
         × IsClosedBehind plan.now.ring plan.now.options.n plan.now.options.r tellings read closed
         × (progress.new.steps ≡ length read)
@@ -207,6 +228,11 @@ fn close_served<I: BufRead, O: Write, R: Wait>(
         progress.new.stop (standing progress.new.seats tellings read)
         (I.remaining input.old) (I.remaining input.new)
         (O.contents out.old) (O.contents out.new)) }
+    ensures options { IfOk result (λ closed. closed.options ≡ plan.now.options) }
+    ensures only { IfErr result (IsStoppedFor (StopsCluster
+        (setting Brand plan.now.ring plan.now.options.n plan.now.options.r plan.now.options)
+        (script_parts script.now) progress.old.closed progress.old.stop (I.remaining input.old)
+        (O.contents out.old) (O.contents out.new))) }
 {
     let ring = plan.ring.try_clone(alloc)?;
     let mut service = Service {

@@ -7,23 +7,23 @@ use Rattle.dy_runner.specs.AuditLines.{audit_lines}
 use Rattle.dy_serve.specs.Closings.{AreLeftIf}
 use Rattle.dy_serve.proofs.closing.write_closing.Goals as goal
 
-pub returns-then-not-with_steps : goal.returns-then-not-with_steps
-returns-then-not-with_steps g c read log steps begins history =
+pub returns-then-not-with_steps-clause-written : goal.returns-then-not-with_steps-clause-written
+returns-then-not-with_steps-clause-written g c read log steps begins history =
     let contents = g.O.Write.contents in
     let script = c.args.script.now in
     let without : false ≡ c.args.with_steps = search rules in
     subst (λ (b : Bool). (rest : List ℕ) × AreLeftIf b (steps_of read) c.args.audit.now rest
     × Appends (contents c.args.out.now) (contents c.write_last.new.out)
     (rest ++ audit_lines script.w script.settled c.args.audit.now)) without
-    ([], refl, c.in_ok-write_last.ensures)
+    ([], refl, c.in_ok-write_last.ensures.written)
 
-pub returns : goal.returns
-returns g c read log steps begins history =
+pub returns-clause-written : goal.returns-clause-written
+returns-clause-written g c read log steps begins history =
     let contents = g.O.Write.contents in
     let script = c.args.script.now in
     let wanted : true ≡ c.args.with_steps = search rules in
-    let left = c.in_ok-write_left.ensures read log steps begins history in
+    let left = c.in_ok-write_left.ensures.written read log steps begins history in
     subst (λ (b : Bool). (rest : List ℕ) × AreLeftIf b (steps_of read) c.args.audit.now rest
     × Appends (contents c.args.out.now) (contents c.write_last-2.new.out)
     (rest ++ audit_lines script.w script.settled c.args.audit.now)) wanted
-    (left.0, left.1, Appends-trans _ _ _ left.0 _ left.2 c.in_ok-write_last-2.ensures)
+    (left.0, left.1, Appends-trans _ _ _ left.0 _ left.2 c.in_ok-write_last-2.ensures.written)

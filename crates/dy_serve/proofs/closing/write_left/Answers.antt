@@ -8,8 +8,8 @@ use Rattle.dy_serve.specs.inside.Telling.{teller_of}
 use Rattle.dy_serve.proofs.Lowering.{left_so}
 use Rattle.dy_serve.proofs.closing.write_left.Goals as goal
 
-pub returns-then-trail-steps : goal.returns-then-trail-steps
-returns-then-trail-steps g c read log steps begins history =
+pub returns-then-trail-steps-clause-written : goal.returns-then-trail-steps-clause-written
+returns-then-trail-steps-clause-written g c read log steps begins history =
     let all = c.kept-trail.ensures.kept (steps_of log) history in
     absurd (omega (
       arith,
@@ -18,8 +18,8 @@ returns-then-trail-steps g c read log steps begins history =
       kept_no_fewer c.kept-trail.result.now read log begins all,
     ))
 
-pub returns : goal.returns
-returns g c read log steps begins history =
+pub returns-clause-written : goal.returns-clause-written
+returns-clause-written g c read log steps begins history =
     let trail = c.kept-trail.result.now in
     let news = c.in_ok-news.news in
     let made = c.in_ok-news.ensures in

@@ -19,7 +19,7 @@ loop-command-preserved g c =
     c.command-item.is in
     let ends = c.in_ok-answer_command.ensures in
     let number : c.in_ok-count.count ≡ index + 1 =
-    c.in_ok-count.ensures ∙ ap (λ n. n + 1) c.loop-command.invariant.count in
+    c.in_ok-count.ensures.number ∙ ap (λ n. n + 1) c.loop-command.invariant.count in
     record {
       together = ends.together;
       cluster = ends.cluster ∙ c.loop-command.invariant.cluster;
