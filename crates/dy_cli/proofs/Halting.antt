@@ -10,11 +10,11 @@ use Rattle.dy_script.specs.Reading.{ScriptParts, script_of_text}
 use Rattle.dy_lines.specs.declared.stops.Stopped.{Stopped}
 use Rattle.dy_lines.specs.declared.stops.Stopped.TheVariants.{Refused, Output}
 use Rattle.dy_runner.specs.Openings.{options_for}
-use Rattle.dy_runner.specs.Refusals.{IsFirstRefusal, IsStoppedBy}
+use Rattle.dy_runner.specs.Refusals.{IsFirstRefusal, IsStoppedBy, IsStoppedOnlyBy}
 use Rattle.dy_runner.specs.RingLines.{IsRingMade, lists_of}
 use Rattle.dy_cli.specs.Jobs.{IsSpelt}
-use Rattle.dy_cli.specs.Refusals.{AreRefused, HasFailed, HasRingFault, IsAny, IsHaltedBy, IsHaltedFor}
-use Rattle.dy_cli.specs.Refusals.{RefusesCluster, RefusesRing}
+use Rattle.dy_cli.specs.Refusals.{AreRefused, HasClusterFault, HasRingFault, IsAny, IsHaltedBy}
+use Rattle.dy_cli.specs.Refusals.{IsHaltedFor, RefusesCluster, RefusesRing}
 
 abbrev script_or : ScriptParts → Result ScriptParts Fault → ScriptParts
 script_or s (Ok x) = x
@@ -130,6 +130,19 @@ module _ {T : Type 0} where
       (λ memory.
       let stopped = stops OutOfMemory (memory_first s made memory) in (inr stopped.0, stopped.1))
       (refuses made ring))
+
+  -- and by nothing else, but where the run has failed
+  pub cluster_only : (bytes : List ℕ) (s : ScriptParts) (r : Result T Stopped) → IsSpelt bytes s →
+      (made : Result Tokens Fault) → IsRingMade (lists_of s.layout) made →
+      IsStoppedOnlyBy (IsFirstRefusal made (options_for s)) r →
+      IsHaltedFor (AreRefused HasClusterFault bytes) r
+  cluster_only bytes s (Ok x) is made ring only f refused = no_refusal (Ok x) f refl refused
+  cluster_only bytes s (Err (Refused e)) is made ring only f refused =
+      let same = refusal_of e f refused in
+      ⊎_elim (λ first. inl (inr (s, is, (made, ring, first)))) (λ fails. inr fails)
+      (only f (ap (λ (x : Fault). Refused x) same))
+  cluster_only bytes s (Err (Output e)) is made ring only f refused =
+      no_refusal (Err (Output e)) f refl refused
 
   -- a ring by its own refusal
   pub ring_halts : (bytes : List ℕ) (s : ScriptParts) (r : Result T Stopped)

@@ -7,8 +7,9 @@ use Rattle.dy_lines.specs.Refusals.{refusal_text}
 use Rattle.dy_lines.specs.Texts.{line}
 use Rattle.dy_lines.specs.declared.stops.Stopped.{Stopped}
 use Rattle.dy_lines.specs.declared.stops.Stopped.TheVariants.{Refused, Output}
+use Rattle.dy_runner.specs.Refusals.{HasFailed}
 use Rattle.dy_cli.specs.Jobs.{has_script}
-use Rattle.dy_cli.specs.Refusals.{HasFailed, IsCause, Stops}
+use Rattle.dy_cli.specs.Refusals.{IsCause, Stops}
 use Rattle.dy_cli.specs.declared.ends.Ended.{Ended}
 use Rattle.dy_cli.specs.declared.jobs.Job.{Job}
 

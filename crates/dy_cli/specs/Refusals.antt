@@ -1,21 +1,17 @@
 -- Why a job is refused.
 use Rattle.std.specs.Prelude.{◌≡◌, ◌⊎◌, ℕ, List, Option, Result, Err, IsErrOf, ⊤}
 use Rattle.dy_dots.specs.declared.faults.Fault.{Fault}
-use Rattle.dy_dots.specs.declared.faults.Fault.TheVariants.{OutOfMemory, SharesMissing, TooMany}
+use Rattle.dy_dots.specs.declared.faults.Fault.TheVariants.{OutOfMemory, TooMany}
 use Rattle.dy_ring.specs.Rings.{Tokens}
 use Rattle.dy_script.specs.Reading.{ScriptParts, script_of_text}
 use Rattle.dy_lines.specs.declared.stops.Stopped.{Stopped}
 use Rattle.dy_lines.specs.declared.stops.Stopped.TheVariants.{Refused}
 use Rattle.dy_runner.specs.Openings.{options_for}
-use Rattle.dy_runner.specs.Refusals.{IsFirstRefusal}
+use Rattle.dy_runner.specs.Refusals.{HasFailed, IsFirstRefusal}
 use Rattle.dy_runner.specs.RingLines.{IsRingMade, lists_of}
 use Rattle.dy_cli.specs.Jobs.{IsSpelt}
 use Rattle.dy_cli.specs.declared.jobs.Job.{Job}
 use Rattle.dy_cli.specs.declared.jobs.Job.TheVariants as Job
-
--- memory ran out, or a share of the cluster was missing, which never is
-abbrev pub HasFailed : Fault → Type 0
-HasFailed f = (f ≡ OutOfMemory) ⊎ (f ≡ SharesMissing)
 
 -- this comes first of what refuses the script, whatever is made of its layout, unless memory runs
 -- out
@@ -31,6 +27,13 @@ RefusesRing s f =
     (made : Result Tokens Fault)
     → IsRingMade (lists_of s.layout) made
     → IsErrOf made f ⊎ IsErrOf made OutOfMemory
+
+-- this came first of what refuses the script, where something was made of its layout
+abbrev pub HasClusterFault : ScriptParts → Fault → Type 0
+HasClusterFault s f =
+    (made : Result Tokens Fault)
+    × IsRingMade (lists_of s.layout) made
+    × IsFirstRefusal made (options_for s) f
 
 -- the script's layout was refused so
 abbrev pub HasRingFault : ScriptParts → Fault → Type 0
@@ -53,10 +56,10 @@ Stops (Job.Serve file with_steps) bytes f = AreRefused RefusesCluster bytes f
 Stops (Job.Ring file) bytes f = AreRefused RefusesRing bytes f
 Stops (Job.Storm plan) bytes f = ⊥
 
--- nothing but this, or a failure, refuses a job of these bytes; of a run or a service of a script
--- no more is known than that it was read
+-- nothing but this, or a failure, refuses a job of these bytes; of a service of a script no more is
+-- known than that it was read
 abbrev pub IsCause : Job → List ℕ → Fault → Type 0
-IsCause (Job.Run file with_steps) bytes f = AreRefused IsAny bytes f
+IsCause (Job.Run file with_steps) bytes f = AreRefused HasClusterFault bytes f
 IsCause (Job.Serve file with_steps) bytes f = AreRefused IsAny bytes f
 IsCause (Job.Ring file) bytes f = AreRefused HasRingFault bytes f
 IsCause (Job.Storm plan) bytes f = f ≡ TooMany

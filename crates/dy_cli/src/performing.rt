@@ -4,8 +4,9 @@ ghost use Rattle.std.specs.Io.KnownBytes.{Appends};
 ghost use Rattle.dy_cli.specs.Ends.{IsEnd, IsUnread};
 ghost use Rattle.dy_cli.specs.Jobs.{AreRead, IsRingOfText, IsRunOf, IsServiceOf, IsStormLines};
 ghost use Rattle.dy_cli.specs.Jobs.{IsWritten, has_script};
-ghost use Rattle.dy_cli.specs.Refusals.{AreRefused, HasRingFault, IsAny, IsCause, IsHaltedBy};
-ghost use Rattle.dy_cli.specs.Refusals.{IsHaltedFor, RefusesCluster, RefusesRing, Stops};
+ghost use Rattle.dy_cli.specs.Refusals.{AreRefused, HasClusterFault, HasRingFault, IsAny, IsCause};
+ghost use Rattle.dy_cli.specs.Refusals.{IsHaltedBy, IsHaltedFor, RefusesCluster, RefusesRing};
+ghost use Rattle.dy_cli.specs.Refusals.{Stops};
 
 use crate::ends::Ended;
 use crate::jobs::Job;
@@ -160,7 +161,7 @@ fn write_lines_of_run<W: Write, R: Wait>(
         × Appends (W.contents out.old) (W.contents out.new) wrote) }
     ensures refused { IsHaltedBy (AreRefused RefusesCluster bytes.now) result
         (W.contents out.old) (W.contents out.new) }
-    ensures only { IsHaltedFor (AreRefused IsAny bytes.now) result }
+    ensures only { IsHaltedFor (AreRefused HasClusterFault bytes.now) result }
 {
     match read(alloc, bytes) {
         Ok(script) => write_run(rt, alloc, &script, with_steps, out),
