@@ -64,8 +64,8 @@ fn judged(alloc: Global, words: &[String], answer: Result<ArgMatches, Error>) ->
     }
 }
 
-/// The job that was found, or the status to end with: 2 where none was asked for, and 1 where memory
-/// ran out.
+/// The job that was found, or the status to end with: 2 where none was asked for, and 1 where
+/// memory ran out.
 fn asked(found: Result<Option<Job>, AllocError>) -> Result<Job, u8>
     ensures job { IfOk found (λ job. IfSome job (λ job. result ≡ Ok job)) }
     ensures none { IfOk found (λ job. IsNone job → result ≡ Err 2) }
