@@ -6,23 +6,22 @@ ghost use Rattle.dy_mailboxes.specs.inside.Calls.{messages_of};
 use crate::gates::Gate;
 use crate::parcels::{Answered, Posted};
 use crate::posts::Inbox;
-use crate::replies::ReplyTo;
 use dy_book::Book;
 use dy_dots::NodeId;
 use dy_node::{Answer, Ask, Node, answer};
 use dy_shares::Naming;
+use dy_transport::lock_soon;
 use std::sync::{Mutex, Wait};
 
 // How many asks a worker answers under one hold of its locks, at most.
 const ROUND: usize = 8;
 
-// What came of an ask: who was asked, where its answers go, and what carries them.
+// An ask of a round, and the node's answers to it.
 #[derive(Drop)]
-struct Replied<J: Naming> {
-    to: NodeId,
-    reply_to: ReplyTo<J>,
-    first: Answered<J>,
-    second: Option<Answered<J>>,
+struct Served<J: Naming> {
+    posted: Posted<J>,
+    first: Answer<J>,
+    later: Option<Answer<J>>,
 }
 
 /// A worker: answers what comes to the mailbox of its node, the one of these whose place is its
@@ -39,115 +38,91 @@ pub fn serve<J: Naming, G: Gate, R: Wait>(
     let Some(node) = nodes.get(usize::from(inbox.node())) else {
         return;
     };
+    let mut round = [None, None, None, None, None, None, None, None];
     for _ in rt.forever() {
         let Some(first) = inbox.receive(rt) else {
             break;
         };
-        gate.pass(first.to, &first.parcel.ask());
-        match inbox.take(rt) {
-            None => serve_one(rt, node, book, first, gate),
-            Some(second) => {
-                let asks = with_more(rt, &mut inbox, first, second, gate);
-                serve_round(rt, node, book, asks, gate);
-            }
-        }
+        take_round(rt, &mut inbox, first, &mut round, gate);
+        answer_round(rt, node, book, &mut round);
+        send_round(rt, &mut round, gate);
     }
 }
 
-// Answers the ask, and sends the answers once the locks are free. Most asks lie in their mailbox
-// alone, and a round costs more than they do.
-fn serve_one<J: Naming, G: Gate, R: Wait>(
-    rt: &R,
-    node: &Mutex<Node<J>>,
-    book: &Mutex<Book<J>>,
-    posted: Posted<J>,
-    gate: &G,
-) {
-    let replied = {
-        let mut held = node.lock(rt);
-        let mut open = book.lock(rt);
-        reply_of(&mut held, &mut open, posted)
-    };
-    send_all(rt, replied, gate);
+// An ask that has passed the gate, and has no answer yet.
+fn passed<J: Naming, G: Gate>(posted: Posted<J>, gate: &G) -> Served<J> {
+    gate.pass(posted.to, &posted.parcel.ask());
+    Served {
+        posted,
+        first: Answer::NoAnswer,
+        later: None,
+    }
 }
 
-// The first ask, which has passed the gate, the second, and those that lie in the mailbox behind
-// them, as far as they fit into a round. Each passes the gate before the next is taken.
-fn with_more<J: Naming, G: Gate, R: Wait>(
+// Takes the first ask, and those that lie in the mailbox behind it, as far as they fit into a
+// round. Each passes the gate before the next is taken.
+fn take_round<J: Naming, G: Gate, R: Wait>(
     rt: &R,
     inbox: &mut Inbox<J>,
     first: Posted<J>,
-    second: Posted<J>,
+    round: &mut [Option<Served<J>>; ROUND],
     gate: &G,
-) -> [Option<Posted<J>>; ROUND] {
-    gate.pass(second.to, &second.parcel.ask());
-    let mut asks = [None, None, None, None, None, None, None, None];
-    asks[0] = Some(first);
-    asks[1] = Some(second);
-    for place in 2..ROUND {
+) {
+    round[0] = Some(passed(first, gate));
+    for place in 1..ROUND {
         let Some(posted) = inbox.take(rt) else {
             break;
         };
-        gate.pass(posted.to, &posted.parcel.ask());
-        asks[place] = Some(posted);
-    }
-    asks
-}
-
-// Answers the asks, and sends the answers once the locks are free.
-fn serve_round<J: Naming, G: Gate, R: Wait>(
-    rt: &R,
-    node: &Mutex<Node<J>>,
-    book: &Mutex<Book<J>>,
-    asks: [Option<Posted<J>>; ROUND],
-    gate: &G,
-) {
-    let mut replies = answer_round(rt, node, book, asks);
-    for replied in replies.iter_mut() {
-        if let Some(replied) = replied.take() {
-            send_all(rt, replied, gate);
-        }
+        round[place] = Some(passed(posted, gate));
     }
 }
 
-// Sends the answers to an ask.
-fn send_all<J: Naming, G: Gate, R: Wait>(rt: &R, replied: Replied<J>, gate: &G) {
-    let to = replied.to;
-    let mut reply_to = replied.reply_to;
-    reply_to.send(rt, gate, to, replied.first);
-    if let Some(second) = replied.second {
-        reply_to.send(rt, gate, to, second);
-    }
-}
-
-// Answers each of the asks, under one hold of both locks.
+// Answers the asks of a round, under one hold of both locks.
 fn answer_round<J: Naming, R: Wait>(
     rt: &R,
     node: &Mutex<Node<J>>,
     book: &Mutex<Book<J>>,
-    mut asks: [Option<Posted<J>>; ROUND],
-) -> [Option<Replied<J>>; ROUND] {
-    let mut replies = [None, None, None, None, None, None, None, None];
-    let mut held = node.lock(rt);
-    let mut open = book.lock(rt);
-    for (place, posted) in asks.iter_mut().enumerate() {
-        if let Some(posted) = posted.take() {
-            replies[place] = Some(reply_of(&mut held, &mut open, posted));
-        }
+    round: &mut [Option<Served<J>>; ROUND],
+) {
+    let mut held = lock_soon(rt, node);
+    let mut open = lock_soon(rt, book);
+    for place in round.iter_mut() {
+        let Some(served) = place else {
+            break;
+        };
+        let (first, later) = answer_posted(&mut held, &mut open, &served.posted);
+        served.first = first;
+        served.later = later;
     }
-    replies
 }
 
-// What came of an ask.
-fn reply_of<J: Naming>(held: &mut Node<J>, book: &mut Book<J>, posted: Posted<J>) -> Replied<J> {
-    let (answer, later) = answer_held(held, book, posted.to, &posted.parcel.ask());
-    let reply_to = posted.reply_to;
-    let (first, second) = messages(reply_to.call, reply_to.number, answer, later);
-    Replied {
-        to: posted.to,
-        reply_to,
+// Sends the answers of a round, once the locks are free, and lets go of its asks.
+fn send_round<J: Naming, G: Gate, R: Wait>(
+    rt: &R,
+    round: &mut [Option<Served<J>>; ROUND],
+    gate: &G,
+) {
+    for place in round.iter_mut() {
+        let Some(served) = place.take() else {
+            break;
+        };
+        send_answers(rt, served, gate);
+    }
+}
+
+// Sends the answers to an ask.
+fn send_answers<J: Naming, G: Gate, R: Wait>(rt: &R, served: Served<J>, gate: &G) {
+    let Served {
+        posted,
         first,
-        second,
+        later,
+    } = served;
+    let to = posted.to;
+    let mut reply_to = posted.reply_to;
+    let (first, second) = messages(reply_to.call, reply_to.number, first, later);
+    reply_to.send(rt, gate, to, first);
+    if let Some(second) = second {
+        reply_to.send(rt, gate, to, second);
     }
 }
 
@@ -176,6 +151,15 @@ fn messages<J: Naming>(
         }),
     };
     (first, second)
+}
+
+// The node's answers to an ask on its way.
+fn answer_posted<J: Naming>(
+    held: &mut Node<J>,
+    book: &mut Book<J>,
+    posted: &Posted<J>,
+) -> (Answer<J>, Option<Answer<J>>) {
+    answer_held(held, book, posted.to, &posted.parcel.ask())
 }
 
 // The node's answers. What a lock holds is known by its type alone, so a node that has another

@@ -1,17 +1,20 @@
-ghost use Rattle.std.specs.Prelude.{◌≡◌, true, IsTrue, IfOk, IfErr, IfSome, IsOkUnless};
-ghost use Rattle.std.specs.Prelude.{OnErr, OnOk};
+ghost use Rattle.std.specs.Prelude.{◌≡◌, ◌↔◌, true, false, None, IsTrue, IfOk, IfErr, IfSome};
+ghost use Rattle.std.specs.Prelude.{IsErrOf, IsOkUnless, OnErr, OnOk};
+ghost use Rattle.std.specs.Result.{result_err};
 ghost use Rattle.std.specs.List.{All};
 ghost use Rattle.std.specs.Sync.Mutex.{mutex_guard_value};
 ghost use Rattle.dy_preference.specs.Preferences.{homes_of, may_hold};
 ghost use Rattle.dy_core.specs.Worlds.{layout_of};
 ghost use Rattle.dy_book.specs.Books.{issue_steps, with_untold};
-ghost use Rattle.dy_node.specs.Answers.{AnsweredBy, MayAsk};
+ghost use Rattle.dy_node.specs.Answers.{AnsweredBy, IsDown, MayAsk};
 ghost use Rattle.dy_node.specs.Nodes.{AreForHomes, AreForOthers, hints_of, version_begun};
+ghost use Rattle.dy_node.specs.Refusals.{BeginRefused};
 ghost use Rattle.dy_node.specs.Stored.{versions_at};
 ghost use Rattle.dy_node.specs.declared.asks.Answer.TheVariants.{NoAnswer};
 ghost use Rattle.dy_transport.specs.Asking.{IsAnswerTo, IsBegun, IsSeenAt};
 ghost use Rattle.dy_transport.specs.Refusals.{IsOfBegin, IsOfNode, IsOfOffer};
 
+use crate::locks::lock_soon;
 use dy_book::Book;
 use dy_dots::{Context, Fault, NodeId};
 use dy_node::{Answer, Ask, Begun, Node, RowFor, answer};
@@ -62,6 +65,7 @@ fn begin_by<J: Naming>(
         (version_begun book.old held.old key.now context.now value))) }
     ensures row { IfOk result (λ b. b.row.versions ≡ versions_at held.new.rooms home key.now) }
     ensures err { OnErr result ((held.new ≡ held.old) × (book.new ≡ book.old)) }
+    ensures cause { BeginRefused book.old held.old key.now context.now (result_err result) }
     ensures refused { IfErr result IsOfBegin }
 {
     // Bring the clauses that the book's log is legal, and that the node keeps what it says.
@@ -80,7 +84,9 @@ fn offer_by<J: Naming>(
     ensures hints { IfOk result (λ hints. hints.items ≡ hints_of held.old) }
     ensures for_homes { IfOk result (λ hints. AreForHomes J.ring J.n hints.items) }
     ensures for_others { IfOk result (λ hints. AreForOthers node hints.items) }
+    ensures down { IsErrOf result Fault.Down ↔ (held.old.is_up ≡ false) }
     ensures refused { IfErr result IsOfOffer }
+    ensures same { (held.new ≡ held.old) × (book.new ≡ book.old) }
 {
     held.offer(book)
 }
@@ -97,6 +103,9 @@ fn answer_by<J: Naming>(
     ensures first { IsAnswerTo to ask.now result.0 }
     ensures second { IfSome result.1 (λ second. IsAnswerTo to ask.now second) }
     ensures awaited { IfSome result.1 (λ _. result.0 ≡ NoAnswer) }
+    ensures down { IsDown result.0 ↔ (held.old.is_up ≡ false) }
+    ensures nothing { held.old.is_up ≡ false →
+        (result.1 ≡ None) × (held.new ≡ held.old) × (book.new ≡ book.old) }
     ensures up { held.old.is_up ≡ true → AnsweredBy held.old.mode ask.now
         held.old book.old held.new book.new result.0 result.1 }
 {
@@ -118,7 +127,7 @@ impl<'a, J: Naming> Reach<'a, J> {
         ensures { IfSome result (λ held. (mutex_guard_value held).part.node ≡ node) }
     {
         let place = self.nodes.get(usize::from(node.number()))?;
-        let held = place.lock(rt);
+        let held = lock_soon(rt, place);
         if held.number() != node {
             return None;
         }
@@ -144,7 +153,7 @@ impl<'a, J: Naming> Reach<'a, J> {
         let Some(mut held) = self.lock_node(rt, node) else {
             return Err(Fault::Down);
         };
-        let mut open = self.book.lock(rt);
+        let mut open = lock_soon(rt, self.book);
         begin_by(&mut held, &mut open, node, home, key, context, copy)
     }
 
@@ -163,7 +172,7 @@ impl<'a, J: Naming> Reach<'a, J> {
         let Some(mut held) = self.lock_node(rt, node) else {
             return Err(Fault::Down);
         };
-        let mut open = self.book.lock(rt);
+        let mut open = lock_soon(rt, self.book);
         held.fetch(&mut open, home, key, since)
     }
 
@@ -176,7 +185,7 @@ impl<'a, J: Naming> Reach<'a, J> {
         let Some(mut held) = self.lock_node(rt, node) else {
             return Err(Fault::Down);
         };
-        let mut open = self.book.lock(rt);
+        let mut open = lock_soon(rt, self.book);
         offer_by(&mut held, &mut open, node)
     }
 
@@ -193,7 +202,7 @@ impl<'a, J: Naming> Reach<'a, J> {
         let Some(mut held) = self.lock_node(rt, node) else {
             return Err(Fault::Down);
         };
-        let mut open = self.book.lock(rt);
+        let mut open = lock_soon(rt, self.book);
         held.settle(&mut open, receipts)
     }
 
@@ -212,7 +221,7 @@ impl<'a, J: Naming> Reach<'a, J> {
         let Some(mut held) = self.lock_node(rt, to) else {
             return (Answer::NoAnswer, None);
         };
-        let mut open = self.book.lock(rt);
+        let mut open = lock_soon(rt, self.book);
         answer_by(&mut held, &mut open, to, ask)
     }
 }

@@ -18,6 +18,7 @@ ghost use Rattle.dy_transport.specs.declared.tries.Try.TheVariants.{Begin, Look,
 ghost use Rattle.dy_transport.specs.declared.tries.Try.TheVariants.{Settle};
 ghost use Rattle.dy_transport.specs.declared.transports.TheConstants.{SPARE_TRIES};
 
+use crate::locks::lock_soon;
 use crate::reaches::Reach;
 use crate::snapshots::show;
 use crate::tries::Try;
@@ -186,7 +187,7 @@ pub trait Transport<J: Naming> {
         ensures err { OnErr result (session.new ≡ session.old) }
         ensures refused { IfErr result IsOfStep }
     {
-        let gave = self.reach().book.lock(rt).ack(session, w, receipts);
+        let gave = lock_soon(rt, self.reach().book).ack(session, w, receipts);
         self.note_try(&mut Some(Try::Record {
             w,
             receipts: show(receipts),

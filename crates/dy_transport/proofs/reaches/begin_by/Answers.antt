@@ -1,8 +1,10 @@
 use Rattle.std.proofs.Common.{◌≡◌, ◌∙◌, ℕ, ap, refl, subst, sym, IfOk, OnOk}
+use Rattle.std.specs.Result.{result_err}
 use Rattle.dy_core.specs.Worlds.{layout_of}
 use Rattle.dy_book.specs.Books.{BookParts, issue_steps, with_untold, world_of}
 use Rattle.dy_shares.specs.Shares.{steps_of}
 use Rattle.dy_node.specs.Nodes.{HoldsAs, NodeState, version_begun}
+use Rattle.dy_node.specs.Refusals.{BeginRefused}
 use Rattle.dy_transport.specs.Asking.{IsBegun}
 use Rattle.dy_transport.proofs.Reached.{begun_fits}
 use Rattle.dy_transport.proofs.reaches.begin_by.Goals as goal
@@ -41,3 +43,14 @@ returns-clause-log g c =
     c.args.home (version_begun c.agree.new.book c.agree.new.self key context c.args.value))))
     (ap (λ (n : NodeState). n.part.node) c.agree.ensures.node ∙ c.requires.number)
     c.begin.ensures.log))
+
+-- what refuses it is what refuses the node, behind the book that was lent
+pub returns-clause-cause : goal.returns-clause-cause
+returns-clause-cause g c =
+    let key = c.args.key.now in
+    let context = c.args.context.now in
+    let told = result_err c.begin.result in
+    subst (λ (b : BookParts). BeginRefused b c.args.held.now key context told)
+    c.agree.ensures.book
+    (subst (λ (n : NodeState). BeginRefused c.agree.new.book n key context told)
+    c.agree.ensures.node c.begin.ensures.refused)

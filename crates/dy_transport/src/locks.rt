@@ -1,0 +1,17 @@
+use std::hint::spin_loop;
+use std::sync::{Mutex, MutexGuard, Wait};
+
+// How often a lock is tried before the thread sleeps: some twenty microseconds.
+const TRIES: u32 = 500;
+
+/// Takes the lock of a node or of the book. Each is held for a few microseconds, and a sleep costs
+/// more than that: so a thread first tries it for a while. May wait for the lock. Takes no memory.
+pub fn lock_soon<'a, T, R: Wait>(rt: &R, lock: &'a Mutex<T>) -> MutexGuard<'a, T> {
+    for _ in 0..TRIES {
+        if let Some(guard) = lock.try_lock() {
+            return guard;
+        }
+        spin_loop();
+    }
+    lock.lock(rt)
+}
