@@ -15,11 +15,11 @@ use Rattle.dy_cli.proofs.Halting.{no_refusal, refusal_of}
 
 module _ {T : Type 0} where
   -- nothing refuses what is Ok
-  pub done_ends : (job : Job) (bytes : List ℕ) (x : T) (ended : Ended)
+  pub done_ends : (job : Job) (given : Option (List ℕ)) (bytes : List ℕ) (x : T) (ended : Ended)
       (out out_after err err_after : Option (List ℕ)) → ended.status ≡ 0 →
       IsHaltedBy {T = T} (Stops job bytes) (Ok x) out out_after →
-      IsEnd job bytes ended out out_after err err_after
-  done_ends job bytes x ended out out_after err err_after zero halts = record {
+      IsEnd job given bytes ended out out_after err err_after
+  done_ends job given bytes x ended out out_after err err_after zero halts = record {
     failed = λ one. absurd (omega (arith, zero, one));
     refused = λ two. absurd (omega (arith, zero, two));
     stopped = λ f this.
@@ -37,14 +37,14 @@ module _ {T : Type 0} where
       subst (λ (x : Fault). IsEndBy x ended err err_after) (refusal_of e f same) ends
 
   -- a refusal ends with its status and its line, and a lost output tells that none came
-  pub stopped_ends : (job : Job) (bytes : List ℕ) (stopped : Stopped) (ended : Ended)
-      (out out_after err err_after : Option (List ℕ)) →
+  pub stopped_ends : (job : Job) (given : Option (List ℕ)) (bytes : List ℕ) (stopped : Stopped)
+      (ended : Ended) (out out_after err err_after : Option (List ℕ)) →
       IsHaltedBy {T = T} (Stops job bytes) (Err stopped) out out_after →
-      IsHaltedFor {T = T} (IsCause job bytes) (Err stopped) →
+      IsHaltedFor {T = T} (IsCause job given bytes out out_after) (Err stopped) →
       IsStatusOf stopped ended.status →
       ((text : List ℕ) → stopped_text stopped ≡ Some text → IsTold ended text err err_after) →
-      IsEnd job bytes ended out out_after err err_after
-  stopped_ends job bytes (Refused e) ended out out_after err err_after halts only status told =
+      IsEnd job given bytes ended out out_after err err_after
+  stopped_ends job given bytes (Refused e) ended out out_after err err_after halts only status told =
       let line = told (refusal_text e) refl in
       record {
         failed = λ one.
@@ -67,7 +67,7 @@ module _ {T : Type 0} where
           (halts f this).1,
         );
       }
-  stopped_ends job bytes (Output e) ended out out_after err err_after halts only status told = record {
+  stopped_ends job given bytes (Output e) ended out out_after err err_after halts only status told = record {
     failed = λ one. inr (λ f this.
         ⊎_elim (λ same. no_refusal {T = T} (Err (Output e)) f refl same)
         (λ memory. no_refusal {T = T} (Err (Output e)) OutOfMemory refl memory)

@@ -1,8 +1,8 @@
 -- Why a job is refused, and how it ends then.
 use Rattle.std.proofs.Common.{◌≡◌, ◌≢◌, ◌↔◌, ◌∙◌, ℕ, List, ap, inl, inr, refl, subst, sym, ⊎_elim}
 use Rattle.std.proofs.lemmas.Bool.{true≢false}
-use Rattle.std.specs.Prelude.{◌⊎◌, Bool, true, false, Option, Result, Ok, Err, IfErr, IsErrOf, OnErr}
-use Rattle.std.specs.Prelude.{OnOk, is_ok}
+use Rattle.std.specs.Prelude.{◌⊎◌, Bool, true, false, Option, Result, Ok, Err, IfErr, IsErrAnd}
+use Rattle.std.specs.Prelude.{IsErrOf, OnErr, OnOk, is_ok}
 use Rattle.dy_dots.specs.declared.faults.Fault.{Fault}
 use Rattle.dy_dots.specs.declared.faults.Fault.TheVariants.{OutOfMemory, SharesMissing, TooMany}
 use Rattle.dy_ring.specs.Rings.{Tokens}
@@ -13,8 +13,9 @@ use Rattle.dy_runner.specs.Openings.{options_for}
 use Rattle.dy_runner.specs.Refusals.{IsFirstRefusal, IsStoppedBy, IsStoppedOnlyBy}
 use Rattle.dy_runner.specs.RingLines.{IsRingMade, lists_of}
 use Rattle.dy_cli.specs.Jobs.{IsSpelt}
-use Rattle.dy_cli.specs.Refusals.{AreRefused, HasClusterFault, HasRingFault, IsAny, IsHaltedBy}
-use Rattle.dy_cli.specs.Refusals.{IsHaltedFor, RefusesCluster, RefusesRing}
+use Rattle.dy_serve.specs.Refusals.{CutsService}
+use Rattle.dy_cli.specs.Refusals.{AreRefused, HasClusterFault, HasRingFault, HasServiceFault}
+use Rattle.dy_cli.specs.Refusals.{IsHaltedBy, IsHaltedFor, RefusesCluster, RefusesRing}
 
 abbrev script_or : ScriptParts → Result ScriptParts Fault → ScriptParts
 script_or s (Ok x) = x
@@ -131,18 +132,48 @@ module _ {T : Type 0} where
       let stopped = stops OutOfMemory (memory_first s made memory) in (inr stopped.0, stopped.1))
       (refuses made ring))
 
-  -- and by nothing else, but where the run has failed
+  -- what stops a script that was read, or a failure, is all that does
+  spelt_only : (Has : ScriptParts → Fault → Type 0) (Causes : Fault → Type 0) (bytes : List ℕ)
+      (s : ScriptParts) (r : Result T Stopped) → IsSpelt bytes s →
+      ((f : Fault) → Causes f → Has s f) → IsStoppedOnlyBy Causes r →
+      IsHaltedFor (AreRefused Has bytes) r
+  spelt_only Has Causes bytes s (Ok x) is has only f refused =
+      no_refusal (Ok x) f refl refused
+  spelt_only Has Causes bytes s (Err (Refused e)) is has only f refused =
+      let same = refusal_of e f refused in
+      ⊎_elim (λ cause. inl (inr (s, is, has f cause))) (λ fails. inr fails)
+      (only f (ap (λ (x : Fault). Refused x) same))
+  spelt_only Has Causes bytes s (Err (Output e)) is has only f refused =
+      no_refusal (Err (Output e)) f refl refused
+
+  -- a run is stopped by what comes first
   pub cluster_only : (bytes : List ℕ) (s : ScriptParts) (r : Result T Stopped) → IsSpelt bytes s →
       (made : Result Tokens Fault) → IsRingMade (lists_of s.layout) made →
       IsStoppedOnlyBy (IsFirstRefusal made (options_for s)) r →
       IsHaltedFor (AreRefused HasClusterFault bytes) r
-  cluster_only bytes s (Ok x) is made ring only f refused = no_refusal (Ok x) f refl refused
-  cluster_only bytes s (Err (Refused e)) is made ring only f refused =
-      let same = refusal_of e f refused in
-      ⊎_elim (λ first. inl (inr (s, is, (made, ring, first)))) (λ fails. inr fails)
-      (only f (ap (λ (x : Fault). Refused x) same))
-  cluster_only bytes s (Err (Output e)) is made ring only f refused =
-      no_refusal (Err (Output e)) f refl refused
+  cluster_only bytes s r is made ring only =
+      spelt_only HasClusterFault (IsFirstRefusal made (options_for s)) bytes s r is
+      (λ f first. (made, ring, first))
+      only
+
+  -- and a service so too, or by what cuts it short
+  pub service_only : (with_steps : Bool) (given before after : Option (List ℕ)) (bytes : List ℕ)
+      (s : ScriptParts) (r : Result T Stopped) → IsSpelt bytes s → (made : Result Tokens Fault) →
+      IsRingMade (lists_of s.layout) made →
+      IsStoppedOnlyBy (λ f. IsFirstRefusal made (options_for s) f
+      ⊎ CutsService s with_steps given before after f) r →
+      IsHaltedFor (AreRefused (HasServiceFault with_steps given before after) bytes) r
+  service_only with_steps given before after bytes s r is made ring only =
+      spelt_only (HasServiceFault with_steps given before after)
+      (λ f. IsFirstRefusal made (options_for s) f ⊎ CutsService s with_steps given before after f)
+      bytes s r is (λ f. ⊎_elim (λ first. inl (made, ring, first)) (λ cuts. inr cuts)) only
+
+  -- what is passed on was stopped by the same
+  pub passed_on : (r : Result T Stopped) (s : Stopped) (Causes : Fault → Type 0) →
+      IsErrAnd r (λ t. t ≡ s) → IsHaltedFor {T = T} Causes (Err s) → IsHaltedFor Causes r
+  passed_on (Ok x) s Causes gives only f refused = no_refusal (Ok x) f refl refused
+  passed_on (Err t) s Causes gives only f refused =
+      only f (ap (λ (x : Stopped). Err x) (sym gives) ∙ refused)
 
   -- a ring by its own refusal
   pub ring_halts : (bytes : List ℕ) (s : ScriptParts) (r : Result T Stopped)
@@ -180,8 +211,3 @@ module _ {T : Type 0} where
       (⊎_elim (λ many. inl many) (λ missing. inr (inr missing)))
       why
   storm_only (Err (Output e)) only f refused = no_refusal (Err (Output e)) f refl refused
-
-  -- a script that was read may be refused for anything
-  pub any_halts : (bytes : List ℕ) (s : ScriptParts) (r : Result T Stopped) → IsSpelt bytes s →
-      IsHaltedFor (AreRefused IsAny bytes) r
-  any_halts bytes s r is f refused = inl (inr (s, is, tt))

@@ -38,10 +38,10 @@ pub record IsUnread (job : Job) (ended : Ended) (out out_after err err_after : O
   pub cause : ((ended.status ≡ 1) × IsTold ended (refusal_text OutOfMemory) err err_after)
       ⊎ (ended.status ≡ 2)
 
--- how a job of these bytes ended: with 1 only if memory failed, which is told, or the output did,
+-- how a job of these bytes and lines ended: with 1 only if memory failed, which is told, or the output did,
 -- and then nothing refuses the job; with 2 only for one of its causes, which is told; what refuses
 -- it is told with its status, or want of memory is, and nothing was written
-pub record IsEnd (job : Job) (bytes : List ℕ) (ended : Ended)
+pub record IsEnd (job : Job) (given : Option (List ℕ)) (bytes : List ℕ) (ended : Ended)
     (out out_after err err_after : Option (List ℕ)) : Type 0 where
   pub failed :
       ended.status ≡ 1
@@ -49,7 +49,7 @@ pub record IsEnd (job : Job) (bytes : List ℕ) (ended : Ended)
       ⊎ ((f : Fault) → ¬ (Stops job bytes f))
   pub refused :
       ended.status ≡ 2
-      → (f : Fault) × IsCause job bytes f × ¬ (HasFailed f)
+      → (f : Fault) × IsCause job given bytes out out_after f × ¬ (HasFailed f)
       × IsTold ended (refusal_text f) err err_after
   pub stopped :
       (f : Fault)

@@ -1,5 +1,5 @@
 -- Why a job is refused.
-use Rattle.std.specs.Prelude.{◌≡◌, ◌⊎◌, ℕ, List, Option, Result, Err, IsErrOf, ⊤}
+use Rattle.std.specs.Prelude.{◌≡◌, ◌⊎◌, ℕ, Bool, List, Option, Result, Err, IsErrOf}
 use Rattle.dy_dots.specs.declared.faults.Fault.{Fault}
 use Rattle.dy_dots.specs.declared.faults.Fault.TheVariants.{OutOfMemory, TooMany}
 use Rattle.dy_ring.specs.Rings.{Tokens}
@@ -9,6 +9,7 @@ use Rattle.dy_lines.specs.declared.stops.Stopped.TheVariants.{Refused}
 use Rattle.dy_runner.specs.Openings.{options_for}
 use Rattle.dy_runner.specs.Refusals.{HasFailed, IsFirstRefusal}
 use Rattle.dy_runner.specs.RingLines.{IsRingMade, lists_of}
+use Rattle.dy_serve.specs.Refusals.{CutsService}
 use Rattle.dy_cli.specs.Jobs.{IsSpelt}
 use Rattle.dy_cli.specs.declared.jobs.Job.{Job}
 use Rattle.dy_cli.specs.declared.jobs.Job.TheVariants as Job
@@ -40,9 +41,12 @@ abbrev pub HasRingFault : ScriptParts → Fault → Type 0
 HasRingFault s f =
     (made : Result Tokens Fault) × IsRingMade (lists_of s.layout) made × IsErrOf made f
 
--- it may be refused for any fault
-abbrev pub IsAny : ScriptParts → Fault → Type 0
-IsAny s f = ⊤
+-- the same of a service that was given these lines, with what the output had before and after; or
+-- what was asked of it cut it short
+abbrev pub HasServiceFault : Bool → Option (List ℕ) → Option (List ℕ) → Option (List ℕ)
+    → ScriptParts → Fault → Type 0
+HasServiceFault with_steps given before after s f =
+    HasClusterFault s f ⊎ CutsService s with_steps given before after f
 
 -- for this fault these bytes spell no script, or they spell one that has it
 abbrev pub AreRefused : (ScriptParts → Fault → Type 0) → List ℕ → Fault → Type 0
@@ -56,13 +60,15 @@ Stops (Job.Serve file with_steps) bytes f = AreRefused RefusesCluster bytes f
 Stops (Job.Ring file) bytes f = AreRefused RefusesRing bytes f
 Stops (Job.Storm plan) bytes f = ⊥
 
--- nothing but this, or a failure, refuses a job of these bytes; of a service of a script no more is
--- known than that it was read
-abbrev pub IsCause : Job → List ℕ → Fault → Type 0
-IsCause (Job.Run file with_steps) bytes f = AreRefused HasClusterFault bytes f
-IsCause (Job.Serve file with_steps) bytes f = AreRefused IsAny bytes f
-IsCause (Job.Ring file) bytes f = AreRefused HasRingFault bytes f
-IsCause (Job.Storm plan) bytes f = f ≡ TooMany
+-- nothing but this, or a failure, refuses a job of these bytes, which was given these lines, with
+-- what the output had before and after
+abbrev pub IsCause : Job → Option (List ℕ) → List ℕ → Option (List ℕ) → Option (List ℕ) → Fault
+    → Type 0
+IsCause (Job.Run file with_steps) given bytes before after f = AreRefused HasClusterFault bytes f
+IsCause (Job.Serve file with_steps) given bytes before after f =
+    AreRefused (HasServiceFault with_steps given before after) bytes f
+IsCause (Job.Ring file) given bytes before after f = AreRefused HasRingFault bytes f
+IsCause (Job.Storm plan) given bytes before after f = f ≡ TooMany
 
 -- each such refusal stopped this, or want of memory did, and nothing was written before it
 abbrev pub IsHaltedBy :

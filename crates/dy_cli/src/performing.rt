@@ -4,9 +4,9 @@ ghost use Rattle.std.specs.Io.KnownBytes.{Appends};
 ghost use Rattle.dy_cli.specs.Ends.{IsEnd, IsUnread};
 ghost use Rattle.dy_cli.specs.Jobs.{AreRead, IsRingOfText, IsRunOf, IsServiceOf, IsStormLines};
 ghost use Rattle.dy_cli.specs.Jobs.{IsWritten, has_script};
-ghost use Rattle.dy_cli.specs.Refusals.{AreRefused, HasClusterFault, HasRingFault, IsAny, IsCause};
-ghost use Rattle.dy_cli.specs.Refusals.{IsHaltedBy, IsHaltedFor, RefusesCluster, RefusesRing};
-ghost use Rattle.dy_cli.specs.Refusals.{Stops};
+ghost use Rattle.dy_cli.specs.Refusals.{AreRefused, HasClusterFault, HasRingFault};
+ghost use Rattle.dy_cli.specs.Refusals.{HasServiceFault, IsCause, IsHaltedBy, IsHaltedFor};
+ghost use Rattle.dy_cli.specs.Refusals.{RefusesCluster, RefusesRing, Stops};
 
 use crate::ends::Ended;
 use crate::jobs::Job;
@@ -48,7 +48,7 @@ pub fn perform<I: Read, L: BufRead, W: Write + Drop, E: Write, R: Threads + Wait
         (writer_contents W.contents out.old) (writer_contents W.contents out.new)
         (E.contents err.old) (E.contents err.new)
         ⊎ ((bytes : List ℕ) × AreRead job.now (I.remaining input.old) bytes
-        × IsEnd job.now bytes result
+        × IsEnd job.now (L.remaining lines.old) bytes result
         (writer_contents W.contents out.old) (writer_contents W.contents out.new)
         (E.contents err.old) (E.contents err.new)) }
 {
@@ -87,7 +87,7 @@ fn carry_out<L: BufRead, W: Write + Drop, E: Write, R: Threads + Wait + Sync>(
         × Appends (writer_contents W.contents out.old) (writer_contents W.contents out.new) wrote }
     ensures flushed { result.status ≡ 0 → writer_buffer out.new ≡ [] }
     ensures quiet { result.status ≡ 0 → E.contents err.new ≡ E.contents err.old }
-    ensures ended { IsEnd job.now bytes.now result
+    ensures ended { IsEnd job.now (L.remaining lines.old) bytes.now result
         (writer_contents W.contents out.old) (writer_contents W.contents out.new)
         (E.contents err.old) (E.contents err.new) }
 {
@@ -116,7 +116,8 @@ fn write_job<L: BufRead, W: Write + Drop, R: Threads + Wait + Sync>(
     ensures flushed { OnOk result (writer_buffer out.new ≡ []) }
     ensures refused { IsHaltedBy (Stops job.now bytes.now) result
         (writer_contents W.contents out.old) (writer_contents W.contents out.new) }
-    ensures only { IsHaltedFor (IsCause job.now bytes.now) result }
+    ensures only { IsHaltedFor (IsCause job.now (L.remaining lines.old) bytes.now
+        (writer_contents W.contents out.old) (writer_contents W.contents out.new)) result }
 {
     write_lines(rt, alloc, job, bytes, lines, out)?;
     out.flush()?;
@@ -137,7 +138,8 @@ fn write_lines<L: BufRead, W: Write, R: Threads + Wait + Sync>(
         × Appends (W.contents out.old) (W.contents out.new) wrote) }
     ensures refused { IsHaltedBy (Stops job.now bytes.now) result
         (W.contents out.old) (W.contents out.new) }
-    ensures only { IsHaltedFor (IsCause job.now bytes.now) result }
+    ensures only { IsHaltedFor (IsCause job.now (L.remaining lines.old) bytes.now
+        (W.contents out.old) (W.contents out.new)) result }
 {
     match job {
         Job::Run { with_steps, .. } => write_lines_of_run(rt, alloc, bytes, *with_steps, out),
@@ -183,7 +185,8 @@ fn write_lines_of_service<L: BufRead, W: Write, R: Wait>(
         × Appends (W.contents out.old) (W.contents out.new) wrote) }
     ensures refused { IsHaltedBy (AreRefused RefusesCluster bytes.now) result
         (W.contents out.old) (W.contents out.new) }
-    ensures only { IsHaltedFor (AreRefused IsAny bytes.now) result }
+    ensures only { IsHaltedFor (AreRefused (HasServiceFault with_steps
+        (L.remaining lines.old) (W.contents out.old) (W.contents out.new)) bytes.now) result }
 {
     match read(alloc, bytes) {
         Ok(script) => serve(rt, alloc, &script, with_steps, lines, out),

@@ -1,7 +1,7 @@
 -- the script that was read is the one whose cluster served, or that was refused
 use Rattle.dy_script.specs.Reading.{script_parts}
-use Rattle.dy_cli.specs.Refusals.{IsAny, RefusesCluster}
-use Rattle.dy_cli.proofs.Halting.{any_halts, cluster_halts, on_ok, unread_halts, unread_only}
+use Rattle.dy_cli.specs.Refusals.{HasServiceFault, RefusesCluster}
+use Rattle.dy_cli.proofs.Halting.{cluster_halts, on_ok, service_only, unread_halts, unread_only}
 use Rattle.dy_cli.proofs.performing.write_lines_of_service.Goals as goal
 
 pub returns-in-Ok-clause-ok : goal.returns-in-Ok-clause-ok
@@ -25,11 +25,14 @@ returns-in-Ok-clause-refused g c =
 
 pub returns-in-Ok-clause-only : goal.returns-in-Ok-clause-only
 returns-in-Ok-clause-only g c =
-    any_halts _ (script_parts c.in-Ok.script) c.serve.result c.in-Ok.ensures.ok
+    let stopped = c.serve.ensures.refused in
+    service_only _ _ _ _ _ (script_parts c.in-Ok.script) c.serve.result c.in-Ok.ensures.ok
+    stopped.0 stopped.1 stopped.3
 
 pub returns-in-Err-clause-refused : goal.returns-in-Err-clause-refused
 returns-in-Err-clause-refused g c =
     unread_halts RefusesCluster _ c.in-Err.fault _ c.in-Err.ensures.err
 
 pub returns-in-Err-clause-only : goal.returns-in-Err-clause-only
-returns-in-Err-clause-only g c = unread_only IsAny _ c.in-Err.fault c.in-Err.ensures.err
+returns-in-Err-clause-only g c =
+    unread_only (HasServiceFault _ _ _ _) _ c.in-Err.fault c.in-Err.ensures.err
