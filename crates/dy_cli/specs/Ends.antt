@@ -38,9 +38,9 @@ pub record IsUnread (job : Job) (ended : Ended) (out out_after err err_after : O
   pub cause : ((ended.status ≡ 1) × IsTold ended (refusal_text OutOfMemory) err err_after)
       ⊎ (ended.status ≡ 2)
 
--- how a job of these bytes and lines ended: with 1 only if memory failed, which is told, or the output did,
--- and then nothing refuses the job; with 2 only for one of its causes, which is told; what refuses
--- it is told with its status, or want of memory is, and nothing was written
+-- how a job of these bytes and lines ended: with 1 only if memory failed, which is told, or the
+-- output did, and then nothing refuses the job; with 2 only for one of its causes, which is told;
+-- what refuses it is told with its status, or want of memory is, and nothing was written
 pub record IsEnd (job : Job) (given : Option (List ℕ)) (bytes : List ℕ) (ended : Ended)
     (out out_after err err_after : Option (List ℕ)) : Type 0 where
   pub failed :
