@@ -1,6 +1,6 @@
 -- How a job ends by what came of it.
 use Rattle.std.proofs.Common.{◌≡◌, ℕ, List, arith, inl, inr, refl, subst, ⊎_elim}
-use Rattle.std.specs.Prelude.{◌⊎◌, Option, Result, Ok, Err, Some, IsErrOf}
+use Rattle.std.specs.Prelude.{◌⊎◌, Option, Ok, Err, Some, IsErrOf}
 use Rattle.dy_dots.specs.declared.faults.Fault.{Fault}
 use Rattle.dy_dots.specs.declared.faults.Fault.TheVariants.{OutOfMemory}
 use Rattle.dy_lines.specs.Refusals.{refusal_text}

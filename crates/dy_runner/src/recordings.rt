@@ -1,5 +1,5 @@
 // A run whose outcomes are kept until its cluster is closed.
-ghost use Rattle.std.specs.Prelude.{◌≡◌, [], length, IfOk, IsOkUnless};
+ghost use Rattle.std.specs.Prelude.{◌≡◌, [], IfOk, IsOkUnless};
 ghost use Rattle.dy_dots.specs.declared.nodes.TheConstants.{MAX_NODES};
 ghost use Rattle.dy_script.specs.Reading.{script_parts};
 ghost use Rattle.dy_cluster.specs.Settings.{setting};

@@ -1,6 +1,5 @@
 // What fails next, by the draws of a generator.
-ghost use Rattle.std.specs.Prelude.{◌≡◌, ◌%◌};
-ghost use Rattle.rand_pcg.specs.Pcg.{pcg32};
+ghost use Rattle.std.specs.Prelude.{◌≡◌};
 ghost use Rattle.dy_storm.specs.Outages.{IsEventDrawn, IsOutageDrawn};
 
 use dy_draws::draw;

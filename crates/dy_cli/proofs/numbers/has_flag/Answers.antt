@@ -1,5 +1,5 @@
 -- The flag stands at this word, or at none.
-use Rattle.std.proofs.Common.{◌≡◌, ◌≢◌, ◌<◌, ◌∙◌, ℕ, List, [], ap, get_or, length, map, refl, sym}
+use Rattle.std.proofs.Common.{◌≢◌, ◌<◌, ◌∙◌, [], ap, get_or, length, map, refl, sym}
 use Rattle.std.proofs.Common.{arith, codes}
 use Rattle.std.proofs.lemmas.Bool.{true≢false}
 use Rattle.std.proofs.lemmas.List.{get_or-map, length-map}

@@ -1,4 +1,4 @@
-use Rattle.std.proofs.Common.{◌+◌, ◌%◌, ◌^◌, IfOk, ℕ, subst}
+use Rattle.std.proofs.Common.{◌+◌, ◌%◌, ◌^◌, IfOk, subst}
 use Rattle.std.specs.declared.marker.Brand.{Brand as BrandParts}
 use Rattle.dy_ring.specs.Rings.{Tokens}
 use Rattle.dy_book.specs.declared.options.Options.{Options}
