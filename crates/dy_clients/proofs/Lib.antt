@@ -1,2 +1,3 @@
+mod Opening
 pub mod Seated
 pub mod Sent

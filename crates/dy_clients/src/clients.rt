@@ -1,13 +1,9 @@
-ghost use Rattle.std.specs.Prelude.{◌≡◌, ◌<◌, ◌↔◌, ◌⊎◌, ℕ, IfOk, IfErr, IsErrOf};
+ghost use Rattle.std.specs.Prelude.{◌≡◌, ◌<◌};
 ghost use Rattle.std.specs.declared.marker.Brand.{Brand as BrandParts};
-ghost use Rattle.dy_book.specs.Limits.{AreLimits, IsQuorum};
-ghost use Rattle.dy_shares.specs.Shares.{SessionPart};
 ghost use Rattle.dy_cluster.specs.Settings.{Setting, setting};
-ghost use Rattle.dy_cluster.specs.Stores.{TellsStores};
 ghost use Rattle.dy_cluster.specs.Tellings.{IsUntold};
-ghost use Rattle.dy_clients.specs.Refusals.{IsRunRefusal};
-ghost use Rattle.dy_clients.specs.Runs.{HaveRun};
-ghost use Rattle.dy_clients.specs.Tellings.{ClientAnswer};
+ghost use Rattle.dy_clients.specs.Runs.{EndsRun};
+ghost use Rattle.dy_clients.specs.Tellings.{ClientSaying};
 
 use crate::clients_dones::ClientsDone;
 use crate::operators::Nobody;
@@ -28,7 +24,7 @@ use std::thread::Threads;
 pub trait Client {
     // What the client of this number says of its answer and of its session's list, once it ran on a
     // cluster of this setting. If it is left out, it says nothing.
-    ghost told: { Setting → Self → ℕ → ClientAnswer → SessionPart → Type 0 } = { λ _ _ _ _ _. Unit {0} };
+    ghost told: { Setting → Self → ClientSaying } = { λ _ _ _ _ _. Unit {0} };
 
     /// Clients are numbered from 0. The session's list is empty before, and puts name as many homes
     /// as the cluster's options. A refusal ends this client alone, and is told of it.
@@ -58,13 +54,8 @@ pub fn with_clients<C: Client + Sync, R: Threads + Wait + Sync>(
     clients: u8,
     client: &C,
 ) -> Result<ClientsDone, Fault>
-    ensures stores { IfOk result (λ done. TellsStores ring options.n done.closed) }
-    ensures closed { IfOk result (HaveRun ring options clients
-        (C.told (setting BrandParts ring options.n options.r options) client.now)) }
-    ensures too_many { ¬ (AreLimits options) → IsErrOf result Fault.TooMany }
-    ensures bad_quorum { IsErrOf result Fault.BadQuorum
-        ↔ (AreLimits options × ¬ (IsQuorum options ring.nodes)) }
-    ensures only { IfErr result (λ fault. (fault ≡ Fault.BadQuorum) ⊎ IsRunRefusal fault) }
+    ensures { EndsRun ring options clients
+        (C.told (setting BrandParts ring options.n options.r options) client.now) result }
 {
     run_opened::<C, Open, Nobody, R>(rt, alloc, ring, options, None, None, clients, client)
 }

@@ -1,10 +1,6 @@
-ghost use Rattle.std.specs.Prelude.{◌≡◌, ◌↔◌, ◌⊎◌, IfOk, IfErr, IsErrOf};
 ghost use Rattle.std.specs.declared.marker.Brand.{Brand as BrandParts};
-ghost use Rattle.dy_book.specs.Limits.{AreLimits, IsQuorum};
 ghost use Rattle.dy_cluster.specs.Settings.{setting};
-ghost use Rattle.dy_cluster.specs.Stores.{TellsStores};
-ghost use Rattle.dy_clients.specs.Refusals.{IsRunRefusal};
-ghost use Rattle.dy_clients.specs.Runs.{HaveRun};
+ghost use Rattle.dy_clients.specs.Runs.{EndsRun};
 
 use crate::clients::Client;
 use crate::clients_dones::ClientsDone;
@@ -68,13 +64,8 @@ pub fn with_operator<
     client: &C,
     operator: &O,
 ) -> Result<ClientsDone, Fault>
-    ensures stores { IfOk result (λ done. TellsStores ring options.n done.closed) }
-    ensures closed { IfOk result (HaveRun ring options clients
-        (C.told (setting BrandParts ring options.n options.r options) client.now)) }
-    ensures too_many { ¬ (AreLimits options) → IsErrOf result Fault.TooMany }
-    ensures bad_quorum { IsErrOf result Fault.BadQuorum
-        ↔ (AreLimits options × ¬ (IsQuorum options ring.nodes)) }
-    ensures only { IfErr result (λ fault. (fault ≡ Fault.BadQuorum) ⊎ IsRunRefusal fault) }
+    ensures { EndsRun ring options clients
+        (C.told (setting BrandParts ring options.n options.r options) client.now) result }
 {
     let (gate, operator) = (Some(gate), Some(operator));
     run_opened::<C, G, O, R>(rt, alloc, ring, options, gate, operator, clients, client)

@@ -1,13 +1,12 @@
 // Seats: the clients' numbers, sessions and answers.
-ghost use Rattle.std.specs.Prelude.{◌≡◌, ◌≤◌, ◌<◌, ◌+◌, ℕ, [], length, vec_len, vec_capacity};
+ghost use Rattle.std.specs.Prelude.{◌≡◌, ◌≤◌, ◌<◌, ◌+◌, [], length, vec_len, vec_capacity};
 ghost use Rattle.std.specs.Prelude.{true, false, IsTrue, IsSome};
 ghost use Rattle.std.specs.List.{All};
 ghost use Rattle.std.specs.Option.{ForSome};
 ghost use Rattle.dy_dots.specs.declared.nodes.TheConstants.{MAX_NODES};
-ghost use Rattle.dy_shares.specs.Shares.{SessionPart};
 ghost use Rattle.dy_cluster.specs.Settings.{setting};
 ghost use Rattle.dy_cluster.specs.Tellings.{IsUntold};
-ghost use Rattle.dy_clients.specs.Tellings.{AreAnswered, ClientAnswer, SaysToo, as_answered};
+ghost use Rattle.dy_clients.specs.Tellings.{AreAnswered, ClientSaying, SaysToo, as_answered};
 
 use crate::clients::Client;
 use dy_cluster::{Cluster, Connection};
@@ -22,7 +21,7 @@ use std::sync::{Mutex, Wait};
 // What holds of clients' answers and of the lists of their sessions, by their numbers. The function
 // that runs the clients picks it, since of what threads leave behind only the type is known.
 pub(crate) trait Telling {
-    ghost told: { ℕ → ClientAnswer → SessionPart → Type 0 };
+    ghost told: { ClientSaying };
 }
 
 impl Telling for Brand {
@@ -45,7 +44,7 @@ pub(crate) struct Seat<J: Naming, T: Telling> {
 
 // What a client's thread needs of its seat. It can be sent to that thread.
 pub(crate) trait Place<J: Naming> {
-    ghost told: { ℕ → ClientAnswer → SessionPart → Type 0 };
+    ghost told: { ClientSaying };
 
     // Runs the client once, over the post, which is dropped then; without a post on its own thread.
     // If memory for its transport is wanting, it does not run. May wait for whatever the client

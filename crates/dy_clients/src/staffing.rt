@@ -1,15 +1,14 @@
 // Clients in threads of their own, beside the nodes' workers or without.
-ghost use Rattle.std.specs.Prelude.{◌≡◌, ◌↔◌, ◌⊎◌, [], length, IsTrue};
-ghost use Rattle.std.specs.Prelude.{IfOk, IfErr, IsErrOf, IsOk, IsOkUnless};
+ghost use Rattle.std.specs.Prelude.{◌≡◌, ◌↔◌, [], length, IsTrue};
+ghost use Rattle.std.specs.Prelude.{IfOk, IfErr, IsOk, IsOkUnless};
 ghost use Rattle.std.specs.List.{All};
 ghost use Rattle.std.specs.declared.marker.Brand.{Brand as BrandParts};
-ghost use Rattle.dy_book.specs.Limits.{AreLimits, IsQuorum};
 ghost use Rattle.dy_cluster.specs.Named.{NamesBook};
 ghost use Rattle.dy_cluster.specs.Settings.{setting};
 ghost use Rattle.dy_cluster.specs.Stores.{TellsStores};
 ghost use Rattle.dy_cluster.specs.Tellings.{IsUntold};
 ghost use Rattle.dy_clients.specs.Refusals.{IsRunRefusal};
-ghost use Rattle.dy_clients.specs.Runs.{HaveRun};
+ghost use Rattle.dy_clients.specs.Runs.{EndsRun, HaveRun};
 ghost use Rattle.dy_clients.specs.Tellings.{AreAnswered, SaysToo, as_answered};
 
 use crate::clients::Client;
@@ -42,13 +41,8 @@ pub fn with_workers<C: Client + Sync, G: Gate + Sync, R: Threads + Wait + Sync>(
     clients: u8,
     client: &C,
 ) -> Result<ClientsDone, Fault>
-    ensures stores { IfOk result (λ done. TellsStores ring options.n done.closed) }
-    ensures closed { IfOk result (HaveRun ring options clients
-        (C.told (setting BrandParts ring options.n options.r options) client.now)) }
-    ensures too_many { ¬ (AreLimits options) → IsErrOf result Fault.TooMany }
-    ensures bad_quorum { IsErrOf result Fault.BadQuorum
-        ↔ (AreLimits options × ¬ (IsQuorum options ring.nodes)) }
-    ensures only { IfErr result (λ fault. (fault ≡ Fault.BadQuorum) ⊎ IsRunRefusal fault) }
+    ensures { EndsRun ring options clients
+        (C.told (setting BrandParts ring options.n options.r options) client.now) result }
 {
     let (gate, operator) = (Some(gate), None);
     run_opened::<C, G, Nobody, R>(rt, alloc, ring, options, gate, operator, clients, client)
@@ -71,13 +65,8 @@ pub(crate) fn run_opened<
     clients: u8,
     client: &C,
 ) -> Result<ClientsDone, Fault>
-    ensures stores { IfOk result (λ done. TellsStores ring options.n done.closed) }
-    ensures closed { IfOk result (HaveRun ring options clients
-        (C.told (setting BrandParts ring options.n options.r options) client.now)) }
-    ensures too_many { ¬ (AreLimits options) → IsErrOf result Fault.TooMany }
-    ensures bad_quorum { IsErrOf result Fault.BadQuorum
-        ↔ (AreLimits options × ¬ (IsQuorum options ring.nodes)) }
-    ensures only { IfErr result (λ fault. (fault ≡ Fault.BadQuorum) ⊎ IsRunRefusal fault) }
+    ensures { EndsRun ring options clients
+        (C.told (setting BrandParts ring options.n options.r options) client.now) result }
 {
     let opened = Opened::new(alloc, ring, options)?;
     run_clients::<Brand, C, G, O, R>(rt, alloc, opened, gate, operator, clients, client)
