@@ -17,6 +17,7 @@ mod step_lines;
 mod steps;
 mod stops;
 mod tellings;
+mod whole;
 
 pub use audiences::Audience;
 pub use audits::{AckedLine, EndLine, HeldLine, SettledLine};
@@ -33,3 +34,4 @@ pub use step_lines::write_step_lines;
 pub use steps::{StepLine, ToldLine};
 pub use stops::Stopped;
 pub use tellings::write_gets;
+pub use whole::write_whole;

@@ -9,6 +9,7 @@ ghost use Rattle.dy_lines.specs.inside.Fetches.{IsFirstBetween};
 use crate::audiences::Audience;
 use crate::steps::{StepLine, ToldLine};
 use crate::stops::Stopped;
+use crate::whole::write_whole;
 use dy_dots::Fault;
 use dy_shares::KeptStep;
 use std::alloc::Global;
@@ -97,7 +98,7 @@ fn write_line<A: Audience, O: Write>(
         step,
         session: audience.session_of(number),
     };
-    writeln!(out, "{line}")?;
+    write_whole(&line, out)?;
     Ok(())
 }
 
@@ -136,6 +137,6 @@ fn write_told<A: Audience, O: Write>(audience: &A, fetches: &[usize], out: &mut 
         fetches,
         session: audience.session_of(fetches[0]),
     };
-    writeln!(out, "{line}")?;
+    write_whole(&line, out)?;
     Ok(())
 }

@@ -6,6 +6,7 @@ ghost use Rattle.dy_shares.specs.Shares.{GetTold};
 ghost use Rattle.dy_lines.specs.Tellings.{AreFetchesOf, get_line};
 
 use crate::steps::ToldLine;
+use crate::whole::write_whole;
 use std::io;
 use std::io::Write;
 
@@ -26,7 +27,7 @@ pub fn write_gets<O: Write>(
             fetches: used,
             session,
         };
-        writeln!(out, "{line}")?;
+        write_whole(&line, out)?;
     }
     Ok(())
 }

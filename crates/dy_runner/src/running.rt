@@ -6,12 +6,13 @@ ghost use Rattle.dy_cluster.specs.Settings.{setting};
 ghost use Rattle.dy_runner.specs.Runs.{Does, HasRun, seated};
 
 use crate::gets::run_get;
+use crate::givens::{read_delete, read_put};
 use crate::outages::{run_deliver, run_handoff, run_set_mode, run_set_up, run_show};
 use crate::seats::Seats;
-use crate::writes::{run_delete, run_put};
+use crate::writes::{Judged, run_write};
 use dy_cluster::{Cluster, DirectCalls, Session, Work};
 use dy_dots::Fault;
-use dy_lines::{CommandLine, Outcome, Word};
+use dy_lines::{CommandLine, Outcome, Word, write_whole};
 use dy_script::{Command, Script};
 use dy_shares::Naming;
 use std::alloc::Global;
@@ -89,7 +90,7 @@ fn run_all<J: Naming, O: Write, R: Wait>(
             number: index + 1,
             outcome: &outcome,
         };
-        writeln!(out, "{line}")?;
+        write_whole(&line, out)?;
     }
     Ok(())
 }
@@ -115,11 +116,23 @@ pub fn run_command<J: Naming, R: Wait>(
 {
     match command {
         Command::Put { write, value } => {
-            run_put(rt, alloc, cluster, direct, seats, sessions, w, write, value)
+            let judged = Judged {
+                session: write.session,
+                w: write.w.unwrap_or(w),
+                word: Word::Put,
+                given: read_put(alloc, write, value),
+            };
+            run_write(rt, cluster, direct, seats, sessions, judged)
         }
-        Command::Delete { write } => run_delete(
-            rt, alloc, cluster, direct, seats, sessions, w, write,
-        ),
+        Command::Delete { write } => {
+            let judged = Judged {
+                session: write.session,
+                w: write.w.unwrap_or(w),
+                word: Word::Delete,
+                given: read_delete(alloc, write),
+            };
+            run_write(rt, cluster, direct, seats, sessions, judged)
+        }
         Command::Get { key, session } => {
             let key = key.as_str();
             run_get(rt, alloc, cluster, direct, seats, sessions, *session, key)

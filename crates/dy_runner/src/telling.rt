@@ -9,7 +9,7 @@ ghost use Rattle.dy_runner.specs.Traces.{AreTraced, command_lines, sessions_of};
 
 use crate::recordings::Played;
 use crate::traces::Trace;
-use dy_lines::{CommandLine, Stopped, write_step_lines};
+use dy_lines::{CommandLine, Stopped, write_step_lines, write_whole};
 use std::alloc::Global;
 use std::io::Write;
 
@@ -55,7 +55,7 @@ fn write_play<O: Write>(
         number,
         outcome: &play.outcome,
     };
-    writeln!(out, "{line}")?;
+    write_whole(&line, out)?;
     let end = mark_of(at, play.steps, trace.steps.len());
     write_steps(alloc, trace, at, end, out)?;
     Ok(end)

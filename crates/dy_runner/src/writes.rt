@@ -1,107 +1,59 @@
-ghost use Rattle.std.specs.Prelude.{◌≡◌, ◌↔◌, None, Result, false, length, option_map};
-ghost use Rattle.std.specs.Prelude.{string_bytes};
-ghost use Rattle.dy_dots.specs.declared.faults.Fault.{Fault as FaultParts};
+ghost use Rattle.std.specs.Prelude.{◌≡◌, ◌↔◌, None, false, length};
 ghost use Rattle.dy_dots.specs.declared.nodes.TheConstants.{MAX_NODES};
-ghost use Rattle.dy_lines.specs.declared.outcomes.Word.TheVariants as word;
 ghost use Rattle.dy_runner.specs.Answers.{TellsPut};
-ghost use Rattle.dy_runner.specs.Openings.{given_or};
 ghost use Rattle.dy_runner.specs.Seats.{IsOpen, IsOpened, seat_of};
-ghost use Rattle.dy_runner.specs.Texts.{IsDeleteJudged, IsPutJudged};
 ghost use Rattle.dy_runner.specs.Writes.{IsWritten, RunsJudged};
-ghost use Rattle.dy_runner.specs.declared.givens.Given.{Given as GivenParts};
 
-use crate::givens::{Given, read_delete, read_put};
+use crate::givens::Given;
 use crate::seats::Seats;
 use dy_cluster::{Cluster, DirectCalls, Session};
 use dy_coord::{PutDone, PutFault};
 use dy_dots::Fault;
 use dy_lines::{Outcome, Word};
-use dy_script::Write;
 use dy_shares::Naming;
-use std::alloc::Global;
 use std::sync::Wait;
 
-/// Puts the value in the session that is named, which is opened even where the texts are refused.
-pub(crate) fn run_put<J: Naming, R: Wait>(
-    rt: &R,
-    alloc: Global,
-    cluster: &Cluster<J>,
-    direct: &mut DirectCalls<'_, J>,
-    seats: &mut Seats,
-    sessions: &mut Vec<Session<J>>,
-    w: u8,
-    write: &Write,
-    value: &[u8],
-) -> Outcome
-    requires room { direct.old.room ≡ MAX_NODES }
-    requires together { length seats.old.numbers.items ≡ length sessions.old.items }
-    ensures room { direct.new.room ≡ MAX_NODES }
-    ensures together { length seats.new.numbers.items ≡ length sessions.new.items }
-    ensures opened { IsOpened write.now.session seats.old.numbers.items seats.new.numbers.items }
-    ensures is_open { IsOpen write.now.session seats.new.numbers.items
-        ↔ (seats.new.refused ≡ false) }
-    ensures told { (judged : Result GivenParts FaultParts)
-        × IsPutJudged (string_bytes write.now.key)
-        (option_map string_bytes write.now.context) value.now judged
-        × RunsJudged J J.ring J.n
-        (seat_of write.now.session seats.new.numbers.items)
-        (given_or w write.now.w) word.Put result
-        seats.new.refused sessions.old.items sessions.new.items judged }
-{
-    let place = seats.place_of(rt, cluster, sessions, write.session);
-    let given = match read_put(alloc, write, value) {
-        Ok(given) => given,
-        Err(fault) => return refused(Word::Put, fault),
-    };
-    let w = write.w.unwrap_or(w);
-    match place {
-        Ok(place) => write_in(
-            rt,
-            cluster,
-            direct,
-            &mut sessions[place],
-            w,
-            Word::Put,
-            given,
-        ),
-        Err(fault) => refused(Word::Put, fault),
-    }
+/// A put or a delete whose texts were judged: the number of its session, at how many homes, and
+/// what it is given, or why its texts are refused.
+#[derive(Drop)]
+pub(crate) struct Judged {
+    pub session: u8,
+    pub w: u8,
+    pub word: Word,
+    pub given: Result<Given, Fault>,
 }
 
-/// Deletes the key in the session that is named, which is opened even where the texts are refused.
-pub(crate) fn run_delete<J: Naming, R: Wait>(
+/// Puts or deletes in the session that is named, which is opened even where the texts are refused.
+pub(crate) fn run_write<J: Naming, R: Wait>(
     rt: &R,
-    alloc: Global,
     cluster: &Cluster<J>,
     direct: &mut DirectCalls<'_, J>,
     seats: &mut Seats,
     sessions: &mut Vec<Session<J>>,
-    w: u8,
-    write: &Write,
+    judged: Judged,
 ) -> Outcome
     requires room { direct.old.room ≡ MAX_NODES }
     requires together { length seats.old.numbers.items ≡ length sessions.old.items }
     ensures room { direct.new.room ≡ MAX_NODES }
     ensures together { length seats.new.numbers.items ≡ length sessions.new.items }
-    ensures opened { IsOpened write.now.session seats.old.numbers.items seats.new.numbers.items }
-    ensures is_open { IsOpen write.now.session seats.new.numbers.items
+    ensures opened { IsOpened judged.session seats.old.numbers.items seats.new.numbers.items }
+    ensures is_open { IsOpen judged.session seats.new.numbers.items
         ↔ (seats.new.refused ≡ false) }
-    ensures told { (judged : Result GivenParts FaultParts)
-        × IsDeleteJudged (string_bytes write.now.key)
-        (option_map string_bytes write.now.context) judged
-        × RunsJudged J J.ring J.n
-        (seat_of write.now.session seats.new.numbers.items)
-        (given_or w write.now.w) word.Delete result
-        seats.new.refused sessions.old.items sessions.new.items judged }
+    ensures told { RunsJudged J J.ring J.n (seat_of judged.session seats.new.numbers.items)
+        judged.w judged.word result seats.new.refused sessions.old.items sessions.new.items
+        judged.given }
 {
-    let number = write.session;
-    let place = seats.place_of(rt, cluster, sessions, number);
-    let given = match read_delete(alloc, write) {
+    let Judged {
+        session,
+        w,
+        word,
+        given,
+    } = judged;
+    let place = seats.place_of(rt, cluster, sessions, session);
+    let given = match given {
         Ok(given) => given,
-        Err(fault) => return refused(Word::Delete, fault),
+        Err(fault) => return refused(word, fault),
     };
-    let w = write.w.unwrap_or(w);
-    let word = Word::Delete;
     match place {
         Ok(place) => write_in(rt, cluster, direct, &mut sessions[place], w, word, given),
         Err(fault) => refused(word, fault),

@@ -31,7 +31,7 @@ use dy_cluster::{Closed, with_cluster};
 use dy_core::Holding;
 use dy_lines::{
     AckedLine, ClusterLine, EndLine, HeldLine, KeyLine, SettledLine, Stopped, write_cluster,
-    write_tokens,
+    write_tokens, write_whole,
 };
 use dy_preference::preference;
 use dy_ring::Ring;
@@ -180,7 +180,7 @@ fn write_held<O: Write>(alloc: Global, held: &[Holding], out: &mut O) -> Result<
 {
     for holding in held {
         let line = HeldLine::of(alloc, holding)?;
-        writeln!(out, "{line}")?;
+        write_whole(&line, out)?;
     }
     Ok(())
 }
@@ -191,7 +191,7 @@ fn write_acked<O: Write>(w: u8, acked: &[AckedAt], out: &mut O) -> io::Result<()
 {
     for ack in acked {
         let line = AckedLine::of(w, ack);
-        writeln!(out, "{line}")?;
+        write_whole(&line, out)?;
     }
     Ok(())
 }
@@ -202,7 +202,7 @@ fn write_settled<O: Write>(keys: &[Key], out: &mut O) -> io::Result<()>
 {
     for key in keys {
         let line = SettledLine { key };
-        writeln!(out, "{line}")?;
+        write_whole(&line, out)?;
     }
     Ok(())
 }

@@ -18,7 +18,7 @@ use crate::open_clusters::OpenCluster;
 use crate::told::{session_of, told_so_far};
 use dy_cluster::Session;
 use dy_dots::Fault;
-use dy_lines::{CommandLine, Outcome, RefusedLine, Stopped};
+use dy_lines::{CommandLine, Outcome, RefusedLine, Stopped, write_whole};
 use dy_script::{Command, Request, read_request};
 use dy_shares::Naming;
 use std::alloc::Global;
@@ -90,7 +90,7 @@ fn tell<O: Write>(number: u32, outcome: &Outcome, out: &mut O) -> io::Result<()>
         number: number as usize,
         outcome,
     };
-    writeln!(out, "{line}")?;
+    write_whole(&line, out)?;
     Ok(())
 }
 

@@ -34,7 +34,7 @@ loop-used-preserved g c =
       is_finite = tt;
       size = steps.0 ∙ before.size;
       so_far = λ gets are. gets_next r session all used left gets _ _ _ steps.1.0 few steps.1.2
-          (before.so_far gets are) c.in_ok-writeln.ensures.bytes;
+          (before.so_far gets are) c.in_ok-write_whole.ensures.bytes;
     }
 
 -- no fetch is left

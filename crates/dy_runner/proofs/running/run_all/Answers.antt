@@ -31,7 +31,7 @@ loop-index-preserved g c =
         so_far.0 ++ outcome ∷ [],
         next.done,
         lines_next (contents c.args.out.now) (contents c.loop-index.out)
-            (contents c.writeln.new.self) index so_far.0 outcome next.count so_far.2
-            c.in_ok-writeln.ensures.bytes,
+            (contents c.write_whole.new.out) index so_far.0 outcome next.count so_far.2
+            c.in_ok-write_whole.ensures.bytes,
       );
     }

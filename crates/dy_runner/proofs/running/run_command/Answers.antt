@@ -1,44 +1,66 @@
 -- What a put, a delete and a get did in their session.
 use Rattle.std.proofs.Common.{ℕ, List, subst}
 use Rattle.std.specs.Prelude.{option_map, string_bytes}
+use Rattle.dy_lines.specs.declared.outcomes.Word.TheVariants as word
 use Rattle.dy_runner.specs.Seats.{seat_of}
 use Rattle.dy_runner.specs.Texts.{IsKeyJudged, IsPutJudged}
-use Rattle.dy_runner.specs.Writes.{ReadsJudged}
+use Rattle.dy_runner.specs.Writes.{ReadsJudged, RunsJudged}
+use Rattle.dy_runner.proofs.Seating.{number_of_homes}
 use Rattle.dy_runner.proofs.running.run_command.Goals as goal
 
 -- a put has the value that the script has
 pub returns-in-Put-clause-done : goal.returns-in-Put-clause-done
 returns-in-Put-clause-done g c =
-    let told = c.run_put.ensures.told in
     let write = c.in-Put.write in
+    let given = c.read_put.result in
+    let after = c.run_write.new in
     let Judged : List ℕ → Type 0 = λ v. IsPutJudged (string_bytes write.key)
-    (option_map string_bytes write.context) v told.0 in
+    (option_map string_bytes write.context) v given in
+    let Runs : ℕ → Type 0 = λ w. RunsJudged g.row.J.Denot g.J.Naming.ring g.J.Naming.n
+    (seat_of write.session after.seats.numbers.items) w word.Put c.run_write.result
+    after.seats.refused c.args.sessions.now.items after.sessions.items given in
     rw c.in-Put.is (
-      told.0,
-      subst Judged c.deref.ensures.value told.1,
+      given,
+      subst Judged c.deref.ensures.value (record {
+        ok = c.read_put.ensures.ok;
+        key_size = c.read_put.ensures.key_size;
+        value_size = c.read_put.ensures.value_size;
+        only = c.read_put.ensures.only;
+      }),
       record {
         opens = record {
-          opened = c.run_put.ensures.opened;
-          is_open = c.run_put.ensures.is_open;
-          together = c.run_put.ensures.together;
+          opened = c.run_write.ensures.opened;
+          is_open = c.run_write.ensures.is_open;
+          together = c.run_write.ensures.together;
         };
-        told = told.2;
+        told = subst Runs (number_of_homes c.args.w write.w _ c.unwrap_or.ensures)
+            c.run_write.ensures.told;
       },
     )
 
 pub returns-in-Delete-clause-done : goal.returns-in-Delete-clause-done
 returns-in-Delete-clause-done g c =
-    let told = c.run_delete.ensures.told in
+    let write = c.in-Delete.write in
+    let given = c.read_delete.result in
+    let after = c.run_write-in-Delete.new in
+    let Runs : ℕ → Type 0 = λ w. RunsJudged g.row.J.Denot g.J.Naming.ring g.J.Naming.n
+    (seat_of write.session after.seats.numbers.items) w word.Delete c.run_write-in-Delete.result
+    after.seats.refused c.args.sessions.now.items after.sessions.items given in
     rw c.in-Delete.is (
-      told.0,
-      told.1,
+      given,
+      record {
+        ok = c.read_delete.ensures.ok;
+        key_size = c.read_delete.ensures.key_size;
+        only = c.read_delete.ensures.only;
+      },
       record {
         opens = record {
-          opened = c.run_delete.ensures.opened;
-          is_open = c.run_delete.ensures.is_open;
-          together = c.run_delete.ensures.together;
+          opened = c.run_write-in-Delete.ensures.opened;
+          is_open = c.run_write-in-Delete.ensures.is_open;
+          together = c.run_write-in-Delete.ensures.together;
         };
-        told = told.2;
+        told = subst Runs (number_of_homes c.args.w write.w _ c.unwrap_or-in-Delete.ensures)
+            c.run_write-in-Delete.ensures.told;
       },
     )
 

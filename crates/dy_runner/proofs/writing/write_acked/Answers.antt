@@ -15,4 +15,4 @@ loop-ack-preserved g c =
     c.loop-ack-test.true c.ack-item.is in
     subst (Appends _ _) (sym next)
     (Appends-trans _ _ _ _ _ c.loop-ack.invariant
-    (subst (Appends _ _) told c.in_ok-writeln.ensures.bytes))
+    (subst (Appends _ _) told c.in_ok-write_whole.ensures.bytes))

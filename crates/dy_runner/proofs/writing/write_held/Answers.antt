@@ -15,4 +15,4 @@ loop-holding-preserved g c =
     c.loop-holding-test.true c.holding-item.is in
     subst (Appends _ _) (sym next)
     (Appends-trans _ _ _ _ _ c.loop-holding.invariant
-    (subst (Appends _ _) told c.in_ok-writeln.ensures.bytes))
+    (subst (Appends _ _) told c.in_ok-write_whole.ensures.bytes))
