@@ -91,11 +91,10 @@ impl<J: Naming> Book<J> {
         ensures sessions { (session : ℕ) → SessionStays self.old.log self.new.log session }
     {
         let row = self.row_copy(holder, home, key)?;
-        let of_seen = key.try_clone(self.alloc)?;
         self.ledger.fetch_step(Place { holder, home }, key)?;
         let at = self.ledger.steps();
         let place = Place { holder, home };
-        Ok(self.ledger.seen(at, place, of_seen, row))
+        Ok(self.ledger.seen(at, place, row))
     }
 
     /// The dots held there, rising. Takes no memory.

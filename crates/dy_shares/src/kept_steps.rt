@@ -2,7 +2,7 @@ use dy_core::Place;
 use dy_dots::{Context, Dot, Run};
 use dy_siblings::{Key, Version};
 
-/// A step as the trail keeps it, in 48 bytes: fields lie in their order here, so the small ones
+/// A step as the trail keeps it, in 32 bytes: fields lie in their order here, so the small ones
 /// come first. Of a row it keeps the dots alone: of one key and one dot a log makes one version.
 #[derive(Debug, Drop)]
 pub enum KeptStep {

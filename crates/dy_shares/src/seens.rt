@@ -17,13 +17,11 @@ use std::marker::Model;
 pub struct Seen<J: Naming> {
     at: usize,
     place: Place,
-    key: Key,
     row: Row,
     front: Front<J>,
 }
 
 impl<J: Naming> Model for Seen<J> {
-    ghost use Rattle.std.specs.Prelude.{◌≡◌};
     ghost use Rattle.dy_core.specs.Worlds.{layout_of};
     ghost use Rattle.dy_core.specs.Logs.{Answer, IsAnswer, IsLegal};
     ghost use Rattle.dy_shares.specs.Shares.{answer_of, steps_of};
@@ -33,25 +31,23 @@ impl<J: Naming> Model for Seen<J> {
 
     ghost coded = { answer_code };
 
-    ghost view = { λ s. answer_of s.at s.place.holder s.place.home s.key s.row };
+    ghost view = { λ s. answer_of s.at s.place.holder s.place.home s.row.key s.row };
 
     ghost invariant = { λ s.
-        IsAnswer (steps_of s.front) (answer_of s.at s.place.holder s.place.home s.key s.row)
-        × (s.row.key ≡ s.key) × IsLegal (layout_of J.ring J.n) (steps_of s.front) };
+        IsAnswer (steps_of s.front) (answer_of s.at s.place.holder s.place.home s.row.key s.row)
+        × IsLegal (layout_of J.ring J.n) (steps_of s.front) };
 }
 
 impl<J: Naming> Seen<J> {
     // What the log has at this number as it stood at the front.
-    pub(crate) fn new(at: usize, place: Place, key: Key, row: Row, front: Front<J>) -> Seen<J>
-        requires is { IsAnswer (steps_of front) (answer_of at place.holder place.home key row) }
-        requires of_key { row.key ≡ key }
+    pub(crate) fn new(at: usize, place: Place, row: Row, front: Front<J>) -> Seen<J>
+        requires is { IsAnswer (steps_of front) (answer_of at place.holder place.home row.key row) }
         requires legal { IsLegal (layout_of J.ring J.n) (steps_of front) }
-        ensures { result ≡ answer_of at place.holder place.home key row }
+        ensures { result ≡ answer_of at place.holder place.home row.key row }
     {
         Seen {
             at,
             place,
-            key,
             row,
             front,
         }
@@ -82,7 +78,7 @@ impl<J: Naming> Seen<J> {
     pub fn key(&self) -> &Key
         ensures { result.now ≡ self.now.key }
     {
-        &self.key
+        self.row.key()
     }
 
     /// The row that was held there. Takes no memory.
@@ -100,7 +96,6 @@ impl<J: Naming> Seen<J> {
         Ok(Seen {
             at: self.at,
             place: self.place,
-            key: self.key.try_clone(alloc)?,
             row: self.row.try_clone(alloc)?,
             front: self.front.copied(),
         })

@@ -51,13 +51,12 @@ impl<J: Naming> Ledger<J> {
     }
 
     /// An answer that the log has. Takes no memory.
-    pub fn seen(&self, at: usize, place: Place, key: Key, row: Row) -> Seen<J>
-        requires is { IsAnswer (steps_of self.now.log)
-            (answer_of at place.holder place.home key row) }
-        requires of_key { row.key ≡ key }
-        ensures { result ≡ answer_of at place.holder place.home key row }
+    pub fn seen(&self, at: usize, place: Place, row: Row) -> Seen<J>
+        requires { IsAnswer (steps_of self.now.log)
+            (answer_of at place.holder place.home row.key row) }
+        ensures { result ≡ answer_of at place.holder place.home row.key row }
     {
-        Seen::new(at, place, key, row, self.chronicle.front())
+        Seen::new(at, place, row, self.chronicle.front())
     }
 
     /// How many steps the log has. Takes no memory.

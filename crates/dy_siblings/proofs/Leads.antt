@@ -1,6 +1,6 @@
 -- Numbers of first bytes are ordered as the bytes are.
 use Rattle.std.proofs.Common.{◌≡◌, ◌<◌, ◌≤◌, ◌+◌, ◌*◌, ◌∷◌, [], List, ℕ, zero, suc, get_or, drop, take, length, true, ◌-◌}
-use Rattle.std.proofs.Common.{refl, sym, ◌∙◌, ap, subst, arith, inl, inr, ⊎_elim, ◌⊎◌, ◌++◌, ◌/◌, ◌^◌}
+use Rattle.std.proofs.Common.{refl, sym, ◌∙◌, ap, subst, arith, inl, inr, ⊎_elim, ◌⊎◌, ◌++◌}
 use Rattle.std.proofs.lemmas.Bool.{cases_eq, cases_lt}
 use Rattle.std.proofs.lemmas.Grind.{get_or_after_one}
 use Rattle.std.proofs.lemmas.List.{drop-drop, drop_all, drop_more, get_or-drop}
@@ -12,7 +12,6 @@ use Rattle.std.proofs.lemmas.Map.Text.{is_eq-slice_cmp}
 use Rattle.std.proofs.lemmas.Cmp.{nat_list_cmp_total}
 use Rattle.std.specs.declared.cmp.Ordering.{Ordering}
 use Rattle.std.specs.declared.cmp.Ordering.TheVariants.{Less, Equal, Greater}
-use Rattle.std.specs.Int.{from_be_bytes, w128}
 use Rattle.dy_siblings.specs.inside.Leads.{bytes_from, front_of, lead_from, number_of, AreBytes}
 
 -- without the first they are bytes still
@@ -97,15 +96,6 @@ by_count (suc n) a (x ∷ xs) (y ∷ ys) small others same few =
       ]
     ]
 
--- numbers are ordered as what is left of them before the last eight bytes, where that differs
-pub by_lead : (m n : ℕ) → (m / 2 ^ 64 ≡ n / 2 ^ 64 → ⊥) →
-    nat_cmp (m / 2 ^ 64) (n / 2 ^ 64) ≡ nat_cmp m n
-by_lead m n differ = elim (cases_lt (m / 2 ^ 64) (n / 2 ^ 64)) [
-  | inl lt ↦ sym (nat_cmp_is (m / 2 ^ 64) (n / 2 ^ 64) Less lt) ∙ nat_cmp_is m n Less (omega (arith, lt))
-  | inr ge ↦ (let gt : n / 2 ^ 64 < m / 2 ^ 64 = omega (arith, ge, differ) in
-      sym (nat_cmp_is (m / 2 ^ 64) (n / 2 ^ 64) Greater gt) ∙ nat_cmp_is m n Greater (omega (arith, gt)))
-]
-
 -- numbers that begin alike are ordered as what comes last
 pub shifted : (o : Ordering) (a b m n : ℕ) → a ≡ b → MatchOrdering o (m < n) (m ≡ n) (n < m) →
     MatchOrdering o (a * 256 + m < b * 256 + n) (a * 256 + m ≡ b * 256 + n)
@@ -116,34 +106,21 @@ shifted Greater a b m n same is = omega (arith, same, is)
 
 -- keys' bytes are ordered as their numbers are, unless both are long and begin alike
 pub ordered : (xs ys : List ℕ) → AreBytes xs → AreBytes ys → length xs < 256 → length ys < 256 →
-    (lead_from 15 0 xs ≡ lead_from 15 0 ys → (length xs ≤ 15) ⊎ (length ys ≤ 15)) →
+    (lead_from 14 0 xs ≡ lead_from 14 0 ys → (length xs ≤ 14) ⊎ (length ys ≤ 14)) →
     nat_cmp (number_of xs) (number_of ys) ≡ slice_cmp nat_cmp xs ys
 unfolding number_of
-ordered xs ys small others few less apart = elim (cases_eq (lead_from 15 0 xs) (lead_from 15 0 ys)) [
-  | inl same ↦ (let counts = by_count 15 0 xs ys small others same (apart same) in
+ordered xs ys small others few less apart = elim (cases_eq (lead_from 14 0 xs) (lead_from 14 0 ys)) [
+  | inl same ↦ (let counts = by_count 14 0 xs ys small others same (apart same) in
       sym (nat_cmp_is (number_of xs) (number_of ys) (slice_cmp nat_cmp xs ys)
-      (shifted (slice_cmp nat_cmp xs ys) (lead_from 15 0 xs) (lead_from 15 0 ys) (length xs) (length ys) same counts)))
-  | inr differ ↦ elim (cases_lt (lead_from 15 0 xs) (lead_from 15 0 ys)) [
+      (shifted (slice_cmp nat_cmp xs ys) (lead_from 14 0 xs) (lead_from 14 0 ys) (length xs) (length ys) same counts)))
+  | inr differ ↦ elim (cases_lt (lead_from 14 0 xs) (lead_from 14 0 ys)) [
     | inl lt ↦ sym (nat_cmp_is (number_of xs) (number_of ys) Less (omega (arith, lt)))
-        ∙ sym (before 15 0 xs ys small others lt)
-    | inr ge ↦ (let gt : lead_from 15 0 ys < lead_from 15 0 xs = omega (arith, ge, differ) in
+        ∙ sym (before 14 0 xs ys small others lt)
+    | inr ge ↦ (let gt : lead_from 14 0 ys < lead_from 14 0 xs = omega (arith, ge, differ) in
         sym (nat_cmp_is (number_of xs) (number_of ys) Greater (omega (arith, gt)))
-        ∙ sym (behind 15 0 xs ys small others gt))
+        ∙ sym (behind 14 0 xs ys small others gt))
   ]
 ]
-
--- the number without the length
-pub begun : (bytes : List ℕ) → length bytes < 256 → number_of bytes / 256 ≡ lead_from 15 0 bytes
-unfolding number_of
-begun bytes few = omega arith
-
--- short keys of one number are equal
-pub short_eq : (xs ys : List ℕ) → AreBytes xs → AreBytes ys → length xs < 256 → length ys < 256 →
-    number_of xs ≡ number_of ys → length xs ≤ 15 → bytes_eq xs ys ≡ true
-short_eq xs ys small others few less same short =
-    sym (is_eq-slice_cmp xs ys)
-    ∙ ap is_eq (sym (ordered xs ys small others few less (λ _. inl short))
-    ∙ sym (nat_cmp_is (number_of xs) (number_of ys) Equal same))
 
 -- ---- the front
 
@@ -163,9 +140,9 @@ by_place (suc n) place lead bytes =
     ∙ by_place n (place + 1) (lead * 256 + get_or bytes place 0) bytes
 
 -- the bytes in place make the number
-pub number_is : (bytes : List ℕ) → from_be_bytes w128 (front_of bytes) ≡ number_of bytes
+pub number_is : (bytes : List ℕ) → lead_from 15 0 (front_of bytes) ≡ number_of bytes
 unfolding number_of front_of
-number_is bytes = let placed = by_place 15 0 0 bytes in omega (arith, placed)
+number_is bytes = let placed = by_place 14 0 0 bytes in omega (arith, placed)
 
 -- so many of them are the bytes, whatever stands behind
 pub fronted : (n place : ℕ) (bytes rest : List ℕ) → length bytes ≤ place + n →
@@ -184,10 +161,19 @@ fronted (suc n) place bytes rest few = elim (cases_lt place (length bytes)) [
 ]
 
 -- short bytes lie in place
-pub front_take : (bytes : List ℕ) → length bytes ≤ 15 →
-    take (get_or (front_of bytes) 15 0) (front_of bytes) ≡ bytes
+pub front_take : (bytes : List ℕ) → length bytes ≤ 14 →
+    take (get_or (front_of bytes) 14 0) (front_of bytes) ≡ bytes
 unfolding front_of
 front_take bytes few =
     let all : length bytes ≡ length bytes - 0 = omega arith in
-    ap (λ c. take c (bytes_from 15 0 bytes ++ length bytes ∷ [])) all
-    ∙ fronted 15 0 bytes (length bytes ∷ []) (omega (arith, few))
+    ap (λ c. take c (bytes_from 14 0 bytes ++ length bytes ∷ [])) all
+    ∙ fronted 14 0 bytes (length bytes ∷ []) (omega (arith, few))
+
+-- as many bytes of one number are the same
+pub same_bytes_of : (xs ys : List ℕ) → AreBytes xs → AreBytes ys → length xs ≡ 15 → length ys ≡ 15 →
+    lead_from 15 0 xs ≡ lead_from 15 0 ys → bytes_eq xs ys ≡ true
+same_bytes_of xs ys small others mine theirs same =
+    let counts = by_count 15 0 xs ys small others same (inl (omega (arith, mine))) in
+    sym (is_eq-slice_cmp xs ys)
+    ∙ ap is_eq (nat_cmp_is (length xs) (length ys) (slice_cmp nat_cmp xs ys) counts
+    ∙ sym (nat_cmp_is (length xs) (length ys) Equal (mine ∙ sym theirs)))

@@ -1,7 +1,7 @@
 -- The bytes of a long key, filled up with zeros, are ordered word by word as the key's bytes are.
 use Rattle.std.proofs.Common.{◌≡◌, ◌<◌, ◌≤◌, ◌+◌, ◌*◌, ◌-◌, ◌∷◌, ◌++◌, List, ℕ, zero, suc, get_or, drop, take, length, true, false}
 use Rattle.std.proofs.Common.{refl, sym, ◌∙◌, ap, subst, arith, inl, inr}
-use Rattle.std.proofs.lemmas.Bool.{cases_eq, cases_lt, cases_Bool, false_from_ne_true}
+use Rattle.std.proofs.lemmas.Bool.{cases_eq, cases_lt, cases_Bool, false_from_ne_true, eqb-true, eqb-false}
 use Rattle.std.proofs.lemmas.Grind.{get_or_after_one, same_number_lists}
 use Rattle.std.proofs.lemmas.List.{drop-drop, get_or-drop, get_or_past, get_or_append_left, get_or-append_right, get_or-replicate, get_or-take, length-replicate, length-take-le}
 use Rattle.std.specs.Cmp.{nat_cmp_is}
@@ -9,8 +9,8 @@ use Rattle.std.specs.Cmp.Lexicographic.{pointwise, slice_cmp, bytes_decides}
 use Rattle.std.specs.Ordering.{nat_cmp, ordering_then}
 use Rattle.std.specs.declared.cmp.Ordering.TheVariants.{Less, Equal, Greater}
 use Rattle.std.proofs.Common.{nat_eq, replicate}
-use Rattle.dy_siblings.specs.inside.Leads.{bytes_from, front_of, lead_from, number_of, AreBytes, AreFilled}
-use Rattle.dy_siblings.proofs.Leads.{before, behind, by_count, lead_less, shifted}
+use Rattle.dy_siblings.specs.inside.Leads.{bytes_from, front_of, lead_from, AreBytes, AreFilled}
+use Rattle.dy_siblings.proofs.Leads.{before, behind, by_count, front_take, lead_less, same_bytes_of}
 
 -- ---- zeros behind the bytes
 
@@ -130,56 +130,86 @@ by_word m n xs ys small others few same x y x_is y_is differ = elim (cases_lt x 
       (subst (λ k. k < lead_from 8 0 (drop m xs)) y_is (subst (λ k. y < k) x_is gt))))
 ]
 
--- keys that begin alike are ordered by all their bytes, and then by their lengths
-pub ordered_behind : (n : ℕ) (xs ys : List ℕ) → AreBytes xs → AreBytes ys → length xs ≤ n →
-    lead_from 15 0 xs ≡ lead_from 15 0 ys →
-    ordering_then (nat_cmp (lead_from n 0 xs) (lead_from n 0 ys)) (nat_cmp (number_of xs) (number_of ys))
+-- keys are ordered by all their bytes, and then by their lengths
+pub ordered_by_all : (n : ℕ) (xs ys : List ℕ) → AreBytes xs → AreBytes ys → length xs ≤ n →
+    ordering_then (nat_cmp (lead_from n 0 xs) (lead_from n 0 ys)) (nat_cmp (length xs) (length ys))
     ≡ slice_cmp nat_cmp xs ys
-unfolding number_of
-ordered_behind n xs ys small others few same = elim (cases_eq (lead_from n 0 xs) (lead_from n 0 ys)) [
+ordered_by_all n xs ys small others few = elim (cases_eq (lead_from n 0 xs) (lead_from n 0 ys)) [
   | inl one ↦ (let counts = by_count n 0 xs ys small others one (inl few) in
-      ap (λ o. ordering_then o (nat_cmp (number_of xs) (number_of ys)))
+      ap (λ o. ordering_then o (nat_cmp (length xs) (length ys)))
       (sym (nat_cmp_is (lead_from n 0 xs) (lead_from n 0 ys) Equal one))
-      ∙ sym (nat_cmp_is (number_of xs) (number_of ys) (slice_cmp nat_cmp xs ys)
-      (shifted (slice_cmp nat_cmp xs ys) (lead_from 15 0 xs) (lead_from 15 0 ys) (length xs) (length ys) same counts)))
+      ∙ sym (nat_cmp_is (length xs) (length ys) (slice_cmp nat_cmp xs ys) counts))
   | inr differ ↦ elim (cases_lt (lead_from n 0 xs) (lead_from n 0 ys)) [
-    | inl lt ↦ ap (λ o. ordering_then o (nat_cmp (number_of xs) (number_of ys)))
+    | inl lt ↦ ap (λ o. ordering_then o (nat_cmp (length xs) (length ys)))
         (sym (nat_cmp_is (lead_from n 0 xs) (lead_from n 0 ys) Less lt))
         ∙ sym (before n 0 xs ys small others lt)
     | inr ge ↦ (let gt : lead_from n 0 ys < lead_from n 0 xs = omega (arith, ge, differ) in
-        ap (λ o. ordering_then o (nat_cmp (number_of xs) (number_of ys)))
+        ap (λ o. ordering_then o (nat_cmp (length xs) (length ys)))
         (sym (nat_cmp_is (lead_from n 0 xs) (lead_from n 0 ys) Greater gt))
         ∙ sym (behind n 0 xs ys small others gt))
   ]
 ]
 
--- the first eight of bytes that begin alike
-pub same_first : (xs ys : List ℕ) → AreBytes xs → AreBytes ys →
-    lead_from 15 0 xs ≡ lead_from 15 0 ys → lead_from 8 0 xs ≡ lead_from 8 0 ys
-same_first xs ys small others same =
-    let mine = split 8 7 0 xs in
-    let theirs = split 8 7 0 ys in
-    elim (cases_eq (lead_from 8 0 xs) (lead_from 8 0 ys)) [
-      | inl one ↦ one
-      | inr differ ↦ elim (cases_lt (lead_from 8 0 xs) (lead_from 8 0 ys)) [
-        | inl lt ↦ (let less = lead_less 7 (lead_from 8 0 xs) (lead_from 8 0 ys) (drop 8 xs) (drop 8 ys)
-            (drop_bytes 8 xs small) (drop_bytes 8 ys others) lt in absurd (omega (arith, less, mine, theirs, same)))
-        | inr ge ↦ (let less = lead_less 7 (lead_from 8 0 ys) (lead_from 8 0 xs) (drop 8 ys) (drop 8 xs)
-            (drop_bytes 8 ys others) (drop_bytes 8 xs small) (omega (arith, ge, differ)) in
-            absurd (omega (arith, less, mine, theirs, same)))
-      ]
-    ]
+-- ---- fronts, of two words that share a byte
 
--- keys of one number are as long as each other
-pub same_count : (xs ys : List ℕ) → length xs < 256 → length ys < 256 → number_of xs ≡ number_of ys →
-    length xs ≡ length ys
-unfolding number_of
-same_count xs ys few less same = omega (arith, same)
+-- seven of eight bytes that are the same
+same_seven : (xs ys : List ℕ) → AreBytes xs → AreBytes ys →
+    lead_from 8 0 xs ≡ lead_from 8 0 ys → lead_from 7 0 xs ≡ lead_from 7 0 ys
+same_seven xs ys small others same =
+    let mine = split 7 1 0 xs in
+    let theirs = split 7 1 0 ys in
+    let last = drop_bytes 7 xs small 0 in
+    let ends = drop_bytes 7 ys others 0 in
+    omega (arith, mine, theirs, last, ends, same)
 
--- as many as the front says are the bytes
-pub taken : (bytes all : List ℕ) → AreFilled bytes all → length bytes ≤ length all →
-    take (get_or (front_of bytes) 15 0) all ≡ bytes
-unfolding front_of
-taken bytes all filled fit =
-    same_number_lists (take (length bytes) all) bytes (length-take-le (length bytes) all fit)
+-- fronts of the same words are the same
+pub same_words : (xs ys : List ℕ) → AreBytes xs → AreBytes ys → lead_from 8 0 xs ≡ lead_from 8 0 ys →
+    lead_from 8 0 (drop 7 xs) ≡ lead_from 8 0 (drop 7 ys) → lead_from 15 0 xs ≡ lead_from 15 0 ys
+same_words xs ys small others first last = same_word 7 xs ys (same_seven xs ys small others first) last
+
+-- whether fronts are the same, where their first words are
+pub same_last : (xs ys : List ℕ) → AreBytes xs → AreBytes ys → length xs ≡ 15 → length ys ≡ 15 →
+    lead_from 8 0 xs ≡ lead_from 8 0 ys → (x y : ℕ) → x ≡ lead_from 8 0 (drop 7 xs) →
+    y ≡ lead_from 8 0 (drop 7 ys) → nat_eq x y ≡ pointwise nat_eq xs ys
+same_last xs ys small others mine theirs first x y x_is y_is = elim (cases_Bool (nat_eq x y)) [
+  | inl one ↦ one ∙ sym (same_bytes_of xs ys small others mine theirs
+      (same_words xs ys small others first (sym x_is ∙ eqb-true x y one ∙ y_is)))
+  | inr two ↦ two ∙ sym (false_from_ne_true (pointwise nat_eq xs ys)
+      (λ is. eqb-false x y two (x_is ∙ ap (λ l. lead_from 8 0 (drop 7 l)) ((bytes_decides xs ys).0 is) ∙ sym y_is)))
+]
+
+-- short keys are the same as their fronts are
+pub same_fronts : (xs ys : List ℕ) → length xs ≤ 14 → length ys ≤ 14 →
+    pointwise nat_eq (front_of xs) (front_of ys) ≡ pointwise nat_eq xs ys
+same_fronts xs ys few less = elim (cases_Bool (pointwise nat_eq xs ys)) [
+  | inl one ↦ (bytes_decides (front_of xs) (front_of ys)).1 (ap front_of ((bytes_decides xs ys).0 one)) ∙ sym one
+  | inr two ↦ false_from_ne_true (pointwise nat_eq (front_of xs) (front_of ys))
+      (λ is. let same : xs ≡ ys = sym (front_take xs few)
+      ∙ ap (λ front. take (get_or front 14 0) front) ((bytes_decides (front_of xs) (front_of ys)).0 is)
+      ∙ front_take ys less in
+      let no : true ≡ false = sym ((bytes_decides xs ys).1 same) ∙ two in absurd (cc)) ∙ sym two
+]
+
+-- and else they are ordered as the words that differ
+pub by_first : (xs ys : List ℕ) → AreBytes xs → AreBytes ys → (x y : ℕ) → x ≡ lead_from 8 0 xs →
+    y ≡ lead_from 8 0 ys → (x ≡ y → ⊥) → nat_cmp x y ≡ nat_cmp (lead_from 15 0 xs) (lead_from 15 0 ys)
+by_first xs ys small others x y x_is y_is differ =
+    by_word 0 15 xs ys small others (omega arith) refl x y x_is y_is differ
+
+pub by_last : (xs ys : List ℕ) → AreBytes xs → AreBytes ys → lead_from 8 0 xs ≡ lead_from 8 0 ys →
+    (x y : ℕ) → x ≡ lead_from 8 0 (drop 7 xs) → y ≡ lead_from 8 0 (drop 7 ys) →
+    nat_cmp x y ≡ nat_cmp (lead_from 15 0 xs) (lead_from 15 0 ys)
+by_last xs ys small others first x y x_is y_is = elim (cases_eq x y) [
+  | inl one ↦ sym (nat_cmp_is x y Equal one)
+      ∙ nat_cmp_is (lead_from 15 0 xs) (lead_from 15 0 ys) Equal
+      (same_words xs ys small others first (sym x_is ∙ one ∙ y_is))
+  | inr differ ↦ by_word 7 15 xs ys small others (omega arith) (same_seven xs ys small others first) x y x_is y_is differ
+]
+
+-- so many of them are the bytes
+pub taken : (count : ℕ) (bytes all : List ℕ) → count ≡ length bytes → AreFilled bytes all →
+    length bytes ≤ length all → take count all ≡ bytes
+taken count bytes all count_is filled fit =
+    ap (λ c. take c all) count_is
+    ∙ same_number_lists (take (length bytes) all) bytes (length-take-le (length bytes) all fit)
     (λ k less. get_or-take (length bytes) all k 0 (omega (arith, less, length-take-le (length bytes) all fit)) ∙ filled k)

@@ -17,8 +17,8 @@ use std::sync::ArcSlice;
 /// How many bytes a value has at most.
 pub const MAX_VALUE_BYTES: usize = 4_096;
 
-// Bytes, of which so many as a key may have are kept as those of a key: up to fifteen lie in place.
-// Copies share more.
+// Bytes, of which so many as a key may have are kept as those of a key: up to fourteen lie in
+// place. Copies share more.
 #[derive(Debug, Drop)]
 pub enum Bytes {
     Nothing,
@@ -86,7 +86,7 @@ impl Bytes {
 }
 
 impl Value {
-    /// A value of these bytes; ValueSize where they are more than 4,096. Up to fifteen take no
+    /// A value of these bytes; ValueSize where they are more than 4,096. Up to fourteen take no
     /// memory.
     pub fn new(alloc: Global, bytes: &[u8]) -> Result<Value, Fault>
         ensures size { IsErrOf result Fault.ValueSize ↔ (MAX_VALUE_BYTES < length bytes.now) }
@@ -111,7 +111,7 @@ impl Value {
         self.bytes.as_slice()
     }
 
-    /// A copy. Where the bytes are more than fifteen it shares them, and else it takes no memory.
+    /// A copy. Where the bytes are more than fourteen it shares them, and else it takes no memory.
     pub fn try_clone(&self, alloc: Global) -> Result<Value, Fault>
         ensures value { IfOk result (λ value. value ≡ self.now) }
         ensures spared { length self.now ≤ SHORT_KEY_BYTES → IsOk result }

@@ -33,8 +33,8 @@ invariant_of-self-2 g c =
     c.args.holder c.args.home c.args.key.now room c.fetch_step.new.self.log log_is
 
 -- its answer is the row as it was before
-pub seen-requires-clause-is : goal.seen-requires-clause-is
-seen-requires-clause-is g c =
+pub seen-requires : goal.seen-requires
+seen-requires g c =
     let log = c.self.inside.ledger.log in
     let holder = c.args.holder in
     let home = c.args.home in
@@ -49,19 +49,19 @@ seen-requires-clause-is g c =
     let at : length log + 1 ≡ c.steps-at.result =
     sym (c.steps-at.ensures.value ∙ (ap length log_is ∙ length-append log (e ∷ []))) in
     subst (λ (xs : List Entry). IsAnswer (steps_of xs)
-    (answer_of c.steps-at.result holder home c.in_ok-of_seen.of_seen row))
+    (answer_of c.steps-at.result holder home row.key row))
     (sym log_is)
     (subst (λ n. IsAnswer (steps_of (log ++ e ∷ []))
     (record {
       at = n;
       holder = holder;
       home = home;
-      key = c.in_ok-of_seen.of_seen;
+      key = row.key;
       row = row.versions;
     })) at
     (subst (λ k. IsAnswer (steps_of (log ++ e ∷ []))
     (record { at = length log + 1; holder = holder; home = home; key = k; row = row.versions }))
-    (sym c.in_ok-of_seen.ensures.value) here))
+    (sym c.in_ok-row.ensures.key) here))
 
 pub returns-clause-row : goal.returns-clause-row
 returns-clause-row g c =

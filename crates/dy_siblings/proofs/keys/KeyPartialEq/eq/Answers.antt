@@ -1,12 +1,13 @@
--- Short keys of one number are equal.
-use Rattle.std.proofs.Common.{◌<◌, ◌∙◌, length, sym, arith}
-use Rattle.dy_siblings.proofs.Leads.{short_eq}
+-- Short keys are equal as their fronts are.
+use Rattle.std.proofs.Common.{◌∙◌, nat_eq}
+use Rattle.std.specs.Cmp.Lexicographic.{pointwise}
+use Rattle.dy_siblings.proofs.Words.{same_fronts}
 use Rattle.dy_siblings.proofs.keys.KeyPartialEq.eq.Goals as goal
 
-pub returns-then-not-is_long : goal.returns-then-not-is_long
-returns-then-not-is_long c =
-    let few : length c.args.self.now < 256 = let s = c.number.ensures.size in omega (arith, s.1) in
-    let less : length c.args.other.now < 256 = let s = c.number-2.ensures.size in omega (arith, s.1) in
-    sym (short_eq c.args.self.now c.args.other.now c.number.ensures.small c.number-2.ensures.small few less
-    (sym c.number.ensures.value ∙ c.if-number.false ∙ c.number-2.ensures.value)
-    (c.is_long.ensures.short c.if-not-is_long.true))
+pub returns-in-Some-Some : goal.returns-in-Some-Some
+returns-in-Some-Some c =
+    let mine = c.in-Some-Some.ensures in
+    let theirs = c.in-Some-Some.ensures' in
+    c.are_same.ensures
+    ∙ (λ i. pointwise nat_eq (mine.short i) (theirs.short i))
+    ∙ same_fronts c.args.self.now c.args.other.now mine.few theirs.few

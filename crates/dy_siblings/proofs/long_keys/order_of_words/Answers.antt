@@ -4,7 +4,7 @@ use Rattle.std.specs.Cmp.{nat_cmp_is}
 use Rattle.std.specs.declared.cmp.Ordering.TheVariants.{Equal}
 use Rattle.dy_siblings.specs.inside.Leads.{lead_from, whole_of}
 use Rattle.dy_siblings.proofs.Words.{by_word, same_word}
-use Rattle.dy_siblings.proofs.keys.order_of_words.Goals as goal
+use Rattle.dy_siblings.proofs.long_keys.order_of_words.Goals as goal
 
 pub returns-then-mine-theirs : goal.returns-then-mine-theirs
 unfolding whole_of

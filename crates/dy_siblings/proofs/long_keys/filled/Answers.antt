@@ -1,7 +1,7 @@
 -- The bytes stand before zeros.
 use Rattle.std.proofs.Common.{◌++◌, drop, length, replicate, get_or, ap, ◌∙◌}
 use Rattle.dy_siblings.proofs.Words.{before_zeros}
-use Rattle.dy_siblings.proofs.keys.filled.Goals as goal
+use Rattle.dy_siblings.proofs.long_keys.filled.Goals as goal
 
 pub returns-clause-value : goal.returns-clause-value
 returns-clause-value c i =
