@@ -1,8 +1,14 @@
 #!/usr/bin/env bash
 # Tries the programs of this folder over the libraries that `rt ci` left: one fails where it is taken,
 # or is refused for another cause than its second line says, and the control where it is refused.
-# Use: docs/refused/try.sh [NAME..]; without names it tries all. The last line is 'N passed, M failed'.
+# Use: docs/refused/try.sh [--behind P] [NAME..]; without names it tries all. With --behind it first waits
+# while the process P runs, and with it an `rt ci` that builds the libraries. The last line is 'N passed, M failed'.
 set -u
+behind=
+if [ "${1:-}" = --behind ]; then
+    behind=${2:?--behind takes the number of a process}
+    shift 2
+fi
 here=$(cd "$(dirname "$(readlink -f "${BASH_SOURCE[0]}")")" && pwd)
 top=$(cd "$here/../.." && pwd)
 kit=$(dirname "$(rt doc)") || exit 2
@@ -16,6 +22,13 @@ words+=(--antt-project "$kit/rattle/logic/antt-project.json" --logic-built "$kit
 words+=(--extern "std=$kit/rlibs/std.rlib" -L "dependency=$kit/rlibs")
 for crate in dy_dots dy_siblings dy_ring dy_preference dy_core dy_shares dy_book; do
     library=$top/crates/$crate/out/rlib/$crate.rlib
+    # (What stood here before that rt ci began is taken away by it, and what it makes is whole a moment later.)
+    while [ -n "$behind" ] && kill -0 "$behind" 2>/dev/null; do
+        sleep 3
+        if [ -d "$library" ] && [ "$(dirname "$library")" -nt "$folder/src" ]; then
+            break
+        fi
+    done
     if [ ! -d "$library" ]; then
         echo "the library of $crate is not built: run rt ci first"
         echo "0 passed, 1 failed"
