@@ -147,7 +147,7 @@ CALLS = {
                                            f"{CLUSTER}::close"), (), {"ended"}),
     "Cluster::open": Call(f"{CLUSTER}::open", (), (), {"ended"}),
     # It opens a session, which takes no memory itself: neither does Cluster::session.
-    "Cluster::seat": Call(f"{CLUSTER}::seat", ("dy_runner::seats::Seats::place_of",),
+    "Cluster::seat": Call(f"{CLUSTER}::seat", ("dy_commands::seats::Seats::place_of",),
                           (*PUTS, "get"), {"told"}),
     "Cluster::put": Call(f"{CLUSTER}::put_listed", (), PUTS, {"told", "answer", "after"}),
     "Cluster::get": Call(f"{CLUSTER}::get_listed", (), ("get",), {"told", "answer"}),

@@ -10,7 +10,7 @@ use Rattle.dy_lines.specs.declared.stops.Stopped.TheVariants.{Refused, Output}
 use Rattle.dy_cli.specs.Ends.{IsEnd, IsEndBy, IsStatusOf, IsTold}
 use Rattle.dy_cli.specs.Refusals.{IsCause, IsHaltedBy, IsHaltedFor, Stops}
 use Rattle.dy_cli.specs.declared.ends.Ended.{Ended}
-use Rattle.dy_cli.specs.declared.jobs.Job.{Job}
+use Rattle.dy_jobs.specs.declared.jobs.Job.{Job}
 use Rattle.dy_cli.proofs.Halting.{no_refusal, refusal_of}
 
 module _ {T : Type 0} where

@@ -9,9 +9,9 @@ use Rattle.dy_ring.specs.Rings.{Tokens}
 use Rattle.dy_script.specs.Reading.{ScriptParts, script_of_text}
 use Rattle.dy_lines.specs.declared.stops.Stopped.{Stopped}
 use Rattle.dy_lines.specs.declared.stops.Stopped.TheVariants.{Refused, Output}
-use Rattle.dy_runner.specs.Openings.{options_for}
-use Rattle.dy_runner.specs.Refusals.{IsFirstRefusal, IsStoppedBy, IsStoppedOnlyBy}
-use Rattle.dy_runner.specs.RingLines.{IsRingMade, lists_of}
+use Rattle.dy_plans.specs.Openings.{options_for}
+use Rattle.dy_plans.specs.Refusals.{IsFirstRefusal, IsStoppedBy, IsStoppedOnlyBy}
+use Rattle.dy_plans.specs.RingLines.{IsRingMade, lists_of}
 use Rattle.dy_cli.specs.Jobs.{IsSpelt}
 use Rattle.dy_serve.specs.Refusals.{CutsService}
 use Rattle.dy_cli.specs.Refusals.{AreRefused, HasClusterFault, HasRingFault, HasServiceFault}

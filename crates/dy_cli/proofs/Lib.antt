@@ -1,3 +1,2 @@
 pub mod Ending
-pub mod Flags
 pub mod Halting

@@ -7,11 +7,11 @@ use Rattle.dy_lines.specs.Refusals.{refusal_text}
 use Rattle.dy_lines.specs.Texts.{line}
 use Rattle.dy_lines.specs.declared.stops.Stopped.{Stopped}
 use Rattle.dy_lines.specs.declared.stops.Stopped.TheVariants.{Refused, Output}
-use Rattle.dy_runner.specs.Refusals.{HasFailed}
-use Rattle.dy_cli.specs.Jobs.{has_script}
+use Rattle.dy_plans.specs.Refusals.{HasFailed}
+use Rattle.dy_jobs.specs.Jobs.{has_script}
 use Rattle.dy_cli.specs.Refusals.{IsCause, Stops}
 use Rattle.dy_cli.specs.declared.ends.Ended.{Ended}
-use Rattle.dy_cli.specs.declared.jobs.Job.{Job}
+use Rattle.dy_jobs.specs.declared.jobs.Job.{Job}
 
 -- a job that stopped ends with 1 where memory or the output failed, and with 2 for any other cause
 abbrev pub IsStatusOf : Stopped → ℕ → Type 0

@@ -1,20 +1,21 @@
 -- What a job writes.
-use Rattle.std.specs.Prelude.{◌≡◌, ℕ, Bool, true, false, IsTrue, List, Option, Ok}
+use Rattle.std.specs.Prelude.{◌≡◌, ℕ, Bool, IsTrue, List, Option, Ok}
 use Rattle.std.specs.declared.marker.Brand.{Brand}
 use Rattle.dy_ring.specs.Rings.{Tokens}
 use Rattle.dy_ring.specs.Lists.{IsRingOf}
 use Rattle.dy_script.specs.Reading.{ScriptParts, script_of_text}
-use Rattle.dy_runner.specs.RingLines.{IsLaidOut, ring_lines}
+use Rattle.dy_plans.specs.RingLines.{IsLaidOut, ring_lines}
 use Rattle.dy_runner.specs.Runs.{IsRun}
 use Rattle.dy_serve.specs.InputLines.{IsAllOf}
 use Rattle.dy_serve.specs.Served.{IsServed}
 use Rattle.dy_storm.specs.Clusters.{five_tokens}
 use Rattle.dy_storm.specs.Ends.{IsStormed}
 use Rattle.dy_storm.specs.Lines.{storm_lines}
-use Rattle.dy_storm.specs.declared.plans.Storm.{Storm}
+use Rattle.dy_plans.specs.declared.storms.Storm.{Storm}
 use Rattle.dy_storm.specs.declared.storms.StormDone.{StormDone}
-use Rattle.dy_cli.specs.declared.jobs.Job.{Job}
-use Rattle.dy_cli.specs.declared.jobs.Job.TheVariants as Job
+use Rattle.dy_jobs.specs.Jobs.{has_script}
+use Rattle.dy_jobs.specs.declared.jobs.Job.{Job}
+use Rattle.dy_jobs.specs.declared.jobs.Job.TheVariants as Job
 
 -- the script that these bytes spell
 abbrev pub IsSpelt : List ℕ → ScriptParts → Type 0
@@ -51,13 +52,6 @@ IsWritten (Job.Run file with_steps) given bytes wrote = IsRunOf bytes with_steps
 IsWritten (Job.Serve file with_steps) given bytes wrote = IsServiceOf given bytes with_steps wrote
 IsWritten (Job.Ring file) given bytes wrote = IsRingOfText bytes wrote
 IsWritten (Job.Storm plan) given bytes wrote = IsStormLines plan wrote
-
--- whether the job reads a script
-abbrev pub has_script : Job → Bool
-has_script (Job.Run file with_steps) = true
-has_script (Job.Serve file with_steps) = true
-has_script (Job.Ring file) = true
-has_script (Job.Storm plan) = false
 
 -- of a job that reads a script the bytes are all that the input gives, where that is known
 abbrev pub AreRead : Job → Option (List ℕ) → List ℕ → Type 0

@@ -1,4 +1,3 @@
 pub mod Ends
 pub mod Jobs
 pub mod Refusals
-pub mod Words

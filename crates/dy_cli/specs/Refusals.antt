@@ -6,13 +6,13 @@ use Rattle.dy_ring.specs.Rings.{Tokens}
 use Rattle.dy_script.specs.Reading.{ScriptParts, script_of_text}
 use Rattle.dy_lines.specs.declared.stops.Stopped.{Stopped}
 use Rattle.dy_lines.specs.declared.stops.Stopped.TheVariants.{Refused}
-use Rattle.dy_runner.specs.Openings.{options_for}
-use Rattle.dy_runner.specs.Refusals.{HasFailed, IsFirstRefusal}
-use Rattle.dy_runner.specs.RingLines.{IsRingMade, lists_of}
+use Rattle.dy_plans.specs.Openings.{options_for}
+use Rattle.dy_plans.specs.Refusals.{HasFailed, IsFirstRefusal}
+use Rattle.dy_plans.specs.RingLines.{IsRingMade, lists_of}
 use Rattle.dy_serve.specs.Refusals.{CutsService}
 use Rattle.dy_cli.specs.Jobs.{IsSpelt}
-use Rattle.dy_cli.specs.declared.jobs.Job.{Job}
-use Rattle.dy_cli.specs.declared.jobs.Job.TheVariants as Job
+use Rattle.dy_jobs.specs.declared.jobs.Job.{Job}
+use Rattle.dy_jobs.specs.declared.jobs.Job.TheVariants as Job
 
 -- this comes first of what refuses the script, whatever is made of its layout, unless memory runs
 -- out

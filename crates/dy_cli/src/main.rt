@@ -2,14 +2,11 @@
 //! rings.
 #![tactic(auto)]
 
-mod command_lines;
 mod ends;
-mod jobs;
-mod numbers;
 mod performing;
 mod refusing;
 
-use crate::jobs::Job;
+use dy_jobs::Job;
 use std::alloc::Global;
 use std::env::Env;
 use std::fs::File;
@@ -32,11 +29,11 @@ fn status_of_words<R: Threads + Wait + Sync>(rt: &HostRuntime, leave: &R) -> u8 
         Ok(words) => words,
         Err(error) => return refusing::refuse_words(&mut err, &error).status,
     };
-    match command_lines::words(alloc, words.as_slice()) {
+    match dy_jobs::words(alloc, words.as_slice()) {
         Ok(job) => status_of_job(rt, leave, &job),
         Err(1) => refusing::refuse_for_memory(&mut err).status,
         Err(status) => {
-            if let Err(error) = command_lines::explain(rt, alloc, words.as_slice()) {
+            if let Err(error) = dy_jobs::explain(rt, alloc, words.as_slice()) {
                 refusing::lose_output(&mut err, &error);
             }
             status

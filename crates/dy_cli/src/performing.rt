@@ -1,22 +1,24 @@
 ghost use Rattle.std.specs.Prelude.{◌≡◌, ◌≤◌, ◌⊎◌, List, [], ℕ, IfOk, IsTrue, OnErr, OnOk};
 ghost use Rattle.std.specs.Io.Buffered.{writer_buffer, writer_contents};
 ghost use Rattle.std.specs.Io.KnownBytes.{Appends};
+ghost use Rattle.dy_jobs.specs.Jobs.{has_script};
 ghost use Rattle.dy_cli.specs.Ends.{IsEnd, IsUnread};
 ghost use Rattle.dy_cli.specs.Jobs.{AreRead, IsRingOfText, IsRunOf, IsServiceOf, IsStormLines};
-ghost use Rattle.dy_cli.specs.Jobs.{IsWritten, has_script};
+ghost use Rattle.dy_cli.specs.Jobs.{IsWritten};
 ghost use Rattle.dy_cli.specs.Refusals.{AreRefused, HasClusterFault, HasRingFault};
 ghost use Rattle.dy_cli.specs.Refusals.{HasServiceFault, IsCause, IsHaltedBy, IsHaltedFor};
 ghost use Rattle.dy_cli.specs.Refusals.{RefusesCluster, RefusesRing, Stops};
 
 use crate::ends::Ended;
-use crate::jobs::Job;
 use crate::refusing::{refuse_file, refuse_stopped};
 use dy_dots::Fault;
+use dy_jobs::Job;
 use dy_lines::Stopped;
-use dy_runner::{write_ring, write_run};
+use dy_plans::{Storm, write_ring};
+use dy_runner::write_run;
 use dy_script::read;
 use dy_serve::serve;
-use dy_storm::{Storm, write_storm};
+use dy_storm::write_storm;
 use std::alloc::Global;
 use std::io;
 use std::io::{BufRead, BufWriter, Read, Write};

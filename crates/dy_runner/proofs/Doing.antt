@@ -9,8 +9,9 @@ use Rattle.dy_cluster.specs.Settings.{Setting}
 use Rattle.dy_lines.specs.Outcomes.{command_text}
 use Rattle.dy_lines.specs.Texts.{line}
 use Rattle.dy_lines.specs.declared.outcomes.Outcome.{Outcome}
-use Rattle.dy_runner.specs.Runs.{DoAll, Does, lines_from, outcomes_in}
-use Rattle.dy_runner.specs.Seats.{Seated}
+use Rattle.dy_commands.specs.Commands.{Does}
+use Rattle.dy_runner.specs.Runs.{DoAll, lines_from, outcomes_in}
+use Rattle.dy_commands.specs.Seats.{Seated}
 use Rattle.dy_runner.specs.declared.recordings.Played.{Played}
 use Rattle.dy_script.specs.Orders.{CommandParts, command_parts}
 use Rattle.dy_script.specs.declared.commands.Command.{Command}

@@ -1,7 +1,3 @@
-pub mod AuditLines
 pub mod Doing
-pub mod Judging
-pub mod Refusing
-pub mod RingLines
-pub mod Seating
+pub mod Failing
 pub mod Tracing

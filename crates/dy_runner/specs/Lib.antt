@@ -1,11 +1,2 @@
-pub mod Answers
-pub mod AuditLines
-pub mod Modes
-pub mod Openings
-pub mod Refusals
-pub mod RingLines
 pub mod Runs
-pub mod Seats
-pub mod Texts
 pub mod Traces
-pub mod Writes

@@ -5,9 +5,8 @@ ghost use Rattle.dy_script.specs.Reading.{script_parts};
 ghost use Rattle.dy_cluster.specs.Settings.{setting};
 ghost use Rattle.dy_runner.specs.Runs.{HasPlayed};
 
-use crate::running::run_command;
-use crate::seats::Seats;
 use dy_cluster::{Cluster, DirectCalls, Session, Work};
+use dy_commands::{Seats, run_command};
 use dy_dots::Fault;
 use dy_lines::Outcome;
 use dy_script::Script;

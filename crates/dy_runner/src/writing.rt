@@ -1,7 +1,5 @@
-ghost use Rattle.std.specs.Prelude.{◌≡◌, ◌↔◌, List, ℕ, Result, IfErr, IfOk, IsErrOf, OnErr};
-ghost use Rattle.std.specs.Prelude.{OnOk, true};
+ghost use Rattle.std.specs.Prelude.{◌≡◌, List, ℕ, Result, IfErr, IfOk, OnOk, true};
 ghost use Rattle.std.specs.Io.KnownBytes.{Appends};
-ghost use Rattle.std.specs.List.{flat_map};
 ghost use Rattle.std.specs.declared.marker.Brand.{Brand};
 ghost use Rattle.dy_dots.specs.declared.faults.Fault.{Fault as FaultParts};
 ghost use Rattle.dy_ring.specs.Rings.{Tokens};
@@ -11,34 +9,24 @@ ghost use Rattle.dy_shares.specs.Shares.{SessionPart};
 ghost use Rattle.dy_cluster.specs.Ends.{IsClosed};
 ghost use Rattle.dy_cluster.specs.Refusals.{IsOpenRefusal};
 ghost use Rattle.dy_cluster.specs.Settings.{setting};
-ghost use Rattle.dy_lines.specs.Stops.{IsStoppedFor, IsStoppedForMemory};
-ghost use Rattle.dy_runner.specs.AuditLines.{acked_line, audit_lines, end_line, held_line};
-ghost use Rattle.dy_runner.specs.AuditLines.{settled_line, settled_lines};
-ghost use Rattle.dy_runner.specs.Openings.{IsPlanOf, options_for};
-ghost use Rattle.dy_runner.specs.Refusals.{HasFailed, IsFirstRefusal, IsStoppedBy};
-ghost use Rattle.dy_runner.specs.Refusals.{IsStoppedOnlyBy};
-ghost use Rattle.dy_runner.specs.RingLines.{IsLaidOut, IsRingMade, key_lines, lists_of, ring_lines};
+ghost use Rattle.dy_lines.specs.Stops.{IsStoppedFor};
+ghost use Rattle.dy_plans.specs.Openings.{IsPlanOf, options_for};
+ghost use Rattle.dy_plans.specs.Refusals.{HasFailed, IsFirstRefusal, IsStoppedBy};
+ghost use Rattle.dy_plans.specs.Refusals.{IsStoppedOnlyBy};
+ghost use Rattle.dy_plans.specs.RingLines.{IsRingMade, lists_of};
 ghost use Rattle.dy_runner.specs.Runs.{HasRun, IsRun};
 
-use crate::options::ring_of;
-use crate::plans::{Plan, plan_of};
 use crate::recordings::{Recorded, Recording};
 use crate::running::Run;
 use crate::telling::write_plays;
 use crate::traces::Trace;
-use dy_book::{AckedAt, Audit, Options};
+use dy_book::Options;
 use dy_cluster::{Closed, with_cluster};
-use dy_core::Holding;
-use dy_lines::{
-    AckedLine, ClusterLine, EndLine, HeldLine, KeyLine, SettledLine, Stopped, write_cluster,
-    write_tokens, write_whole,
-};
-use dy_preference::preference;
+use dy_lines::{ClusterLine, Stopped, write_cluster};
+use dy_plans::{Plan, plan_of, write_audit};
 use dy_ring::Ring;
 use dy_script::Script;
-use dy_siblings::Key;
 use std::alloc::Global;
-use std::io;
 use std::io::Write;
 use std::sync::Wait;
 
@@ -151,124 +139,4 @@ pub fn run_script<O: Write, R: Wait>(
         return Err(Stopped::Output(error));
     }
     Ok(ended?)
-}
-
-/// Writes what the nodes hold, what was acknowledged, which keys are settled where that is wanted,
-/// and the sums.
-pub fn write_audit<O: Write>(
-    alloc: Global,
-    w: u8,
-    is_settled: bool,
-    audit: &Audit,
-    out: &mut O,
-) -> Result<(), Stopped>
-    ensures written { OnOk result (Appends (O.contents out.old) (O.contents out.new)
-        (audit_lines w is_settled audit.now)) }
-    ensures memory { IfErr result IsStoppedForMemory }
-{
-    write_held(alloc, audit.held.as_slice(), out)?;
-    write_acked(w, audit.acked.as_slice(), out)?;
-    write_wanted(is_settled, audit.settled.as_slice(), out)?;
-    write_end(audit, out)?;
-    Ok(())
-}
-
-fn write_held<O: Write>(alloc: Global, held: &[Holding], out: &mut O) -> Result<(), Stopped>
-    ensures written { OnOk result (Appends (O.contents out.old) (O.contents out.new)
-        (flat_map held_line held.now)) }
-    ensures memory { IfErr result IsStoppedForMemory }
-{
-    for holding in held {
-        let line = HeldLine::of(alloc, holding)?;
-        write_whole(&line, out)?;
-    }
-    Ok(())
-}
-
-fn write_acked<O: Write>(w: u8, acked: &[AckedAt], out: &mut O) -> io::Result<()>
-    ensures { OnOk result (Appends (O.contents out.old) (O.contents out.new)
-        (flat_map (acked_line w) acked.now)) }
-{
-    for ack in acked {
-        let line = AckedLine::of(w, ack);
-        write_whole(&line, out)?;
-    }
-    Ok(())
-}
-
-fn write_settled<O: Write>(keys: &[Key], out: &mut O) -> io::Result<()>
-    ensures { OnOk result (Appends (O.contents out.old) (O.contents out.new)
-        (flat_map settled_line keys.now)) }
-{
-    for key in keys {
-        let line = SettledLine { key };
-        write_whole(&line, out)?;
-    }
-    Ok(())
-}
-
-fn write_wanted<O: Write>(is_wanted: bool, keys: &[Key], out: &mut O) -> io::Result<()>
-    ensures { OnOk result (Appends (O.contents out.old) (O.contents out.new)
-        (settled_lines is_wanted keys.now)) }
-{
-    if is_wanted {
-        return write_settled(keys, out);
-    }
-    Ok(())
-}
-
-fn write_end<O: Write>(audit: &Audit, out: &mut O) -> io::Result<()>
-    ensures { OnOk result (Appends (O.contents out.old) (O.contents out.new)
-        (end_line audit.now)) }
-{
-    let line = EndLine::of(audit);
-    writeln!(out, "{line}")?;
-    Ok(())
-}
-
-/// Writes the tokens of the script's ring, in rising position, and then the preference list of each
-/// of its keys.
-pub fn write_ring<W: Write>(alloc: Global, script: &Script, out: &mut W) -> Result<(), Stopped>
-    ensures written { OnOk result ((ring : Tokens)
-        × IsLaidOut (script_parts script.now).layout ring
-        × Appends (W.contents out.old) (W.contents out.new)
-        (ring_lines ring (script_parts script.now).keys)) }
-    ensures refused { (made : Result Tokens FaultParts)
-        × IsRingMade (lists_of (script_parts script.now).layout) made
-        × ((f : FaultParts) → IsErrOf result (Stopped.Refused f) ↔ IsErrOf made f)
-        × OnErr made (W.contents out.new ≡ W.contents out.old) }
-{
-    let ring = match ring_of(alloc, &script.layout) {
-        Ok(ring) => ring,
-        Err(fault) => return Err(Stopped::Refused(fault)),
-    };
-    match write_lines(&ring, script.keys.as_slice(), out) {
-        Ok(()) => Ok(()),
-        Err(error) => Err(Stopped::Output(error)),
-    }
-}
-
-fn write_lines<W: Write>(ring: &Ring, keys: &[Key], out: &mut W) -> io::Result<()>
-    ensures { OnOk result (Appends (W.contents out.old) (W.contents out.new)
-        (ring_lines ring.now keys.now)) }
-{
-    write_tokens(ring.tokens(), out)?;
-    write_keys(ring, keys, out)?;
-    Ok(())
-}
-
-fn write_keys<W: Write>(ring: &Ring, keys: &[Key], out: &mut W) -> io::Result<()>
-    ensures { OnOk result (Appends (W.contents out.old) (W.contents out.new)
-        (key_lines ring.now keys.now)) }
-{
-    for key in keys {
-        let list = preference(ring, key, ring.nodes());
-        let line = KeyLine {
-            key,
-            position: Ring::position(key),
-            nodes: list.nodes(),
-        };
-        writeln!(out, "{line}")?;
-    }
-    Ok(())
 }

@@ -20,10 +20,10 @@ use Rattle.dy_lines.specs.Served.{renewed_text}
 use Rattle.dy_lines.specs.Texts.{line}
 use Rattle.dy_lines.specs.declared.outcomes.Outcome.{Outcome}
 use Rattle.dy_script.specs.Orders.{CommandParts}
-use Rattle.dy_runner.specs.Runs.{Does, seated}
-use Rattle.dy_runner.specs.Seats.{Seated}
+use Rattle.dy_commands.specs.Commands.{Does, seated}
+use Rattle.dy_commands.specs.Seats.{Seated}
 use Rattle.dy_lines.specs.StepLines.{step_lines}
-use Rattle.dy_runner.specs.declared.seats.Seats.{Seats}
+use Rattle.dy_commands.specs.declared.seats.Seats.{Seats}
 use Rattle.dy_serve.specs.Answers.{IsCarriedInto, IsDone}
 use Rattle.dy_serve.specs.Below.{AreBelow, AreBelowIf, AreNew, Standing, none_standing}
 use Rattle.dy_serve.specs.Below.{one_session, session_at, session_in, standing, told_by}

@@ -20,11 +20,11 @@ use Rattle.dy_lines.specs.Stops.{IsStoppedFor}
 use Rattle.dy_lines.specs.declared.stops.Stopped.{Stopped}
 use Rattle.dy_lines.specs.declared.stops.Stopped.TheVariants.{Refused}
 use Rattle.dy_script.specs.Reading.{ScriptParts, node_count}
-use Rattle.dy_runner.specs.Openings.{IsPlanOf, options_for}
-use Rattle.dy_runner.specs.Refusals.{HasFailed}
-use Rattle.dy_runner.specs.RingLines.{IsLaidOut}
-use Rattle.dy_runner.specs.declared.plans.Plan.{Plan}
-use Rattle.dy_runner.proofs.Refusing.{same_stop}
+use Rattle.dy_plans.specs.Openings.{IsPlanOf, options_for}
+use Rattle.dy_plans.specs.Refusals.{HasFailed}
+use Rattle.dy_plans.specs.RingLines.{IsLaidOut}
+use Rattle.dy_plans.specs.declared.plans.Plan.{Plan}
+use Rattle.dy_plans.proofs.Refusing.{same_stop}
 use Rattle.dy_serve.specs.Answers.{asked_in}
 use Rattle.dy_serve.specs.Below.{Standing}
 use Rattle.dy_serve.specs.Closings.{Service}

@@ -17,8 +17,8 @@ use Rattle.dy_lines.specs.Served.{renewed_text}
 use Rattle.dy_lines.specs.Texts.{line}
 use Rattle.dy_script.specs.Reading.{ScriptParts, node_count}
 use Rattle.dy_script.specs.Requests.{does, renews}
-use Rattle.dy_runner.specs.Openings.{options_for}
-use Rattle.dy_runner.specs.RingLines.{IsLaidOut}
+use Rattle.dy_plans.specs.Openings.{options_for}
+use Rattle.dy_plans.specs.RingLines.{IsLaidOut}
 use Rattle.dy_serve.specs.Answers.{AreAnswered, Asked, IsRenewed, asked_in, asked_of}
 use Rattle.dy_serve.specs.Below.{Standing, none_standing}
 use Rattle.dy_serve.specs.Closings.{IsClosing, Service}

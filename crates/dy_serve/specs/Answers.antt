@@ -15,8 +15,8 @@ use Rattle.dy_lines.specs.Texts.{line}
 use Rattle.dy_lines.specs.declared.outcomes.Outcome.{Outcome}
 use Rattle.dy_script.specs.Orders.{CommandParts}
 use Rattle.dy_script.specs.Requests.{RequestParts, does, renews, request_of_text}
-use Rattle.dy_runner.specs.Runs.{Does}
-use Rattle.dy_runner.specs.Seats.{Seated}
+use Rattle.dy_commands.specs.Commands.{Does}
+use Rattle.dy_commands.specs.Seats.{Seated}
 use Rattle.dy_serve.specs.Below.{IsBelow, Standing, none_standing, session_in}
 use Rattle.dy_serve.specs.Closings.{IsClosing, Service}
 use Rattle.dy_serve.specs.InputLines.{is_nothing, is_too_long}

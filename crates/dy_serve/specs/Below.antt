@@ -9,10 +9,10 @@ use Rattle.dy_shares.specs.declared.kept_steps.KeptStep.{KeptStep}
 use Rattle.dy_shares.specs.declared.step_numbers.StepNumbers.{StepNumbers}
 use Rattle.dy_script.specs.Orders.{CommandParts, WriteParts, written, puts, deletes, gets}
 use Rattle.dy_script.specs.Orders.{downs, ups, sets_mode, delivers, hands_off, shows}
-use Rattle.dy_runner.specs.Runs.{none_seated, seated}
-use Rattle.dy_runner.specs.Seats.{Seated, seat_of}
+use Rattle.dy_commands.specs.Commands.{none_seated, seated}
+use Rattle.dy_commands.specs.Seats.{Seated, seat_of}
 use Rattle.dy_lines.specs.StepLines.{StepSessions, step_lines}
-use Rattle.dy_runner.specs.declared.seats.Seats.{Seats}
+use Rattle.dy_commands.specs.declared.seats.Seats.{Seats}
 use Rattle.dy_serve.specs.declared.told.ToldSoFar.{ToldSoFar}
 
 -- how far an open cluster is: its sessions, and the steps of its log that were printed

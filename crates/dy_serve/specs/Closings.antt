@@ -10,8 +10,8 @@ use Rattle.dy_cluster.specs.Ends.{IsClosed}
 use Rattle.dy_cluster.specs.Settings.{Setting}
 use Rattle.dy_cluster.specs.declared.restings.Closed.{Closed}
 use Rattle.dy_script.specs.Reading.{ScriptParts}
-use Rattle.dy_runner.specs.AuditLines.{audit_lines}
-use Rattle.dy_runner.specs.Openings.{options_for}
+use Rattle.dy_plans.specs.AuditLines.{audit_lines}
+use Rattle.dy_plans.specs.Openings.{options_for}
 use Rattle.dy_lines.specs.StepLines.{step_lines}
 use Rattle.dy_serve.specs.Below.{Standing, one_session}
 

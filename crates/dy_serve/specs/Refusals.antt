@@ -14,7 +14,7 @@ use Rattle.dy_cluster.specs.declared.carrying.CarryFault.{CarryFault}
 use Rattle.dy_cluster.specs.declared.restings.Closed.{Closed}
 use Rattle.dy_script.specs.Reading.{ScriptParts}
 use Rattle.dy_script.specs.Requests.{renews}
-use Rattle.dy_runner.specs.RingLines.{IsLaidOut}
+use Rattle.dy_plans.specs.RingLines.{IsLaidOut}
 use Rattle.dy_serve.specs.Answers.{AreAnswered, Asked}
 use Rattle.dy_serve.specs.Below.{Standing, none_standing}
 use Rattle.dy_serve.specs.Closings.{IsClosing, Service}

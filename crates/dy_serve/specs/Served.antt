@@ -7,8 +7,8 @@ use Rattle.dy_cluster.specs.Settings.{setting}
 use Rattle.dy_cluster.specs.declared.restings.Closed.{Closed}
 use Rattle.dy_lines.specs.Clusters.{cluster_lines}
 use Rattle.dy_script.specs.Reading.{ScriptParts, node_count}
-use Rattle.dy_runner.specs.Openings.{options_for}
-use Rattle.dy_runner.specs.RingLines.{IsLaidOut}
+use Rattle.dy_plans.specs.Openings.{options_for}
+use Rattle.dy_plans.specs.RingLines.{IsLaidOut}
 use Rattle.dy_serve.specs.Answers.{Asked, AreAnswered, asked_in, asked_of}
 use Rattle.dy_serve.specs.Below.{Standing, none_standing}
 use Rattle.dy_serve.specs.Closings.{IsClosing, Service}

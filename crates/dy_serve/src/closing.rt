@@ -6,14 +6,14 @@ ghost use Rattle.dy_shares.specs.Shares.{steps_of};
 ghost use Rattle.dy_shares.specs.declared.entries.Entry.{Entry};
 ghost use Rattle.dy_book.specs.Audits.{IsHistoryOf};
 ghost use Rattle.dy_lines.specs.Stops.{IsStoppedForMemory};
-ghost use Rattle.dy_runner.specs.AuditLines.{audit_lines};
+ghost use Rattle.dy_plans.specs.AuditLines.{audit_lines};
 ghost use Rattle.dy_serve.specs.Closings.{AreLeft, AreLeftIf};
 
 use crate::news::News;
 use crate::told::nothing_told;
 use dy_cluster::Audit;
 use dy_lines::{Stopped, write_step_lines};
-use dy_runner::write_audit;
+use dy_plans::write_audit;
 use dy_script::Script;
 use std::alloc::Global;
 use std::io::Write;

@@ -1,12 +1,12 @@
 // What the session of a command was told by it.
 ghost use Rattle.std.specs.Prelude.{◌≡◌, [], IfOk, IsOkUnless, drop};
-ghost use Rattle.dy_runner.specs.Runs.{seated};
+ghost use Rattle.dy_commands.specs.Commands.{seated};
 ghost use Rattle.dy_script.specs.Orders.{command_parts};
 ghost use Rattle.dy_serve.specs.Below.{AreNew, session_at, session_in, told_by};
 
 use dy_cluster::Session;
+use dy_commands::Seats;
 use dy_dots::Fault;
-use dy_runner::Seats;
 use dy_script::Command;
 use dy_shares::{Naming, StepNumbers};
 use std::alloc::Global;

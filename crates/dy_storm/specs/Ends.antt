@@ -12,7 +12,7 @@ use Rattle.dy_storm.specs.Clusters.{storm_options}
 use Rattle.dy_storm.specs.Seeds.{generator_of}
 use Rattle.dy_storm.specs.Turns.{AreTurns}
 use Rattle.dy_storm.specs.declared.counts.Counts.{Counts}
-use Rattle.dy_storm.specs.declared.plans.Storm.{Storm}
+use Rattle.dy_plans.specs.declared.storms.Storm.{Storm}
 use Rattle.dy_storm.specs.declared.storms.StormDone.{StormDone}
 
 -- the counts are of what the sessions were told

@@ -5,10 +5,10 @@ ghost use Rattle.dy_storm.specs.Seeds.{generator_of};
 ghost use Rattle.dy_storm.specs.Turns.{AreTurns};
 
 use crate::outages::Outages;
-use crate::plans::Storm;
 use crate::turns::Player;
 use dy_clients::{Client, Connection, Fault, Naming, Transport};
 use dy_draws::draw;
+use dy_plans::Storm;
 use rand_pcg::Lcg64Xsh32;
 use rand_pcg::rand_core::SeedableRng;
 use std::alloc::Global;

@@ -1,7 +1,7 @@
 ghost use Rattle.std.specs.Prelude.{◌≡◌, ◌≤◌, ◌+◌, ◌*◌};
 
-use crate::plans::Storm;
 use dy_book::Audit;
+use dy_plans::Storm;
 use std::fmt;
 
 /// How many puts were acknowledged, how many gets were answered, and how many of both were refused.

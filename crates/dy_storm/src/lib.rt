@@ -5,7 +5,6 @@ mod clients;
 mod counts;
 mod events;
 mod outages;
-mod plans;
 mod rings;
 mod rounds;
 mod storms;
@@ -15,6 +14,5 @@ mod words;
 mod writing;
 
 pub use counts::Counts;
-pub use plans::Storm;
 pub use storms::{StormDone, storm};
 pub use writing::write_storm;

@@ -3,9 +3,9 @@ ghost use Rattle.std.specs.Prelude.{◌≡◌, ◌≢◌, ◌+◌, ◌%◌, ◌^
 ghost use Rattle.dy_storm.specs.Seeds.{generator_of};
 
 use crate::events::{Event, Outage, next_outage};
-use crate::plans::Storm;
 use crate::rounds::Rounds;
 use dy_clients::{Cluster, Naming, Operator, Post};
+use dy_plans::Storm;
 use rand_pcg::Lcg64Xsh32;
 use rand_pcg::rand_core::SeedableRng;
 use std::alloc::Global;

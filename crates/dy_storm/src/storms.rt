@@ -14,10 +14,10 @@ ghost use Rattle.dy_storm.specs.Turns.{AreTurns};
 
 use crate::clients::Clients;
 use crate::counts::Counts;
-use crate::plans::Storm;
 use crate::rings::{five_nodes, options};
 use dy_clients::{ClientsDone, Closed, Fault, Ring, with_operator, with_workers};
 use dy_mailboxes::Open;
+use dy_plans::Storm;
 use std::alloc::Global;
 use std::sync::Wait;
 use std::thread::Threads;

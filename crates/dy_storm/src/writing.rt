@@ -11,12 +11,12 @@ ghost use Rattle.dy_storm.specs.Lines.{counts_line, storm_lines};
 ghost use Rattle.dy_storm.specs.declared.storms.StormDone.{StormDone};
 
 use crate::counts::Counts;
-use crate::plans::Storm;
 use crate::rings::five_nodes;
 use crate::storms::storm_on;
 use crate::traces::write_trace;
 use dy_clients::Fault;
 use dy_lines::Stopped;
+use dy_plans::Storm;
 use std::alloc::Global;
 use std::io;
 use std::io::Write;

@@ -1,8 +1,9 @@
 use crate::comparing::Compared;
 use dy_dots::Fault;
 use dy_lines::Stopped;
+use dy_plans::{options_of, ring_of};
 use dy_replay::replay;
-use dy_runner::{options_of, ring_of, run_script};
+use dy_runner::run_script;
 use dy_script::read;
 use std::alloc::Global;
 use std::sync::Wait;

@@ -1,7 +1,7 @@
 -- each job is refused as what it does
 use Rattle.std.proofs.Common.{subst, sym}
 use Rattle.dy_cli.specs.Refusals.{IsCause, IsHaltedFor, Stops}
-use Rattle.dy_cli.specs.declared.jobs.Job.{Job}
+use Rattle.dy_jobs.specs.declared.jobs.Job.{Job}
 use Rattle.dy_cli.proofs.performing.write_lines.Goals as goal
 
 pub returns-in-Run-clause-refused : goal.returns-in-Run-clause-refused

@@ -1,7 +1,7 @@
 -- the script that was read is the one whose ring is written, or refused
 use Rattle.std.proofs.Common.{refl}
 use Rattle.dy_script.specs.Reading.{script_parts}
-use Rattle.dy_runner.specs.RingLines.{ring_lines}
+use Rattle.dy_plans.specs.RingLines.{ring_lines}
 use Rattle.dy_cli.specs.Refusals.{HasRingFault, RefusesRing}
 use Rattle.dy_cli.proofs.Halting.{on_ok, ring_halts, ring_only, unread_halts, unread_only}
 use Rattle.dy_cli.proofs.performing.write_lines_of_ring.Goals as goal

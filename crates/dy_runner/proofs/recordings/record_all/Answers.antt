@@ -5,7 +5,8 @@ use Rattle.dy_cluster.specs.Settings.{setting}
 use Rattle.dy_lines.specs.declared.outcomes.Outcome.{Outcome}
 use Rattle.dy_script.specs.Orders.{command_parts}
 use Rattle.dy_script.specs.declared.commands.Command.{Command}
-use Rattle.dy_runner.specs.Runs.{DoAll, none_seated, outcomes_in, seated}
+use Rattle.dy_commands.specs.Commands.{none_seated, seated}
+use Rattle.dy_runner.specs.Runs.{DoAll, outcomes_in}
 use Rattle.dy_runner.specs.declared.recordings.Played.{Played}
 use Rattle.dy_runner.proofs.Doing.{done_next, outcomes_next}
 use Rattle.dy_runner.proofs.recordings.record_all.Goals as goal

@@ -1,7 +1,8 @@
 use Rattle.std.proofs.Common.{◌≡◌, length, map, take}
 use Rattle.dy_cluster.specs.Settings.{setting}
 use Rattle.dy_dots.specs.declared.nodes.TheConstants.{MAX_NODES}
-use Rattle.dy_runner.specs.Runs.{DoAll, none_seated, outcomes_in, seated}
+use Rattle.dy_commands.specs.Commands.{none_seated, seated}
+use Rattle.dy_runner.specs.Runs.{DoAll, outcomes_in}
 use Rattle.dy_runner.proofs.recordings.record_all.Given as goal
 use Rattle.dy_script.specs.Orders.{command_parts}
 

@@ -2,7 +2,7 @@
 use Rattle.std.proofs.Common.{◌≡◌, ◌<◌, ◌++◌, ◌∷◌, [], List, length, slice_index_or, subst}
 use Rattle.dy_cluster.specs.Settings.{setting}
 use Rattle.dy_script.specs.declared.commands.Command.{Command}
-use Rattle.dy_runner.specs.Runs.{none_seated, seated}
+use Rattle.dy_commands.specs.Commands.{none_seated, seated}
 use Rattle.dy_runner.proofs.Doing.{done_next, lines_next}
 use Rattle.dy_runner.proofs.running.run_all.Goals as goal
 

@@ -3,7 +3,8 @@ use Rattle.std.specs.Io.KnownBytes.{Appends}
 use Rattle.dy_cluster.specs.Settings.{setting}
 use Rattle.dy_dots.specs.declared.nodes.TheConstants.{MAX_NODES}
 use Rattle.dy_lines.specs.declared.outcomes.Outcome.{Outcome}
-use Rattle.dy_runner.specs.Runs.{DoAll, lines_from, none_seated, seated}
+use Rattle.dy_commands.specs.Commands.{none_seated, seated}
+use Rattle.dy_runner.specs.Runs.{DoAll, lines_from}
 use Rattle.dy_runner.proofs.running.run_all.Given as goal
 use Rattle.dy_script.specs.Orders.{command_parts}
 

@@ -1,8 +1,9 @@
 -- the cluster is not opened, or the run failed
 use Rattle.std.specs.Prelude.{◌⊎◌}
 use Rattle.dy_cluster.specs.Refusals.{IsOpenRefusal}
-use Rattle.dy_runner.specs.Refusals.{HasFailed}
-use Rattle.dy_runner.proofs.Refusing.{ends_for, open_or_failed}
+use Rattle.dy_plans.specs.Refusals.{HasFailed}
+use Rattle.dy_plans.proofs.Refusing.{ends_for}
+use Rattle.dy_runner.proofs.Failing.{open_or_failed}
 use Rattle.dy_runner.proofs.writing.run_script.Goals as goal
 
 pub returns-in_err-ended-clause-only : goal.returns-in_err-ended-clause-only

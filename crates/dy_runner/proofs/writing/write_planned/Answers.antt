@@ -8,10 +8,12 @@ use Rattle.dy_script.specs.Reading.{script_parts}
 use Rattle.dy_book.specs.declared.options.Options.{Options}
 use Rattle.dy_cluster.specs.Ends.{IsClosed}
 use Rattle.dy_cluster.specs.Settings.{setting}
-use Rattle.dy_runner.specs.Refusals.{HasFailed}
-use Rattle.dy_runner.specs.Runs.{DoAll, IsPrinted, IsRun, none_seated, plain_lines}
-use Rattle.dy_runner.specs.Seats.{Seated}
-use Rattle.dy_runner.proofs.Refusing.{ends_as, plan_fails}
+use Rattle.dy_plans.specs.Refusals.{HasFailed}
+use Rattle.dy_commands.specs.Commands.{none_seated}
+use Rattle.dy_runner.specs.Runs.{DoAll, IsPrinted, IsRun, plain_lines}
+use Rattle.dy_commands.specs.Seats.{Seated}
+use Rattle.dy_plans.proofs.Refusing.{ends_as}
+use Rattle.dy_runner.proofs.Failing.{plan_fails}
 use Rattle.dy_runner.proofs.writing.write_planned.Goals as goal
 
 pub returns-clause-run : goal.returns-clause-run

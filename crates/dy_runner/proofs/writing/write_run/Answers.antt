@@ -5,9 +5,9 @@ use Rattle.dy_script.specs.Reading.{script_parts}
 use Rattle.dy_book.specs.Limits.{AreLimits}
 use Rattle.dy_dots.specs.declared.faults.Fault.{Fault}
 use Rattle.dy_lines.specs.declared.stops.Stopped.TheVariants.{Refused}
-use Rattle.dy_runner.specs.Openings.{options_for}
-use Rattle.dy_runner.specs.Refusals.{IsFirstRefusal}
-use Rattle.dy_runner.proofs.Refusing.{failed_only, not_refused, on_ok, same_refusal, same_stop}
+use Rattle.dy_plans.specs.Openings.{options_for}
+use Rattle.dy_plans.specs.Refusals.{IsFirstRefusal}
+use Rattle.dy_plans.proofs.Refusing.{failed_only, not_refused, on_ok, same_refusal, same_stop}
 use Rattle.dy_runner.proofs.writing.write_run.Goals as goal
 
 -- a script that has a plan has its limits in their ranges

@@ -8,10 +8,12 @@ use Rattle.dy_book.specs.declared.options.Options.{Options}
 use Rattle.dy_cluster.specs.Ends.{IsClosed}
 use Rattle.dy_cluster.specs.Settings.{setting}
 use Rattle.dy_lines.specs.Clusters.{cluster_lines}
-use Rattle.dy_runner.specs.AuditLines.{audit_lines}
-use Rattle.dy_runner.specs.Refusals.{HasFailed}
-use Rattle.dy_runner.specs.Runs.{DoAll, none_seated, outcomes_in, seated}
-use Rattle.dy_runner.proofs.Refusing.{ends_for, open_or_failed, plan_fails}
+use Rattle.dy_plans.specs.AuditLines.{audit_lines}
+use Rattle.dy_plans.specs.Refusals.{HasFailed}
+use Rattle.dy_commands.specs.Commands.{none_seated, seated}
+use Rattle.dy_runner.specs.Runs.{DoAll, outcomes_in}
+use Rattle.dy_plans.proofs.Refusing.{ends_for}
+use Rattle.dy_runner.proofs.Failing.{open_or_failed, plan_fails}
 use Rattle.dy_runner.proofs.Tracing.{traced_as}
 use Rattle.dy_runner.proofs.writing.write_with_steps.Goals as goal
 

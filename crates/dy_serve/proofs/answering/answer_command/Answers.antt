@@ -6,7 +6,7 @@ use Rattle.dy_script.specs.Orders.{command_parts}
 use Rattle.dy_cluster.specs.Settings.{setting}
 use Rattle.dy_lines.specs.Outcomes.{command_text}
 use Rattle.dy_lines.specs.Texts.{line}
-use Rattle.dy_runner.specs.Runs.{seated}
+use Rattle.dy_commands.specs.Commands.{seated}
 use Rattle.dy_serve.specs.Below.{AreBelowIf, session_at, standing, told_by}
 use Rattle.dy_serve.proofs.Lowering.{done_so}
 use Rattle.dy_serve.proofs.answering.answer_command.Goals as goal

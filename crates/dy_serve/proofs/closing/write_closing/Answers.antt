@@ -3,7 +3,7 @@ use Rattle.std.proofs.Common.{◌≡◌, ◌++◌, [], List, ℕ, Bool, false, t
 use Rattle.std.proofs.KnownBytes.{Appends-trans}
 use Rattle.std.specs.Io.KnownBytes.{Appends}
 use Rattle.dy_shares.specs.Shares.{steps_of}
-use Rattle.dy_runner.specs.AuditLines.{audit_lines}
+use Rattle.dy_plans.specs.AuditLines.{audit_lines}
 use Rattle.dy_serve.specs.Closings.{AreLeftIf}
 use Rattle.dy_serve.proofs.closing.write_closing.Goals as goal
 

@@ -5,9 +5,9 @@ use Rattle.std.specs.Prelude.{◌⊎◌, Err}
 use Rattle.dy_dots.specs.declared.faults.Fault.{Fault}
 use Rattle.dy_lines.specs.declared.stops.Stopped.TheVariants.{Refused}
 use Rattle.dy_script.specs.Reading.{script_parts}
-use Rattle.dy_runner.specs.Openings.{options_for}
-use Rattle.dy_runner.specs.Refusals.{HasFailed, IsFirstRefusal}
-use Rattle.dy_runner.proofs.Refusing.{not_refused, same_refusal, same_stop}
+use Rattle.dy_plans.specs.Openings.{options_for}
+use Rattle.dy_plans.specs.Refusals.{HasFailed, IsFirstRefusal}
+use Rattle.dy_plans.proofs.Refusing.{not_refused, same_refusal, same_stop}
 use Rattle.dy_serve.specs.Refusals.{CutsService}
 use Rattle.dy_serve.proofs.Stopping.{stopped_too}
 use Rattle.dy_serve.proofs.serving.serve.Goals as goal

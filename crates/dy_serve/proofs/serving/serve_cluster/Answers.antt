@@ -1,6 +1,6 @@
 -- what was served in the cluster, and how it was closed
 use Rattle.std.proofs.Common.{◌∙◌, ◌++◌, refl}
-use Rattle.dy_runner.specs.AuditLines.{audit_lines}
+use Rattle.dy_plans.specs.AuditLines.{audit_lines}
 use Rattle.dy_serve.specs.Below.{standing}
 use Rattle.dy_serve.proofs.serving.serve_cluster.Goals as goal
 

@@ -2,7 +2,7 @@
 use Rattle.std.proofs.Common.{◌⊎◌, ◌++◌}
 use Rattle.std.proofs.KnownBytes.{Appends-trans}
 use Rattle.dy_script.specs.Reading.{script_parts}
-use Rattle.dy_runner.specs.Refusals.{HasFailed}
+use Rattle.dy_plans.specs.Refusals.{HasFailed}
 use Rattle.dy_serve.specs.Refusals.{CutsService}
 use Rattle.dy_serve.specs.Served.{first_lines, service_of}
 use Rattle.dy_serve.specs.inside.Shortages.{StopsClusters}

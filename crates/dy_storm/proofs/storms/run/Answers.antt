@@ -7,7 +7,7 @@ use Rattle.dy_clients.specs.Runs.{HaveRun}
 use Rattle.dy_clients.specs.declared.clients_dones.ClientsDone.{ClientsDone}
 use Rattle.dy_storm.specs.Seeds.{generator_of}
 use Rattle.dy_storm.specs.Turns.{AreTurns}
-use Rattle.dy_storm.specs.declared.plans.Storm.{Storm}
+use Rattle.dy_plans.specs.declared.storms.Storm.{Storm}
 use Rattle.dy_storm.proofs.storms.run.Goals as goal
 
 -- the clients of the plan ran on a cluster of these options

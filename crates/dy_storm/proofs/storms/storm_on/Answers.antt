@@ -1,7 +1,7 @@
 use Rattle.std.proofs.Common.{◌≡◌, ◌+◌, ◌*◌, ◌≤◌, ◌%◌, ◌^◌, ap, arith}
 use Rattle.dy_book.specs.Audits.{count_acks, count_gets}
 use Rattle.dy_storm.specs.Seeds.{generator_of}
-use Rattle.dy_storm.specs.declared.plans.Storm.{Storm}
+use Rattle.dy_plans.specs.declared.storms.Storm.{Storm}
 use Rattle.dy_storm.proofs.Counting.{turns_most}
 use Rattle.dy_storm.proofs.storms.storm_on.Goals as goal
 

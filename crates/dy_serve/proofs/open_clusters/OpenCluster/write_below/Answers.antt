@@ -1,7 +1,7 @@
 -- what the mark moved behind is written
 use Rattle.std.proofs.Common.{◌≡◌, ◌∙◌, ◌+◌, [], Bool, true, ap, arith, length, rules, subst}
 use Rattle.dy_shares.specs.Shares.{steps_of}
-use Rattle.dy_runner.specs.Runs.{seated}
+use Rattle.dy_commands.specs.Commands.{seated}
 use Rattle.dy_lines.specs.StepLines.{step_lines}
 use Rattle.dy_serve.specs.Below.{AreBelowIf, standing}
 use Rattle.dy_serve.specs.inside.Telling.{teller_of}

@@ -1,0 +1,124 @@
+ghost use Rattle.std.specs.Prelude.{◌≡◌, ◌↔◌, None, false, length};
+ghost use Rattle.dy_dots.specs.declared.nodes.TheConstants.{MAX_NODES};
+ghost use Rattle.dy_commands.specs.Answers.{TellsPut};
+ghost use Rattle.dy_commands.specs.Seats.{IsOpen, IsOpened, seat_of};
+ghost use Rattle.dy_commands.specs.Writes.{IsWritten, RunsJudged};
+
+use crate::givens::Given;
+use crate::seats::Seats;
+use dy_cluster::{Cluster, DirectCalls, Session};
+use dy_coord::{PutDone, PutFault};
+use dy_dots::Fault;
+use dy_lines::{Outcome, Word};
+use dy_shares::Naming;
+use std::sync::Wait;
+
+/// A put or a delete whose texts were judged: the number of its session, at how many homes, and
+/// what it is given, or why its texts are refused.
+#[derive(Drop)]
+pub(crate) struct Judged {
+    pub session: u8,
+    pub w: u8,
+    pub word: Word,
+    pub given: Result<Given, Fault>,
+}
+
+/// Puts or deletes in the session that is named, which is opened even where the texts are refused.
+pub(crate) fn run_write<J: Naming, R: Wait>(
+    rt: &R,
+    cluster: &Cluster<J>,
+    direct: &mut DirectCalls<'_, J>,
+    seats: &mut Seats,
+    sessions: &mut Vec<Session<J>>,
+    judged: Judged,
+) -> Outcome
+    requires room { direct.old.room ≡ MAX_NODES }
+    requires together { length seats.old.numbers.items ≡ length sessions.old.items }
+    ensures room { direct.new.room ≡ MAX_NODES }
+    ensures together { length seats.new.numbers.items ≡ length sessions.new.items }
+    ensures opened { IsOpened judged.session seats.old.numbers.items seats.new.numbers.items }
+    ensures is_open { IsOpen judged.session seats.new.numbers.items
+        ↔ (seats.new.refused ≡ false) }
+    ensures told { RunsJudged J J.ring J.n (seat_of judged.session seats.new.numbers.items)
+        judged.w judged.word result seats.new.refused sessions.old.items sessions.new.items
+        judged.given }
+{
+    let Judged {
+        session,
+        w,
+        word,
+        given,
+    } = judged;
+    let place = seats.place_of(rt, cluster, sessions, session);
+    let given = match given {
+        Ok(given) => given,
+        Err(fault) => return refused(word, fault),
+    };
+    match place {
+        Ok(place) => write_in(rt, cluster, direct, &mut sessions[place], w, word, given),
+        Err(fault) => refused(word, fault),
+    }
+}
+
+// Puts in this session.
+fn write_in<J: Naming, R: Wait>(
+    rt: &R,
+    cluster: &Cluster<J>,
+    direct: &mut DirectCalls<'_, J>,
+    session: &mut Session<J>,
+    w: u8,
+    word: Word,
+    given: Given,
+) -> Outcome
+    requires room { direct.old.room ≡ MAX_NODES }
+    ensures room { direct.new.room ≡ MAX_NODES }
+    ensures told { IsWritten J J.ring J.n w given word result session.old session.new }
+{
+    let Given {
+        key,
+        context,
+        value,
+    } = given;
+    direct.renew(rt);
+    let answer = direct.put(rt, cluster, w, session, &key, &context, value);
+    written(word, answer)
+}
+
+// What came of a put, as its line tells it.
+fn written<J: Naming>(word: Word, answer: Result<PutDone<J>, PutFault>) -> Outcome
+    ensures { TellsPut word answer result }
+{
+    match answer {
+        Ok(done) => Outcome::Stored {
+            word,
+            dot: done.dot,
+            answers: done.answers,
+        },
+        Err(refusal) => {
+            let PutFault {
+                fault,
+                dot,
+                answers,
+            } = refusal;
+            match fault {
+                Fault::NotEnough => Outcome::Lacking { word, dot, answers },
+                _ => Outcome::Refused {
+                    word,
+                    fault,
+                    after: dot,
+                },
+            }
+        }
+    }
+}
+
+/// A refusal that made nothing.
+pub(crate) fn refused(word: Word, fault: Fault) -> Outcome
+    ensures { result ≡ Outcome.Refused word fault None }
+{
+    Outcome::Refused {
+        word,
+        fault,
+        after: None,
+    }
+}

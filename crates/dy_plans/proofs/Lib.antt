@@ -1,0 +1,3 @@
+pub mod AuditLines
+pub mod Refusing
+pub mod RingLines

@@ -1,0 +1,4 @@
+pub mod AuditLines
+pub mod Openings
+pub mod Refusals
+pub mod RingLines
