@@ -141,7 +141,8 @@ def program_checks() -> Iterator[Check]:
         text = text_in(readers)
         lacking = {it for it in (*COMMANDS, *MEMBERS, *MODES) if f'"{it}"' not in text}
         yield f"the words that {readers} lacks", lacking, set()
-    options = set(re.findall(OPTION, text_in("crates/dy_cli/src/*.rt")))
+    options = set(re.findall(OPTION, text_in("crates/dy_jobs/src/*.rt")))
+    yield "the program has options", bool(options), True
     for name in ("README.md", "docs/FORMATS.md", "tools/completion.bash", "tools/edges"):
         page = text_in(name)
         yield f"the options that {name} lacks", {it for it in options if it not in page}, set()
