@@ -28,6 +28,7 @@ GIVEN = {"key": "a", "node": 0, "mode": "none"}
 SEED, SEEDED = 1, 1000
 Check = Tuple[str, object, object]
 PLAIN = "benches/plain/src/*.rs"
+READERS = ["crates/dy_script/src/*.rt", "crates/dy_modes/src/*.rt"]
 OPTION = r'has_flag\(words, "(--[a-z]+)"\)'
 CONSTANT = r"const (MAX_[A-Z_]+): \w+ = ([0-9_]+);"
 # What pages say of the numbers, whole or with the words around it.
@@ -134,13 +135,13 @@ def page_checks() -> Iterator[Check]:
 def program_checks() -> Iterator[Check]:
     """Checks the sources of both programs: their limits and words, and the options of the first."""
     limits = {name: most for name, most in vars(rules).items() if name.startswith("MAX_")}
-    for files, readers in ("crates/*/src/*.rt", "crates/dy_script/src/*.rt"), (PLAIN, PLAIN):
+    for files, readers in ("crates/*/src/*.rt", READERS), (PLAIN, [PLAIN]):
         found = {name: int(most) for name, most in re.findall(CONSTANT, text_in(files))}
         others = {name for name, most in limits.items() if found.get(name) != most}
         yield f"the limits that {files} has otherwise", others, set()
-        text = text_in(readers)
+        text = "".join(map(text_in, readers))
         lacking = {it for it in (*COMMANDS, *MEMBERS, *MODES) if f'"{it}"' not in text}
-        yield f"the words that {readers} lacks", lacking, set()
+        yield f"the words that {' and '.join(readers)} lack", lacking, set()
     options = set(re.findall(OPTION, text_in("crates/dy_jobs/src/*.rt")))
     yield "the program has options", bool(options), True
     for name in ("README.md", "docs/FORMATS.md", "tools/completion.bash", "tools/edges"):

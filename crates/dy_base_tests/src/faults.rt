@@ -20,7 +20,7 @@ fn print(alloc: Global, cases: &[(Fault, &str)]) -> Result<bool, Fail> {
     Ok(true)
 }
 
-const PLAIN: [(Fault, &str); 13] = [
+const PLAIN: [(Fault, &str); 9] = [
     (Fault::OutOfMemory, "E0 OutOfMemory"),
     (Fault::ContextSyntax, "E1 ContextSyntax"),
     (Fault::KeySize, "E2 KeySize"),
@@ -30,6 +30,10 @@ const PLAIN: [(Fault, &str); 13] = [
     (Fault::VersionsFull, "E9 VersionsFull"),
     (Fault::SharesMissing, "E11 SharesMissing"),
     (Fault::StepsFull, "E12 StepsFull"),
+];
+
+/// Those of nodes that are asked.
+const ASKED: [(Fault, &str); 4] = [
     (Fault::Down, "E13 Down"),
     (Fault::NoNode, "E14 NoNode"),
     (Fault::NotEnough, "E15 NotEnough"),
@@ -51,7 +55,7 @@ const NUMBERED: [(Fault, &str); 4] = [
 
 /// Whether those that carry nothing are printed as their texts.
 fn print_plain(alloc: Global) -> Result<bool, Fail> {
-    print(alloc, PLAIN.as_slice())
+    Ok(print(alloc, PLAIN.as_slice())? && print(alloc, ASKED.as_slice())?)
 }
 
 /// Whether those that carry a number are.

@@ -5,11 +5,11 @@ ghost use Rattle.dy_cluster.specs.Tellings.{IsUntold};
 ghost use Rattle.dy_clients.specs.Runs.{EndsRun};
 ghost use Rattle.dy_clients.specs.Tellings.{ClientSaying};
 
+use crate::accesses::Access;
 use crate::clients_dones::ClientsDone;
 use crate::operators::Nobody;
 use crate::staffing::run_opened;
 use dy_book::Options;
-use dy_cluster::Connection;
 use dy_dots::Fault;
 use dy_mailboxes::Open;
 use dy_ring::Ring;
@@ -30,16 +30,14 @@ pub trait Client {
     /// as the cluster's options. A refusal ends this client alone, and is told of it.
     fn run<J: Naming, T: Transport<J>, R: Wait>(
         &self,
-        rt: &R,
-        alloc: Global,
         number: usize,
-        connection: &mut Connection<'_, J, T>,
+        lent: &mut Access<'_, J, T, R>,
     ) -> Result<(), Fault>
         requires few { number < 255 }
-        requires untold { IsUntold connection.old.session }
-        requires w { connection.old.w ≡ connection.old.cluster.now.options.w }
-        ensures told { told (setting J J.ring J.n J.r connection.old.cluster.now.options) self.now
-            number result connection.new.session };
+        requires untold { IsUntold lent.old.connection.session }
+        requires w { lent.old.connection.w ≡ lent.old.connection.cluster.now.options.w }
+        ensures told { told (setting J J.ring J.n J.r lent.old.connection.cluster.now.options)
+            self.now number result lent.new.connection.session };
 }
 
 /// Opens a cluster on the ring, runs this many clients beside each other, and closes it. Each

@@ -4,8 +4,8 @@ ghost use Rattle.dy_cluster.specs.Settings.{setting};
 ghost use Rattle.dy_clients.specs.Tellings.{SaysToo};
 
 use crate::clients::Client;
-use crate::operators::Operator;
-use crate::seats::Place;
+use crate::operators::{Controls, Operator};
+use crate::seats::{ClientRun, Place};
 use dy_cluster::Cluster;
 use dy_dots::Fault;
 use dy_mailboxes::{Gate, Inbox, Post};
@@ -14,6 +14,17 @@ use std::alloc::Global;
 use std::sync::{Mutex, Wait};
 use std::thread;
 use std::thread::Threads;
+
+// Who runs over a cluster: so many clients, with a gate workers too, and with an operator that one.
+#[derive(Drop)]
+pub(crate) struct Crew<'a, C, G, O, R> {
+    pub rt: &'a R,
+    pub alloc: Global,
+    pub clients: u8,
+    pub client: &'a C,
+    pub gate: Option<&'a G>,
+    pub operator: Option<&'a O>,
+}
 
 // The ends of the nodes' mailboxes: the inboxes, a post for each client, and one more post.
 #[derive(Drop)]
@@ -45,63 +56,96 @@ pub(crate) fn mail_for<J: Naming>(
     })
 }
 
-// Starts a worker for each node, then the operator, and then the clients. If a worker or the
-// operator could not be started, no client runs. Gives whether all of them were. A message lies in
-// a mailbox as long as any post lives, so a client would wait for ever for a worker that never
-// starts. Each thread drops its post as it ends, and so the workers end.
-pub(crate) fn run_staffed<
-    J: Naming + Send + Sync,
-    S: Place<J> + Send,
-    C: Client + Sync,
-    G: Gate + Sync,
-    O: Operator + Sync,
+impl<C: Client + Sync, G: Gate + Sync, O: Operator + Sync, R> Crew<'_, C, G, O, R>
+where
     R: Threads + Wait + Sync,
->(
-    rt: &R,
-    alloc: Global,
-    cluster: &Cluster<J>,
-    gate: &G,
-    operator: Option<&O>,
-    mail: Mail<J>,
-    client: &C,
-    seats: &[Mutex<S>],
-) -> bool
-    requires tells { SaysToo
-        (C.told (setting J J.ring J.n J.r cluster.now.options) client.now) S.told }
 {
-    let Mail {
-        inboxes,
-        posts,
-        post,
-    } = mail;
-    thread::scope(
-        thread::scope_env(),
-        rt,
-        |scope|
-            requires tells { SaysToo
-                (C.told (setting J J.ring J.n J.r cluster.now.options) client.now) S.told }
-        {
-            let mut started = 0usize;
-            for inbox in inboxes {
-                let worker = scope.spawn(move || cluster.serve(rt, inbox, gate));
-                started = started.saturating_add(usize::from(worker.is_ok()));
-            }
-            let mut is_staffed = are_all(started, cluster.nodes());
-            if is_staffed {
-                if let Some(operator) = operator {
-                    let thread = scope.spawn(move || operate(rt, alloc, cluster, operator, post));
-                    is_staffed = thread.is_ok();
+    // Starts a worker for each node, then the operator, and then the clients. If a worker or the
+    // operator could not be started, no client runs. Gives whether all of them were. A message lies
+    // in a mailbox as long as any post lives, so a client would wait for ever for a worker that
+    // never starts. Each thread drops its post as it ends, and so the workers end.
+    pub fn run_staffed<J: Naming + Send + Sync, S: Place<J> + Send>(
+        &self,
+        cluster: &Cluster<J>,
+        gate: &G,
+        mail: Mail<J>,
+        seats: &[Mutex<S>],
+    ) -> bool
+        requires tells { SaysToo
+            (C.told (setting J J.ring J.n J.r cluster.now.options) self.now.client.now) S.told }
+    {
+        let Mail {
+            inboxes,
+            posts,
+            post,
+        } = mail;
+        let (rt, alloc) = (self.rt, self.alloc);
+        thread::scope(
+            thread::scope_env(),
+            rt,
+            |scope|
+                requires tells { SaysToo
+                    (C.told (setting J J.ring J.n J.r cluster.now.options) self.now.client.now)
+                    S.told }
+            {
+                let mut started = 0usize;
+                for inbox in inboxes {
+                    let worker = scope.spawn(move || cluster.serve(rt, inbox, gate));
+                    started = started.saturating_add(usize::from(worker.is_ok()));
                 }
-            }
-            if is_staffed {
-                run_beside(rt, alloc, cluster, client, posts, seats);
-            }
-            if let Some(operator) = operator {
-                operator.end(rt);
-            }
-            is_staffed
-        },
+                let mut is_staffed = are_all(started, cluster.nodes());
+                if is_staffed {
+                    if let Some(operator) = self.operator {
+                        let run = scope.spawn(move || operate(rt, alloc, cluster, operator, post));
+                        is_staffed = run.is_ok();
+                    }
+                }
+                if is_staffed {
+                    self.run_beside(cluster, posts, seats);
+                }
+                if let Some(operator) = self.operator {
+                    operator.end(rt);
+                }
+                is_staffed
+            },
+        )
+    }
+
+    // Runs the clients, each in a thread of its own, with a post if there is one. If a thread can't
+    // be made, its client and those after it do not run. Ends when all that run are done.
+    pub fn run_beside<J: Naming + Send + Sync, S: Place<J> + Send>(
+        &self,
+        cluster: &Cluster<J>,
+        mut posts: Vec<Post<J>>,
+        seats: &[Mutex<S>],
     )
+        requires tells { SaysToo
+            (C.told (setting J J.ring J.n J.r cluster.now.options) self.now.client.now) S.told }
+    {
+        let (rt, alloc, client) = (self.rt, self.alloc, self.client);
+        thread::scope(
+            thread::scope_env(),
+            rt,
+            |scope|
+                requires tells { SaysToo
+                    (C.told (setting J J.ring J.n J.r cluster.now.options) client.now) S.told }
+            {
+                for seat in seats.iter() {
+                    let post = posts.pop();
+                    let thread = scope.spawn(
+                        move ||
+                            requires tells { SaysToo
+                                (C.told (setting J J.ring J.n J.r cluster.now.options)
+                                client.now) S.told }
+                        { sit(rt, alloc, cluster, client, seat, post) },
+                    );
+                    if thread.is_err() {
+                        break;
+                    }
+                }
+            },
+        )
+    }
 }
 
 // Whether as many threads were started as there are nodes.
@@ -117,51 +161,15 @@ fn operate<J: Naming, O: Operator, R: Wait>(
     alloc: Global,
     cluster: &Cluster<J>,
     operator: &O,
-    mut post: Post<J>,
+    post: Post<J>,
 ) {
-    operator.run(rt, alloc, cluster, &mut post);
-}
-
-// Runs the clients, each in a thread of its own, with a post if there is one. If a thread can't be
-// made, its client and those after it do not run. Ends when all that run are done.
-pub(crate) fn run_beside<
-    J: Naming + Send + Sync,
-    S: Place<J> + Send,
-    C: Client + Sync,
-    R: Threads + Wait + Sync,
->(
-    rt: &R,
-    alloc: Global,
-    cluster: &Cluster<J>,
-    client: &C,
-    mut posts: Vec<Post<J>>,
-    seats: &[Mutex<S>],
-)
-    requires tells { SaysToo
-        (C.told (setting J J.ring J.n J.r cluster.now.options) client.now) S.told }
-{
-    thread::scope(
-        thread::scope_env(),
+    let mut lent = Controls {
         rt,
-        |scope|
-            requires tells { SaysToo
-                (C.told (setting J J.ring J.n J.r cluster.now.options) client.now) S.told }
-        {
-            for seat in seats.iter() {
-                let post = posts.pop();
-                let thread = scope.spawn(
-                    move ||
-                        requires tells { SaysToo
-                            (C.told (setting J J.ring J.n J.r cluster.now.options)
-                            client.now) S.told }
-                    { sit(rt, alloc, cluster, client, seat, post) },
-                );
-                if thread.is_err() {
-                    break;
-                }
-            }
-        },
-    )
+        alloc,
+        cluster,
+        post,
+    };
+    operator.run(&mut lent);
 }
 
 // What a client's thread does.
@@ -176,5 +184,11 @@ fn sit<J: Naming, S: Place<J>, C: Client, R: Wait>(
     requires tells { SaysToo
         (C.told (setting J J.ring J.n J.r cluster.now.options) client.now) S.told }
 {
-    seat.lock(rt).run(rt, alloc, cluster, client, &mut post);
+    let of = ClientRun {
+        rt,
+        alloc,
+        cluster,
+        client,
+    };
+    seat.lock(rt).run(&of, &mut post);
 }

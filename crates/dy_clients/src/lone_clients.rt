@@ -12,8 +12,9 @@ ghost use Rattle.dy_cluster.specs.Stores.{TellsStores};
 ghost use Rattle.dy_cluster.specs.Tellings.{IsUntold};
 ghost use Rattle.dy_clients.specs.Refusals.{IsRunRefusal};
 
+use crate::accesses::Access;
 use dy_book::Options;
-use dy_cluster::{Closed, Cluster, Connection, Opened};
+use dy_cluster::{Closed, Cluster, Opened};
 use dy_dots::Fault;
 use dy_ring::Ring;
 use dy_shares::{Naming, SessionShare};
@@ -35,17 +36,15 @@ pub trait LoneClient {
     /// The session's list is empty before, and puts name as many homes as the cluster's options.
     fn run<J: Naming, T: Transport<J>, R: Wait>(
         &mut self,
-        rt: &R,
-        alloc: Global,
-        connection: &mut Connection<'_, J, T>,
+        lent: &mut Access<'_, J, T, R>,
     ) -> Result<(), Fault>
-        requires untold { IsUntold connection.old.session }
-        requires w { connection.old.w ≡ connection.old.cluster.now.options.w }
+        requires untold { IsUntold lent.old.connection.session }
+        requires w { lent.old.connection.w ≡ lent.old.connection.cluster.now.options.w }
         ensures told { IfOk result (λ _.
-            told (setting J J.ring J.n J.r connection.old.cluster.now.options) self.old self.new
-            connection.new.session) }
+            told (setting J J.ring J.n J.r lent.old.connection.cluster.now.options) self.old
+            self.new lent.new.connection.session) }
         ensures refused { IfErr result
-            (refused (setting J J.ring J.n J.r connection.old.cluster.now.options) self.old
+            (refused (setting J J.ring J.n J.r lent.old.connection.cluster.now.options) self.old
             self.new) };
 }
 
@@ -119,9 +118,14 @@ fn run_seated<J: Naming, C: LoneClient, R: Wait>(
         ⊎ C.refused (setting J J.ring J.n J.r cluster.now.options) client.old client.new fault) }
 {
     sessions.reserve(1)?;
-    let mut connection = cluster.connect(rt)?;
-    let done = client.run(rt, alloc, &mut connection);
-    let (session, _direct) = connection.into_parts();
+    let connection = cluster.connect(rt)?;
+    let mut lent = Access {
+        rt,
+        alloc,
+        connection,
+    };
+    let done = client.run(&mut lent);
+    let session = lent.into_session();
     sessions.push_reserved(session);
     done
 }

@@ -8,6 +8,7 @@ ghost use Rattle.dy_cluster.specs.Settings.{setting};
 ghost use Rattle.dy_cluster.specs.Tellings.{IsUntold};
 ghost use Rattle.dy_clients.specs.Tellings.{AreAnswered, ClientSaying, SaysToo, as_answered};
 
+use crate::accesses::Access;
 use crate::clients::Client;
 use dy_cluster::{Cluster, Connection};
 use dy_dots::Fault;
@@ -42,6 +43,15 @@ pub(crate) struct Seat<J: Naming, T: Telling> {
     ghost told: { has_run ≡ true → ForSome session (as_answered T.told number answer) },
 }
 
+// What a client is run with: the cluster, what waits for it, and the allocator.
+#[derive(Drop)]
+pub(crate) struct ClientRun<'a, J: Naming, C, R> {
+    pub rt: &'a R,
+    pub alloc: Global,
+    pub cluster: &'a Cluster<J>,
+    pub client: &'a C,
+}
+
 // What a client's thread needs of its seat. It can be sent to that thread.
 pub(crate) trait Place<J: Naming> {
     ghost told: { ClientSaying };
@@ -49,41 +59,27 @@ pub(crate) trait Place<J: Naming> {
     // Runs the client once, over the post, which is dropped then; without a post on its own thread.
     // If memory for its transport is wanting, it does not run. May wait for whatever the client
     // waits for.
-    fn run<C: Client, R: Wait>(
-        &mut self,
-        rt: &R,
-        alloc: Global,
-        cluster: &Cluster<J>,
-        client: &C,
-        post: &mut Option<Post<J>>,
-    )
+    fn run<C: Client, R: Wait>(&mut self, of: &ClientRun<'_, J, C, R>, post: &mut Option<Post<J>>)
         requires tells { SaysToo
-            (C.told (setting J J.ring J.n J.r cluster.now.options) client.now) told };
+            (C.told (setting J J.ring J.n J.r of.now.cluster.now.options) of.now.client.now) told };
 }
 
 impl<J: Naming, T: Telling> Place<J> for Seat<J, T> {
     ghost told = { T.told };
 
-    fn run<C: Client, R: Wait>(
-        &mut self,
-        rt: &R,
-        alloc: Global,
-        cluster: &Cluster<J>,
-        client: &C,
-        post: &mut Option<Post<J>>,
-    ) {
+    fn run<C: Client, R: Wait>(&mut self, of: &ClientRun<'_, J, C, R>, post: &mut Option<Post<J>>) {
         if self.has_run {
             return;
         }
         match post.take() {
             Some(mut post) => {
-                if let Ok(mailboxes) = cluster.mailboxes(&mut post) {
-                    self.run_over(rt, alloc, cluster, client, mailboxes);
+                if let Ok(mailboxes) = of.cluster.mailboxes(&mut post) {
+                    self.run_over(of, mailboxes);
                 }
             }
             None => {
-                if let Ok(direct) = cluster.direct() {
-                    self.run_over(rt, alloc, cluster, client, direct);
+                if let Ok(direct) = of.cluster.direct() {
+                    self.run_over(of, direct);
                 }
             }
         }
@@ -94,26 +90,28 @@ impl<J: Naming, T: Telling> Seat<J, T> {
     // Runs the client over this transport.
     fn run_over<C: Client, M: Transport<J> + Drop, R: Wait>(
         &mut self,
-        rt: &R,
-        alloc: Global,
-        cluster: &Cluster<J>,
-        client: &C,
+        of: &ClientRun<'_, J, C, R>,
         transport: M,
     )
         requires room { MAX_NODES ≤ (M.told transport).room }
         requires fresh { self.old.has_run ≡ false }
         requires tells { SaysToo
-            (C.told (setting J J.ring J.n J.r cluster.now.options) client.now) T.told }
+            (C.told (setting J J.ring J.n J.r of.now.cluster.now.options) of.now.client.now)
+            T.told }
         ensures told { self.new.has_run ≡ true → ForSome self.new.session
-            (C.told (setting J J.ring J.n J.r cluster.now.options) client.now self.new.number
-            self.new.answer) }
+            (C.told (setting J J.ring J.n J.r of.now.cluster.now.options) of.now.client.now
+            self.new.number self.new.answer) }
     {
         let Some(session) = self.session.take() else {
             return;
         };
-        let mut connection = Connection::new(cluster, session, transport);
-        let answer = client.run(rt, alloc, self.number, &mut connection);
-        let (session, _transport) = connection.into_parts();
+        let mut lent = Access {
+            rt: of.rt,
+            alloc: of.alloc,
+            connection: Connection::new(of.cluster, session, transport),
+        };
+        let answer = of.client.run(self.number, &mut lent);
+        let session = lent.into_session();
         match self.session.replace(session) {
             None => {
                 self.answer = answer;

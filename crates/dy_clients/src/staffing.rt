@@ -13,7 +13,7 @@ ghost use Rattle.dy_clients.specs.Tellings.{AreAnswered, SaysToo, as_answered};
 
 use crate::clients::Client;
 use crate::clients_dones::ClientsDone;
-use crate::crews::{mail_for, run_beside, run_staffed};
+use crate::crews::{Crew, mail_for};
 use crate::operators::{Nobody, Operator};
 use crate::seats::{Seat, Telling, rise_all, seat_all};
 use dy_book::Options;
@@ -50,12 +50,7 @@ pub fn with_workers<C: Client + Sync, G: Gate + Sync, R: Threads + Wait + Sync>(
 
 // Opens a cluster on the ring, picks a name for it, and runs the clients. With a gate workers run
 // beside them, and with an operator that one too.
-pub(crate) fn run_opened<
-    C: Client + Sync,
-    G: Gate + Sync,
-    O: Operator + Sync,
-    R: Threads + Wait + Sync,
->(
+pub(crate) fn run_opened<C: Client + Sync, G: Gate + Sync, O: Operator + Sync, R>(
     rt: &R,
     alloc: Global,
     ring: Ring,
@@ -65,103 +60,82 @@ pub(crate) fn run_opened<
     clients: u8,
     client: &C,
 ) -> Result<ClientsDone, Fault>
+where
+    R: Threads + Wait + Sync,
     ensures { EndsRun ring options clients
         (C.told (setting BrandParts ring options.n options.r options) client.now) result }
 {
     let opened = Opened::new(alloc, ring, options)?;
-    run_clients::<Brand, C, G, O, R>(rt, alloc, opened, gate, operator, clients, client)
-}
-
-// Opens a cluster of the picked name, runs the clients, and closes it.
-fn run_clients<
-    J: Naming + Send + Sync,
-    C: Client + Sync,
-    G: Gate + Sync,
-    O: Operator + Sync,
-    R: Threads + Wait + Sync,
->(
-    rt: &R,
-    alloc: Global,
-    opened: Opened,
-    gate: Option<&G>,
-    operator: Option<&O>,
-    clients: u8,
-    client: &C,
-) -> Result<ClientsDone, Fault>
-    requires named { NamesBook J.book J.table J.ring J.n J.r opened }
-    ensures stores { IfOk result (λ done. TellsStores opened.ring opened.options.n done.closed) }
-    ensures closed { IfOk result (HaveRun opened.ring opened.options clients
-        (C.told (setting J opened.ring opened.options.n opened.options.r opened.options)
-        client.now)) }
-    ensures only { IfErr result IsRunRefusal }
-{
-    let cluster = Cluster::<J>::open(alloc, opened)?;
-    let mut sessions = Vec::new(alloc);
-    let answered = run_seated::<J, Brand, C, G, O, R>(
+    let crew = Crew {
         rt,
         alloc,
-        &cluster,
-        gate,
-        operator,
-        &mut sessions,
         clients,
         client,
-    );
-    let closed = cluster.end(sessions)?;
-    let answers = answered?;
-    Ok(ClientsDone { closed, answers })
+        gate,
+        operator,
+    };
+    crew.run_named::<Brand>(opened)
 }
 
-// Opens a session for each client, and runs them. Afterwards the sessions are in the list again.
-// Gives what each client answered.
-fn run_seated<
-    J: Naming + Send + Sync,
-    T: Telling + Send + Sync,
-    C: Client + Sync,
-    G: Gate + Sync,
-    O: Operator + Sync,
+impl<C: Client + Sync, G: Gate + Sync, O: Operator + Sync, R> Crew<'_, C, G, O, R>
+where
     R: Threads + Wait + Sync,
->(
-    rt: &R,
-    alloc: Global,
-    cluster: &Cluster<J>,
-    gate: Option<&G>,
-    operator: Option<&O>,
-    sessions: &mut Vec<SessionShare<J>>,
-    clients: u8,
-    client: &C,
-) -> Result<Vec<Result<(), Fault>>, Fault>
-    requires none { sessions.old.items ≡ [] }
-    requires tells { SaysToo
-        (C.told (setting J J.ring J.n J.r cluster.now.options) client.now) T.told }
-    ensures ok { IfOk result (λ _. length sessions.new.items ≡ clients) }
-    ensures answers { IfOk result (λ answers. length answers.items ≡ clients) }
-    ensures told { IfOk result (λ answers.
-        AreAnswered (as_answered T.told) answers.items sessions.new.items) }
-    ensures only { IfErr result IsRunRefusal }
 {
-    seat_clients(rt, cluster, sessions, clients)?;
-    let mut answers = Vec::with_capacity(alloc, sessions.len())?;
-    let mail = match gate {
-        Some(_gate) => Some(mail_for(alloc, cluster, clients)?),
-        None => None,
-    };
-    let mut seats = Vec::<Mutex<Seat<J, T>>>::with_capacity(alloc, sessions.len())?;
-    seat_all(sessions, &mut seats);
-    let places = seats.as_slice();
-    let is_staffed = match (gate, mail) {
-        (Some(gate), Some(mail)) => {
-            run_staffed(rt, alloc, cluster, gate, operator, mail, client, places)
-        }
-        _ => {
-            run_beside(rt, alloc, cluster, client, Vec::new(alloc), places);
-            true
-        }
-    };
-    let have_run = rise_all(&mut seats, sessions, &mut answers);
-    seats.destroy_empty();
-    end_of(is_staffed, have_run)?;
-    Ok(answers)
+    // Opens a cluster of the picked name, runs the clients, and closes it.
+    fn run_named<J: Naming + Send + Sync>(&self, opened: Opened) -> Result<ClientsDone, Fault>
+        requires named { NamesBook J.book J.table J.ring J.n J.r opened }
+        ensures stores { IfOk result (λ done.
+            TellsStores opened.ring opened.options.n done.closed) }
+        ensures closed { IfOk result (HaveRun opened.ring opened.options self.now.clients
+            (C.told (setting J opened.ring opened.options.n opened.options.r opened.options)
+            self.now.client.now)) }
+        ensures only { IfErr result IsRunRefusal }
+    {
+        let cluster = Cluster::<J>::open(self.alloc, opened)?;
+        let mut sessions = Vec::new(self.alloc);
+        let answered = self.run_seated::<J, Brand>(&cluster, &mut sessions);
+        let closed = cluster.end(sessions)?;
+        let answers = answered?;
+        Ok(ClientsDone { closed, answers })
+    }
+
+    // Opens a session for each client, and runs them. Afterwards the sessions are in the list
+    // again. Gives what each client answered.
+    fn run_seated<J: Naming + Send + Sync, T: Telling + Send + Sync>(
+        &self,
+        cluster: &Cluster<J>,
+        sessions: &mut Vec<SessionShare<J>>,
+    ) -> Result<Vec<Result<(), Fault>>, Fault>
+        requires none { sessions.old.items ≡ [] }
+        requires tells { SaysToo
+            (C.told (setting J J.ring J.n J.r cluster.now.options) self.now.client.now) T.told }
+        ensures ok { IfOk result (λ _. length sessions.new.items ≡ self.now.clients) }
+        ensures answers { IfOk result (λ answers. length answers.items ≡ self.now.clients) }
+        ensures told { IfOk result (λ answers.
+            AreAnswered (as_answered T.told) answers.items sessions.new.items) }
+        ensures only { IfErr result IsRunRefusal }
+    {
+        seat_clients(self.rt, cluster, sessions, self.clients)?;
+        let mut answers = Vec::with_capacity(self.alloc, sessions.len())?;
+        let mail = match self.gate {
+            Some(_gate) => Some(mail_for(self.alloc, cluster, self.clients)?),
+            None => None,
+        };
+        let mut seats = Vec::<Mutex<Seat<J, T>>>::with_capacity(self.alloc, sessions.len())?;
+        seat_all(sessions, &mut seats);
+        let places = seats.as_slice();
+        let is_staffed = match (self.gate, mail) {
+            (Some(gate), Some(mail)) => self.run_staffed(cluster, gate, mail, places),
+            _ => {
+                self.run_beside(cluster, Vec::new(self.alloc), places);
+                true
+            }
+        };
+        let have_run = rise_all(&mut seats, sessions, &mut answers);
+        seats.destroy_empty();
+        end_of(is_staffed, have_run)?;
+        Ok(answers)
+    }
 }
 
 // Opens a session for each client.

@@ -11,6 +11,8 @@ mod fulls;
 #[cfg(test)]
 mod growths;
 #[cfg(test)]
+mod held_puts;
+#[cfg(test)]
 mod holds;
 #[cfg(test)]
 mod lates;

@@ -1,6 +1,6 @@
 // A scene's clients in threads of their own, beside the workers of five nodes.
 use dy_clients::{
-    Ask, Client, Closed, Connection, Fault, Gate, Naming, NodeId, Transport, with_workers,
+    Access, Ask, Client, Closed, Fault, Gate, Naming, NodeId, Transport, with_workers,
 };
 use dy_scenes::{Caller, Scene, five_nodes, options, play};
 use std::alloc::Global;
@@ -27,15 +27,13 @@ impl<S: Scene> Gate for Played<'_, S> {
 impl<S: Scene> Client for Played<'_, S> {
     fn run<J: Naming, T: Transport<J>, R: Wait>(
         &self,
-        rt: &R,
-        alloc: Global,
         number: usize,
-        connection: &mut Connection<'_, J, T>,
+        lent: &mut Access<'_, J, T, R>,
     ) -> Result<(), Fault> {
         let client = Caller {
-            rt,
-            alloc,
-            connection,
+            rt: lent.rt,
+            alloc: lent.alloc,
+            connection: &mut lent.connection,
         };
         play(self.scene, number, client)
     }

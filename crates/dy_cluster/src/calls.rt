@@ -4,6 +4,7 @@ ghost use Rattle.dy_dots.specs.declared.nodes.TheConstants.{MAX_NODES};
 ghost use Rattle.dy_shares.specs.Shares.{since_of, with_get};
 ghost use Rattle.dy_reads.specs.Lists.{homes_in};
 ghost use Rattle.dy_quorum.specs.Gatherings.{first_answers};
+ghost use Rattle.dy_coord.specs.Calls.{IsFresh};
 ghost use Rattle.dy_coord.specs.Gets.{IsGetRefused, IsGot};
 ghost use Rattle.dy_coord.specs.PutDones.{IsPutDone};
 ghost use Rattle.dy_coord.specs.PutEnds.{PutEnds};
@@ -11,9 +12,11 @@ ghost use Rattle.dy_repair.specs.Repairs.{IsRepaired};
 ghost use Rattle.dy_repair.specs.Stales.{AreCurrent};
 ghost use Rattle.dy_cluster.specs.Connections.{IsMended};
 ghost use Rattle.dy_cluster.specs.Lists.{list_of};
+ghost use Rattle.dy_cluster.specs.inside.Calls.{GetsBy, IsUnasked, KeepsTries, PutsBy};
 
 use crate::clusters::Cluster;
 use crate::kept_lists::KeptLists;
+use crate::put_calls::PutCall;
 use dy_coord::{GetDone, GetFault, PutDone, PutFault};
 use dy_dots::{Context, Fault};
 use dy_preference::{Preference, preference};
@@ -43,10 +46,7 @@ impl<J: Naming> Cluster<J> {
         context: &Context,
         value: Option<Value>,
     ) -> Result<PutDone<J>, PutFault>
-        requires fresh_tries { (T.told transport.old).tries ≡ [] }
-        requires fresh_asks { (T.told transport.old).asks ≡ [] }
-        requires fresh_replies { (T.told transport.old).replies ≡ [] }
-        requires room { MAX_NODES ≤ (T.told transport.old).room }
+        requires fresh { IsFresh (T.told transport.old) }
         ensures ends { PutEnds {J = J} (list_of J.ring J.n key.now) w key.now context.now value
             session.old session.new (T.told transport.old) (T.told transport.new) result }
         ensures ok { IfOk result (IsPutDone session.old session.new key.now w) }
@@ -54,36 +54,35 @@ impl<J: Naming> Cluster<J> {
         ensures room { (T.told transport.new).room ≡ (T.told transport.old).room }
     {
         let list = self.list(key);
-        self.put_listed(rt, transport, &list, w, session, key, context, value)
+        let call = PutCall {
+            key,
+            context,
+            value,
+            w,
+        };
+        self.put_listed(rt, call, transport, session, &list)
     }
 
     // The same, by the list that is kept of the key, or by one that is kept then.
     pub(crate) fn put_kept<T: Transport<J>, R: Wait>(
         &self,
         rt: &R,
+        call: PutCall<'_>,
         transport: &mut T,
-        lists: &mut KeptLists<J>,
-        w: u8,
         session: &mut SessionShare<J>,
-        key: &Key,
-        context: &Context,
-        value: Option<Value>,
+        lists: &mut KeptLists<J>,
     ) -> Result<PutDone<J>, PutFault>
-        requires fresh_tries { (T.told transport.old).tries ≡ [] }
-        requires fresh_asks { (T.told transport.old).asks ≡ [] }
-        requires fresh_replies { (T.told transport.old).replies ≡ [] }
-        requires room { MAX_NODES ≤ (T.told transport.old).room }
-        ensures ends { PutEnds {J = J} (list_of J.ring J.n key.now) w key.now context.now value
-            session.old session.new (T.told transport.old) (T.told transport.new) result }
-        ensures ok { IfOk result (IsPutDone session.old session.new key.now w) }
-        ensures err { OnErr result (session.new ≡ session.old) }
-        ensures room { (T.told transport.new).room ≡ (T.told transport.old).room }
+        requires fresh { IsFresh (T.told transport.old) }
+        ensures { PutsBy {J = J} (list_of J.ring J.n call.entry.key.now) call.entry.w
+            call.entry.key.now call.entry.context.now call.entry.value session.old session.new
+            (T.told transport.old) (T.told transport.new) result }
     {
+        let key = call.key;
         match lists.find(key) {
-            Some(list) => self.put_listed(rt, transport, list, w, session, key, context, value),
+            Some(list) => self.put_listed(rt, call, transport, session, list),
             None => {
                 let list = self.list(key);
-                let done = self.put_listed(rt, transport, &list, w, session, key, context, value);
+                let done = self.put_listed(rt, call, transport, session, &list);
                 lists.keep(self.alloc, key, list);
                 done
             }
@@ -94,25 +93,23 @@ impl<J: Naming> Cluster<J> {
     fn put_listed<T: Transport<J>, R: Wait>(
         &self,
         rt: &R,
+        call: PutCall<'_>,
         transport: &mut T,
-        list: &Preference,
-        w: u8,
         session: &mut SessionShare<J>,
-        key: &Key,
-        context: &Context,
-        value: Option<Value>,
+        list: &Preference,
     ) -> Result<PutDone<J>, PutFault>
-        requires list { list.now ≡ list_of J.ring J.n key.now }
-        requires fresh_tries { (T.told transport.old).tries ≡ [] }
-        requires fresh_asks { (T.told transport.old).asks ≡ [] }
-        requires fresh_replies { (T.told transport.old).replies ≡ [] }
-        requires room { MAX_NODES ≤ (T.told transport.old).room }
-        ensures ends { PutEnds {J = J} (list_of J.ring J.n key.now) w key.now context.now value
-            session.old session.new (T.told transport.old) (T.told transport.new) result }
-        ensures ok { IfOk result (IsPutDone session.old session.new key.now w) }
-        ensures err { OnErr result (session.new ≡ session.old) }
-        ensures room { (T.told transport.new).room ≡ (T.told transport.old).room }
+        requires list { list.now ≡ list_of J.ring J.n call.key.now }
+        requires fresh { IsFresh (T.told transport.old) }
+        ensures { PutsBy {J = J} (list_of J.ring J.n call.entry.key.now) call.entry.w
+            call.entry.key.now call.entry.context.now call.entry.value session.old session.new
+            (T.told transport.old) (T.told transport.new) result }
     {
+        let PutCall {
+            key,
+            context,
+            value,
+            w,
+        } = call;
         dy_coord::put(
             rt, self.alloc, transport, list, w, session, key, context, value,
         )
@@ -128,10 +125,7 @@ impl<J: Naming> Cluster<J> {
         key: &Key,
         context: &Context,
     ) -> Result<PutDone<J>, PutFault>
-        requires fresh_tries { (T.told transport.old).tries ≡ [] }
-        requires fresh_asks { (T.told transport.old).asks ≡ [] }
-        requires fresh_replies { (T.told transport.old).replies ≡ [] }
-        requires room { MAX_NODES ≤ (T.told transport.old).room }
+        requires fresh { IsFresh (T.told transport.old) }
         ensures ends { PutEnds {J = J} (list_of J.ring J.n key.now) w key.now context.now None
             session.old session.new (T.told transport.old) (T.told transport.new) result }
         ensures ok { IfOk result (IsPutDone session.old session.new key.now w) }
@@ -149,10 +143,7 @@ impl<J: Naming> Cluster<J> {
         session: &mut SessionShare<J>,
         key: &Key,
     ) -> Result<GetDone<J>, GetFault>
-        requires fresh_tries { (T.told transport.old).tries ≡ [] }
-        requires fresh_asks { (T.told transport.old).asks ≡ [] }
-        requires fresh_replies { (T.told transport.old).replies ≡ [] }
-        requires room { MAX_NODES ≤ (T.told transport.old).room }
+        requires fresh { IsFresh (T.told transport.old) }
         ensures ok { IfOk result (λ done. IsGot (list_of J.ring J.n key.now) key.now J.r
             (since_of session.old) (T.told transport.new) done) }
         ensures told { IfOk result (λ done. session.new ≡
@@ -175,18 +166,9 @@ impl<J: Naming> Cluster<J> {
         session: &mut SessionShare<J>,
         key: &Key,
     ) -> Result<GetDone<J>, GetFault>
-        requires fresh_tries { (T.told transport.old).tries ≡ [] }
-        requires fresh_asks { (T.told transport.old).asks ≡ [] }
-        requires fresh_replies { (T.told transport.old).replies ≡ [] }
-        requires room { MAX_NODES ≤ (T.told transport.old).room }
-        ensures ok { IfOk result (λ done. IsGot (list_of J.ring J.n key.now) key.now J.r
-            (since_of session.old) (T.told transport.new) done) }
-        ensures told { IfOk result (λ done. session.new ≡
-            with_get session.old (since_of session.old) (first_answers done.seen.items)) }
-        ensures err { OnErr result (session.new ≡ session.old) }
-        ensures room { (T.told transport.new).room ≡ (T.told transport.old).room }
-        ensures refused { IfErr result (λ e. IsGetRefused (list_of J.ring J.n key.now) key.now J.r
-            (since_of session.old) (T.told transport.new) e) }
+        requires fresh { IsFresh (T.told transport.old) }
+        ensures { GetsBy {J = J} (list_of J.ring J.n key.now) key.now J.r session.old session.new
+            (T.told transport.old) (T.told transport.new) result }
     {
         match lists.find(key) {
             Some(list) => self.get_listed(rt, transport, list, session, key),
@@ -209,18 +191,9 @@ impl<J: Naming> Cluster<J> {
         key: &Key,
     ) -> Result<GetDone<J>, GetFault>
         requires list { list.now ≡ list_of J.ring J.n key.now }
-        requires fresh_tries { (T.told transport.old).tries ≡ [] }
-        requires fresh_asks { (T.told transport.old).asks ≡ [] }
-        requires fresh_replies { (T.told transport.old).replies ≡ [] }
-        requires room { MAX_NODES ≤ (T.told transport.old).room }
-        ensures ok { IfOk result (λ done. IsGot (list_of J.ring J.n key.now) key.now J.r
-            (since_of session.old) (T.told transport.new) done) }
-        ensures told { IfOk result (λ done. session.new ≡
-            with_get session.old (since_of session.old) (first_answers done.seen.items)) }
-        ensures err { OnErr result (session.new ≡ session.old) }
-        ensures room { (T.told transport.new).room ≡ (T.told transport.old).room }
-        ensures refused { IfErr result (λ e. IsGetRefused (list_of J.ring J.n key.now) key.now J.r
-            (since_of session.old) (T.told transport.new) e) }
+        requires fresh { IsFresh (T.told transport.old) }
+        ensures { GetsBy {J = J} (list_of J.ring J.n key.now) key.now J.r session.old session.new
+            (T.told transport.old) (T.told transport.new) result }
     {
         let r = self.options.r;
         dy_coord::get(rt, self.alloc, transport, list, r, session, key)
@@ -259,15 +232,12 @@ impl<J: Naming> Cluster<J> {
         seens: &[Seen<J>],
         row: &Row,
     ) -> Result<(), Fault>
-        requires fresh_asks { (T.told transport.old).asks ≡ [] }
-        requires fresh_replies { (T.told transport.old).replies ≡ [] }
-        requires room { MAX_NODES ≤ (T.told transport.old).room }
+        requires unasked { IsUnasked (T.told transport.old) }
         ensures ok { IfOk result (λ _. IsRepaired (homes_in (list_of J.ring J.n row.now.key))
             row.now seens.now (T.told transport.new)) }
         ensures err { IfErr result (λ _. T.told transport.new ≡ T.told transport.old) }
         ensures memory { IsOkUnless result Fault.OutOfMemory }
-        ensures tries { (T.told transport.new).tries ≡ (T.told transport.old).tries }
-        ensures room { (T.told transport.new).room ≡ (T.told transport.old).room }
+        ensures stays { KeepsTries (T.told transport.old) (T.told transport.new) }
     {
         match lists.find(row.key()) {
             Some(list) => dy_repair::repair(rt, self.alloc, transport, seens, row, list),

@@ -15,6 +15,7 @@ ghost use Rattle.dy_cluster.specs.Tellings.{IsUntold};
 use crate::clusters::Cluster;
 use crate::kept_lists::KeptLists;
 use crate::mending_gets::MendingGet;
+use crate::put_calls::PutCall;
 use dy_coord::{GetDone, GetFault, PutDone, PutFault};
 use dy_dots::{Context, Fault};
 use dy_mailboxes::{Mailboxes, Post};
@@ -146,7 +147,13 @@ impl<'a, J: Naming, T: Transport<J>> Connection<'a, J, T> {
         ensures err { OnErr result (self.new.session ≡ self.old.session) }
         ensures w { self.new.w ≡ self.old.w }
     {
-        self.write(rt, w, key, context, Some(value))
+        let call = PutCall {
+            key,
+            context,
+            value: Some(value),
+            w,
+        };
+        self.write(rt, call)
     }
 
     /// Deletes the key with this context, at the connection's w homes. May wait for answers and
@@ -165,22 +172,22 @@ impl<'a, J: Naming, T: Transport<J>> Connection<'a, J, T> {
         ensures err { OnErr result (self.new.session ≡ self.old.session) }
         ensures w { self.new.w ≡ self.old.w }
     {
-        self.write(rt, self.w, key, context, None)
+        let call = PutCall {
+            key,
+            context,
+            value: None,
+            w: self.w,
+        };
+        self.write(rt, call)
     }
 
-    // Puts a value, or none, at w homes.
-    fn write<R: Wait>(
-        &mut self,
-        rt: &R,
-        w: u8,
-        key: &Key,
-        context: &Context,
-        value: Option<Value>,
-    ) -> Result<PutDone<J>, PutFault>
-        ensures ends { PutEndsAnew {J = J} (list_of J.ring J.n key.now) w key.now
-            context.now value self.old.session self.new.session
-            (T.told self.old.transport) (T.told self.new.transport) result }
-        ensures ok { IfOk result (IsPutDone self.old.session self.new.session key.now w) }
+    // Puts a value, or none.
+    fn write<R: Wait>(&mut self, rt: &R, call: PutCall<'_>) -> Result<PutDone<J>, PutFault>
+        ensures ends { PutEndsAnew {J = J} (list_of J.ring J.n call.entry.key.now) call.entry.w
+            call.entry.key.now call.entry.context.now call.entry.value self.old.session
+            self.new.session (T.told self.old.transport) (T.told self.new.transport) result }
+        ensures ok { IfOk result
+            (IsPutDone self.old.session self.new.session call.entry.key.now call.entry.w) }
         ensures err { OnErr result (self.new.session ≡ self.old.session) }
         ensures w { self.new.w ≡ self.old.w }
     {
@@ -189,13 +196,10 @@ impl<'a, J: Naming, T: Transport<J>> Connection<'a, J, T> {
         }
         self.cluster.put_kept(
             rt,
+            call,
             &mut self.transport,
-            &mut self.lists,
-            w,
             &mut self.session,
-            key,
-            context,
-            value,
+            &mut self.lists,
         )
     }
 

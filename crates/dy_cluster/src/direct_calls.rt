@@ -13,6 +13,7 @@ ghost use Rattle.dy_cluster.specs.Lists.{list_of};
 
 use crate::clusters::Cluster;
 use crate::kept_lists::KeptLists;
+use crate::put_calls::PutCall;
 use dy_coord::{GetDone, GetFault, PutDone, PutFault};
 use dy_dots::{Context, Fault};
 use dy_shares::{Naming, SessionShare};
@@ -89,16 +90,13 @@ impl<'a, J: Naming> DirectCalls<'a, J> {
         ensures err { OnErr result (session.new ≡ session.old) }
         ensures room { self.new.room ≡ self.old.room }
     {
-        cluster.put_kept(
-            rt,
-            &mut self.direct,
-            &mut self.lists,
-            w,
-            session,
+        let call = PutCall {
             key,
             context,
             value,
-        )
+            w,
+        };
+        cluster.put_kept(rt, call, &mut self.direct, session, &mut self.lists)
     }
 
     /// A get of the key. May wait for locks.

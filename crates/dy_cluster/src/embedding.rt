@@ -10,12 +10,13 @@ ghost use Rattle.dy_cluster.specs.Settings.{Setting, setting};
 ghost use Rattle.dy_cluster.specs.Stores.{TellsStores};
 
 use crate::clusters::Cluster;
+use crate::open_clusters::OpenCluster;
 use crate::openings::Opened;
 use crate::restings::Closed;
 use dy_book::Options;
 use dy_dots::Fault;
 use dy_ring::Ring;
-use dy_shares::{Naming, SessionShare};
+use dy_shares::Naming;
 use std::alloc::Global;
 use std::marker::Brand;
 use std::sync::Wait;
@@ -30,19 +31,14 @@ pub trait Work {
     // out, it says nothing.
     ghost refused: { Setting → Self → Self → FaultParts → Type 0 } = { λ _ _ _ _. Unit {0} };
 
-    /// When the cluster closes, the sessions in the list are handed in.
-    fn run<J: Naming, R: Wait>(
-        &mut self,
-        rt: &R,
-        alloc: Global,
-        cluster: &Cluster<J>,
-        sessions: &mut Vec<SessionShare<J>>,
-    ) -> Result<(), Fault>
-        requires none { sessions.old.items ≡ [] }
-        ensures told { IfOk result (λ _. told (setting J J.ring J.n J.r cluster.now.options)
-            self.old self.new sessions.new.items) }
-        ensures refused { IfErr result (refused (setting J J.ring J.n J.r cluster.now.options)
-            self.old self.new) };
+    /// When the cluster closes, the sessions in its list are handed in.
+    fn run<J: Naming, R: Wait>(&mut self, lent: &mut OpenCluster<'_, J, R>) -> Result<(), Fault>
+        requires none { lent.old.sessions.items ≡ [] }
+        ensures told { IfOk result (λ _.
+            told (setting J J.ring J.n J.r lent.old.cluster.now.options) self.old self.new
+            lent.new.sessions.items) }
+        ensures refused { IfErr result
+            (refused (setting J J.ring J.n J.r lent.old.cluster.now.options) self.old self.new) };
 }
 
 /// Opens a cluster on the ring, runs the work, and closes the cluster. A refusal of the work is
@@ -90,8 +86,14 @@ fn run_named<J: Naming, W: Work, R: Wait>(
         work.old work.new fault) }
 {
     let cluster = Cluster::<J>::open(alloc, opened)?;
-    let mut sessions = Vec::new(alloc);
-    let done = work.run(rt, alloc, &cluster, &mut sessions);
+    let mut lent = OpenCluster {
+        rt,
+        alloc,
+        cluster: &cluster,
+        sessions: Vec::new(alloc),
+    };
+    let done = work.run(&mut lent);
+    let sessions = lent.into_sessions();
     let closed = cluster.end(sessions)?;
     done?;
     Ok(closed)

@@ -12,6 +12,7 @@ ghost use Rattle.dy_cluster.specs.Settings.{Setting, setting};
 
 use crate::clusters::Cluster;
 use crate::marks::Mark;
+use crate::open_clusters::OpenCluster;
 use crate::openings::Opened;
 use crate::restings::{Closed, check_options};
 use dy_book::Options;
@@ -33,21 +34,19 @@ pub trait MarkedWork {
     // out, it says nothing.
     ghost refused: { Setting → Self → Self → FaultParts → Type 0 } = { λ _ _ _ _. Unit {0} };
 
-    /// When the cluster closes, the sessions in the list are handed in. Its log then begins with
+    /// When the cluster closes, the sessions in its list are handed in. Its log then begins with
     /// what the mark says.
     fn run<J: Naming, R: Wait>(
         &mut self,
-        rt: &R,
-        alloc: Global,
-        cluster: &Cluster<J>,
-        sessions: &mut Vec<SessionShare<J>>,
+        lent: &mut OpenCluster<'_, J, R>,
         mark: &mut Mark<J>,
     ) -> Result<(), Fault>
-        requires none { sessions.old.items ≡ [] }
-        ensures told { IfOk result (λ _. told (setting J J.ring J.n J.r cluster.now.options)
-            self.old self.new sessions.new.items mark.new) }
-        ensures refused { IfErr result (refused (setting J J.ring J.n J.r cluster.now.options)
-            self.old self.new) };
+        requires none { lent.old.sessions.items ≡ [] }
+        ensures told { IfOk result (λ _.
+            told (setting J J.ring J.n J.r lent.old.cluster.now.options) self.old self.new
+            lent.new.sessions.items mark.new) }
+        ensures refused { IfErr result
+            (refused (setting J J.ring J.n J.r lent.old.cluster.now.options) self.old self.new) };
 }
 
 /// Opens a cluster on the ring, runs the work, and closes the cluster, whose log begins with what
@@ -95,9 +94,15 @@ fn run_marked<J: Naming, W: MarkedWork, R: Wait>(
         work.old work.new fault) }
 {
     let cluster = Cluster::<J>::open(alloc, opened)?;
-    let mut sessions = Vec::new(alloc);
+    let mut lent = OpenCluster {
+        rt,
+        alloc,
+        cluster: &cluster,
+        sessions: Vec::new(alloc),
+    };
     let mut mark = Mark::new();
-    let done = work.run(rt, alloc, &cluster, &mut sessions, &mut mark);
+    let done = work.run(&mut lent, &mut mark);
+    let sessions = lent.into_sessions();
     let closed = close_behind(cluster, sessions, &mark)?;
     done?;
     Ok(closed)

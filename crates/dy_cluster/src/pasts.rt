@@ -14,7 +14,6 @@ use std::marker::Model;
 // Pasts by key.
 #[derive(Drop)]
 pub(crate) struct Pasts {
-    alloc: Global,
     keys: BTreeMap<Key, Context>,
 }
 
@@ -35,25 +34,24 @@ impl Pasts {
         ensures { result ≡ maps.empty }
     {
         Pasts {
-            alloc,
             keys: BTreeMap::new(alloc),
         }
     }
 
     // Adds a past to the key's.
-    fn add(&mut self, key: &Key, past: &Context) -> Result<(), Fault>
+    fn add(&mut self, alloc: Global, key: &Key, past: &Context) -> Result<(), Fault>
         ensures ok { OnOk result (self.new ≡ with_past self.old key.now past.now) }
         ensures memory { IsOkUnless result Fault.OutOfMemory }
     {
         match self.keys.get_mut(key) {
             Some(known) => {
-                known.union(self.alloc, past)?;
+                known.union(alloc, past)?;
                 Ok(())
             }
             None => {
-                let mut known = Context::new(self.alloc);
-                known.union(self.alloc, past)?;
-                let key = key.try_clone(self.alloc)?;
+                let mut known = Context::new(alloc);
+                known.union(alloc, past)?;
+                let key = key.try_clone(alloc)?;
                 self.keys.insert(key, known)?;
                 Ok(())
             }
@@ -61,12 +59,12 @@ impl Pasts {
     }
 
     // Adds what the versions of the row follow.
-    fn add_row(&mut self, row: &Row) -> Result<(), Fault>
+    fn add_row(&mut self, alloc: Global, row: &Row) -> Result<(), Fault>
         ensures ok { OnOk result (self.new ≡ with_row_pasts self.old row.now.key row.now.versions) }
         ensures memory { IsOkUnless result Fault.OutOfMemory }
     {
         for version in row.versions() {
-            self.add(row.key(), version.past())?;
+            self.add(alloc, row.key(), version.past())?;
         }
         Ok(())
     }
@@ -89,7 +87,7 @@ pub(crate) fn pasts_of(alloc: Global, held: &[Holding]) -> Result<Pasts, Fault>
 {
     let mut pasts = Pasts::new(alloc);
     for holding in held {
-        pasts.add_row(&holding.row)?;
+        pasts.add_row(alloc, &holding.row)?;
     }
     Ok(pasts)
 }

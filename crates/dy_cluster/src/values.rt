@@ -6,7 +6,7 @@ ghost use Rattle.dy_book.specs.inside.Lists.{IsInOrder};
 
 use crate::pasts::{Pasts, pasts_of};
 use crate::restings::Closed;
-use dy_core::{Holding, Ranked};
+use dy_core::Holding;
 use dy_dots::{Dot, Fault};
 use dy_siblings::{Key, Row, Value};
 use std::alloc::Global;
@@ -20,17 +20,14 @@ pub struct PresentValue {
     pub value: Value,
 }
 
-impl Ranked for PresentValue {
-    ghost use Rattle.dy_cluster.specs.PresentValues.{present_cmp};
-
-    ghost ranked = { present_cmp };
-
-    fn rank(&self, other: &PresentValue) -> Ordering {
-        self.key
-            .cmp(&other.key)
-            .then(self.dot.cmp(&other.dot))
-            .then(self.value.as_bytes().cmp(other.value.as_bytes()))
-    }
+// How two values are ordered: by key, then by dot, and by value where two had one dot.
+fn compare(item: &PresentValue, other: &PresentValue) -> Ordering
+    ensures { result ≡ present_cmp item.now other.now }
+{
+    item.key
+        .cmp(&other.key)
+        .then(item.dot.cmp(&other.dot))
+        .then(item.value.as_bytes().cmp(other.value.as_bytes()))
 }
 
 // Adds the row's present values whose dot lies in the past of no version of its key.
@@ -77,8 +74,8 @@ fn ordered(mut found: Vec<PresentValue>) -> Result<Vec<PresentValue>, Fault>
     ensures ok { IfOk result (λ list. IsInOrder present_cmp found.items list.items) }
     ensures memory { IsOkUnless result Fault.OutOfMemory }
 {
-    found.sort_by(|item, other| item.rank(other))?;
-    found.dedup_by(|item, other| item.rank(other) == Ordering::Equal);
+    found.sort_by(|item, other| compare(item, other))?;
+    found.dedup_by(|item, other| compare(item, other) == Ordering::Equal);
     Ok(found)
 }
 

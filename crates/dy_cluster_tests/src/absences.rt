@@ -2,30 +2,34 @@
 ghost use Rattle.dy_cluster.specs.Named.{NamesBook};
 
 use crate::alone::call_alone;
-use dy_cluster::{Closed, Cluster, ClusterRefused, Fault, Naming, Opened, Resting, Session};
+use dy_cluster::{
+    Closed, Cluster, ClusterRefused, Fault, Naming, OpenCluster, Opened, Resting, Session,
+};
 use dy_scenes::{Put, five_nodes, options};
 use std::alloc::Global;
 use std::marker::Brand;
 use std::sync::Wait;
 use std::test::Fail;
 
-// Wakes the cluster, puts by another session, and closes it with all.
-fn go_on<J: Naming, R: Wait>(
+// Puts by a session more. A put that is refused is missing in the audit.
+fn put_alone<J: Naming, R: Wait>(
     rt: &R,
     alloc: Global,
-    resting: Resting<J>,
-    mut sessions: Vec<Session<J>>,
-) -> Result<Closed, Fault> {
-    let cluster = Cluster::wake(resting);
-    // A put that is refused is missing in the audit.
-    let _put = call_alone(rt, alloc, &cluster, &Put::new(2), &mut sessions);
-    match cluster.close(sessions) {
-        Ok(closed) => Ok(closed),
-        Err(refused) => Err(refused.abandon()),
-    }
+    cluster: &Cluster<J>,
+    sessions: Vec<Session<J>>,
+) -> Vec<Session<J>> {
+    let mut lent = OpenCluster {
+        rt,
+        alloc,
+        cluster,
+        sessions,
+    };
+    let _put = call_alone(&mut lent, &Put::new(2));
+    lent.into_sessions()
 }
 
-// Closes the cluster without any of its sessions, and then with all of them.
+// Closes the cluster without any of its sessions. Then wakes it, puts by another session, and
+// closes it with all of them.
 fn close_twice<J: Naming, R: Wait>(
     rt: &R,
     alloc: Global,
@@ -47,7 +51,9 @@ fn close_twice<J: Naming, R: Wait>(
                 sessions: none,
             } = refused;
             none.destroy_empty();
-            go_on(rt, alloc, cluster, sessions)
+            let cluster = Cluster::wake(cluster);
+            let sessions = put_alone(rt, alloc, &cluster, sessions);
+            cluster.end(sessions)
         }
     }
 }
@@ -57,8 +63,7 @@ fn play<J: Naming, R: Wait>(rt: &R, alloc: Global, opened: Opened) -> Result<Clo
     requires named { NamesBook J.book J.table J.ring J.n J.r opened }
 {
     let cluster = Cluster::<J>::open(alloc, opened)?;
-    let mut sessions = Vec::new(alloc);
-    let _put = call_alone(rt, alloc, &cluster, &Put::new(2), &mut sessions);
+    let sessions = put_alone(rt, alloc, &cluster, Vec::new(alloc));
     close_twice(rt, alloc, cluster.rest(), sessions)
 }
 

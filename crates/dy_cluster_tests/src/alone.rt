@@ -1,50 +1,49 @@
 // A scene of one client, on the caller's own thread.
-use dy_cluster::{Closed, Cluster, Fault, Naming, Session, Work, with_cluster};
+use dy_cluster::{Closed, Connection, Fault, Naming, OpenCluster, Transport, Work, with_cluster};
 use dy_scenes::{Caller, Scene, five_nodes, options, play};
 use std::alloc::Global;
 use std::sync::Wait;
 
-// Plays the scene over a connection, and puts its session into the list.
-pub fn call_alone<J: Naming, S: Scene, R: Wait>(
+// Plays the scene over the connection.
+fn play_over<J: Naming, T: Transport<J>, S: Scene, R: Wait>(
     rt: &R,
     alloc: Global,
-    cluster: &Cluster<J>,
+    connection: &mut Connection<'_, J, T>,
     scene: &S,
-    sessions: &mut Vec<Session<J>>,
 ) -> Result<(), Fault> {
-    sessions.reserve(1)?;
-    let mut connection = cluster.connect(rt)?;
     let client = Caller {
         rt,
         alloc,
-        connection: &mut connection,
+        connection,
     };
-    let called = play(scene, 0, client);
+    play(scene, 0, client)
+}
+
+// Plays the scene over a connection, and puts its session into the list.
+pub fn call_alone<J: Naming, S: Scene, R: Wait>(
+    lent: &mut OpenCluster<'_, J, R>,
+    scene: &S,
+) -> Result<(), Fault> {
+    lent.sessions.reserve(1)?;
+    let mut connection = lent.cluster.connect(lent.rt)?;
+    let called = play_over(lent.rt, lent.alloc, &mut connection, scene);
     let (session, _direct) = connection.into_parts();
-    sessions.push_reserved(session);
+    lent.sessions.push_reserved(session);
     called
 }
 
 // The same over mailboxes that are closed before anything is sent.
 fn call_closed<J: Naming, S: Scene, R: Wait>(
-    rt: &R,
-    alloc: Global,
-    cluster: &Cluster<J>,
+    lent: &mut OpenCluster<'_, J, R>,
     scene: &S,
-    sessions: &mut Vec<Session<J>>,
 ) -> Result<(), Fault> {
-    sessions.reserve(1)?;
-    let (post, inboxes) = cluster.post()?;
+    lent.sessions.reserve(1)?;
+    let (post, inboxes) = lent.cluster.post()?;
     drop(inboxes);
-    let mut connection = cluster.connect_by_post(rt, post)?;
-    let client = Caller {
-        rt,
-        alloc,
-        connection: &mut connection,
-    };
-    let called = play(scene, 0, client);
+    let mut connection = lent.cluster.connect_by_post(lent.rt, post)?;
+    let called = play_over(lent.rt, lent.alloc, &mut connection, scene);
     let (session, _mailboxes) = connection.into_parts();
-    sessions.push_reserved(session);
+    lent.sessions.push_reserved(session);
     called
 }
 
@@ -56,17 +55,11 @@ struct Alone<'a, S> {
 }
 
 impl<S: Scene> Work for Alone<'_, S> {
-    fn run<J: Naming, R: Wait>(
-        &mut self,
-        rt: &R,
-        alloc: Global,
-        cluster: &Cluster<J>,
-        sessions: &mut Vec<Session<J>>,
-    ) -> Result<(), Fault> {
+    fn run<J: Naming, R: Wait>(&mut self, lent: &mut OpenCluster<'_, J, R>) -> Result<(), Fault> {
         if self.is_closed {
-            call_closed(rt, alloc, cluster, self.scene, sessions)
+            call_closed(lent, self.scene)
         } else {
-            call_alone(rt, alloc, cluster, self.scene, sessions)
+            call_alone(lent, self.scene)
         }
     }
 }

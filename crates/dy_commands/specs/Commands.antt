@@ -1,5 +1,5 @@
 -- What a command of a script does.
-use Rattle.std.specs.Prelude.{◌≡◌, ℕ, ◌+◌, Bool, false, List, [], None, Result}
+use Rattle.std.specs.Prelude.{◌≡◌, ℕ, ◌+◌, Bool, false, List, [], None, Result, length}
 use Rattle.dy_dots.specs.declared.faults.Fault.{Fault}
 use Rattle.dy_dots.specs.declared.faults.Fault.TheVariants.{Down}
 use Rattle.dy_script.specs.Orders.{CommandParts, WriteParts, written, puts, deletes, gets}
@@ -45,6 +45,10 @@ pub record IsGet (s : Setting) (number : ℕ) (key : List ℕ) (outcome : Outcom
 abbrev pub seated : Seats → List SessionPart → Seated
 seated seats tellings =
     record { numbers = seats.numbers.items; tellings = tellings; refused = seats.refused }
+
+-- each of the sessions has a number on these seats
+abbrev pub IsTogether : Seats → List SessionPart → Type 0
+IsTogether seats tellings = length seats.numbers.items ≡ length tellings
 
 -- no session was opened, and none was told anything
 abbrev pub IsApart : Seated → Seated → Type 0

@@ -1,6 +1,5 @@
 pub mod Answers
 pub mod Commands
-pub mod Modes
 pub mod Seats
 pub mod Texts
 pub mod Writes

@@ -1,53 +1,54 @@
-ghost use Rattle.std.specs.Prelude.{◌≡◌, ◌↔◌, ℕ, List, Result, false, length};
+ghost use Rattle.std.specs.Prelude.{◌≡◌, ◌↔◌, ℕ, List, Result, false};
 ghost use Rattle.dy_dots.specs.declared.nodes.TheConstants.{MAX_NODES};
 ghost use Rattle.dy_dots.specs.declared.faults.Fault.{Fault as FaultParts};
 ghost use Rattle.dy_commands.specs.Answers.{TellsGet};
+ghost use Rattle.dy_commands.specs.Commands.{IsTogether};
 ghost use Rattle.dy_commands.specs.Seats.{IsOpen, IsOpened, seat_of};
 ghost use Rattle.dy_commands.specs.Texts.{IsKeyJudged};
 ghost use Rattle.dy_commands.specs.Writes.{IsRead, ReadsJudged};
 
 use crate::givens::read_key;
-use crate::seats::Seats;
+use crate::runners::Runner;
 use crate::writes::refused;
-use dy_cluster::{Cluster, DirectCalls, Session};
+use dy_cluster::{Cluster, DirectCalls, OpenCluster, Session};
 use dy_coord::{GetDone, GetFault};
 use dy_dots::Fault;
 use dy_lines::{Outcome, Word};
 use dy_shares::Naming;
 use dy_siblings::Key;
-use std::alloc::Global;
 use std::sync::Wait;
 
 /// Gets the key in the session of this number, which is opened even where the key is refused, and
 /// repairs what was found stale.
 pub(crate) fn run_get<J: Naming, R: Wait>(
-    rt: &R,
-    alloc: Global,
-    cluster: &Cluster<J>,
-    direct: &mut DirectCalls<'_, J>,
-    seats: &mut Seats,
-    sessions: &mut Vec<Session<J>>,
+    lent: &mut OpenCluster<'_, J, R>,
+    runner: &mut Runner<'_, J>,
     number: u8,
     key: &str,
 ) -> Outcome
-    requires room { direct.old.room ≡ MAX_NODES }
-    requires together { length seats.old.numbers.items ≡ length sessions.old.items }
-    ensures room { direct.new.room ≡ MAX_NODES }
-    ensures together { length seats.new.numbers.items ≡ length sessions.new.items }
-    ensures opened { IsOpened number seats.old.numbers.items seats.new.numbers.items }
-    ensures is_open { IsOpen number seats.new.numbers.items
-        ↔ (seats.new.refused ≡ false) }
+    requires together { IsTogether runner.old.seats lent.old.sessions.items }
+    ensures cluster { lent.new.cluster.now ≡ lent.old.cluster.now }
+    ensures together { IsTogether runner.new.seats lent.new.sessions.items }
+    ensures opened { IsOpened number runner.old.seats.numbers.items
+        runner.new.seats.numbers.items }
+    ensures is_open { IsOpen number runner.new.seats.numbers.items
+        ↔ (runner.new.seats.refused ≡ false) }
     ensures told { (judged : Result (List ℕ) FaultParts) × IsKeyJudged key.now judged
-        × ReadsJudged J J.ring J.n J.r (seat_of number seats.new.numbers.items) key.now result
-        seats.new.refused sessions.old.items sessions.new.items judged }
+        × ReadsJudged J J.ring J.n J.r (seat_of number runner.new.seats.numbers.items) key.now
+        result runner.new.seats.refused lent.old.sessions.items lent.new.sessions.items judged }
 {
-    let place = seats.place_of(rt, cluster, sessions, number);
-    let key = match read_key(alloc, key) {
+    let seats = &mut runner.seats;
+    let place = seats.place_of(lent.rt, lent.cluster, &mut lent.sessions, number);
+    let key = match read_key(lent.alloc, key) {
         Ok(key) => key,
         Err(fault) => return refused(Word::Get, fault),
     };
     match place {
-        Ok(place) => get_in(rt, cluster, direct, &mut sessions[place], &key),
+        Ok(place) => {
+            let session = &mut lent.sessions[place];
+            let direct = &mut runner.direct;
+            get_in(lent.rt, lent.cluster, direct, session, &key)
+        }
         Err(fault) => refused(Word::Get, fault),
     }
 }

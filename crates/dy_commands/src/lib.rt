@@ -4,9 +4,11 @@
 mod gets;
 mod givens;
 mod outages;
+mod runners;
 mod running;
 mod seats;
 mod writes;
 
+pub use runners::Runner;
 pub use running::run_command;
 pub use seats::Seats;

@@ -5,26 +5,22 @@ ghost use Rattle.dy_siblings.specs.Sizes.{IsKey};
 ghost use Rattle.dy_cluster.specs.Named.{IsNodeOf};
 ghost use Rattle.dy_cluster.specs.Shows.{IsShow};
 ghost use Rattle.dy_commands.specs.Answers.{IsDeliveryTold, IsPassTold, IsShowTold};
-ghost use Rattle.dy_commands.specs.Answers.{delivery_outcome, kept_row, pass_outcome};
-ghost use Rattle.dy_commands.specs.Modes.{node_mode};
+ghost use Rattle.dy_commands.specs.Answers.{kept_row};
 ghost use Rattle.dy_commands.specs.Texts.{IsKeyRefused};
 
 use crate::givens::read_key;
 use crate::writes::refused;
-use dy_cluster::Cluster;
+use dy_cluster::OpenCluster;
 use dy_dots::{Fault, NodeId};
-use dy_handoff::Pass;
 use dy_lines::{Kept, Outcome, Word};
-use dy_node::{Mode as NodeMode, RowFor};
-use dy_script::Mode;
+use dy_node::{Mode, RowFor};
 use dy_shares::Naming;
 use std::alloc::Global;
 use std::sync::Wait;
 
 /// Takes the node down, or brings it up.
 pub(crate) fn run_set_up<J: Naming, R: Wait>(
-    rt: &R,
-    cluster: &Cluster<J>,
+    lent: &OpenCluster<'_, J, R>,
     word: Word,
     number: usize,
     is_up: bool,
@@ -32,9 +28,9 @@ pub(crate) fn run_set_up<J: Naming, R: Wait>(
     ensures done { IsNodeOf J.ring number → result ≡ Outcome.Done word }
     ensures down { ¬ (IsNodeOf J.ring number) → result ≡ Outcome.Refused word Fault.Down None }
 {
-    match cluster.node(number) {
+    match lent.cluster.node(number) {
         Some(node) => {
-            cluster.set_up(rt, node, is_up);
+            lent.cluster.set_up(lent.rt, node, is_up);
             Outcome::Done { word }
         }
         None => refused(word, Fault::Down),
@@ -43,8 +39,7 @@ pub(crate) fn run_set_up<J: Naming, R: Wait>(
 
 /// Tells the node what to do with asks from now on.
 pub(crate) fn run_set_mode<J: Naming, R: Wait>(
-    rt: &R,
-    cluster: &Cluster<J>,
+    lent: &OpenCluster<'_, J, R>,
     number: usize,
     mode: Mode,
 ) -> Outcome
@@ -52,9 +47,9 @@ pub(crate) fn run_set_mode<J: Naming, R: Wait>(
     ensures down { ¬ (IsNodeOf J.ring number)
         → result ≡ Outcome.Refused Word.SetMode Fault.Down None }
 {
-    match cluster.node(number) {
+    match lent.cluster.node(number) {
         Some(node) => {
-            cluster.fault(rt, node, mode_of(mode));
+            lent.cluster.fault(lent.rt, node, mode);
             Outcome::Done {
                 word: Word::SetMode,
             }
@@ -65,23 +60,15 @@ pub(crate) fn run_set_mode<J: Naming, R: Wait>(
 
 /// Lets the node store the messages that it kept.
 pub(crate) fn run_deliver<J: Naming, R: Wait>(
-    rt: &R,
-    cluster: &Cluster<J>,
+    lent: &OpenCluster<'_, J, R>,
     number: usize,
 ) -> Outcome
     ensures { IsDeliveryTold J.ring number result }
 {
-    match cluster.node(number) {
-        Some(node) => delivered(cluster.deliver(rt, node)),
-        None => refused(Word::Deliver, Fault::Down),
-    }
-}
-
-// What came of a delivery, as its line tells it.
-fn delivered(answer: Result<usize, Fault>) -> Outcome
-    ensures { result ≡ delivery_outcome answer }
-{
-    match answer {
+    let Some(node) = lent.cluster.node(number) else {
+        return refused(Word::Deliver, Fault::Down);
+    };
+    match lent.cluster.deliver(lent.rt, node) {
         Ok(count) => Outcome::Delivered { count },
         Err(fault) => refused(Word::Deliver, fault),
     }
@@ -89,23 +76,15 @@ fn delivered(answer: Result<usize, Fault>) -> Outcome
 
 /// Makes a pass over the hints of the node.
 pub(crate) fn run_handoff<J: Naming, R: Wait>(
-    rt: &R,
-    cluster: &Cluster<J>,
+    lent: &OpenCluster<'_, J, R>,
     number: usize,
 ) -> Outcome
     ensures { IsPassTold J J.ring number result }
 {
-    match cluster.node(number) {
-        Some(node) => handed_over(cluster.handoff(rt, node)),
-        None => refused(Word::Handoff, Fault::Down),
-    }
-}
-
-// What came of a pass, as its line tells it.
-fn handed_over(answer: Result<Pass, Fault>) -> Outcome
-    ensures { result ≡ pass_outcome answer }
-{
-    match answer {
+    let Some(node) = lent.cluster.node(number) else {
+        return refused(Word::Handoff, Fault::Down);
+    };
+    match lent.cluster.handoff(lent.rt, node) {
         Ok(pass) => Outcome::HandedOver {
             offers: pass.offers,
             stored: pass.stored,
@@ -117,18 +96,16 @@ fn handed_over(answer: Result<Pass, Fault>) -> Outcome
 
 /// Tells what the node keeps of the key.
 pub(crate) fn run_show<J: Naming, R: Wait>(
-    rt: &R,
-    alloc: Global,
-    cluster: &Cluster<J>,
+    lent: &OpenCluster<'_, J, R>,
     number: usize,
     key: &str,
 ) -> Outcome
     ensures { IsShowTold J.ring number key.now result }
 {
-    let Some(node) = cluster.node(number) else {
+    let Some(node) = lent.cluster.node(number) else {
         return refused(Word::Show, Fault::Down);
     };
-    match shown(rt, alloc, cluster, node, key) {
+    match shown(lent, node, key) {
         Ok(kept) => Outcome::Shown { node, kept },
         Err(fault) => refused(Word::Show, fault),
     }
@@ -136,9 +113,7 @@ pub(crate) fn run_show<J: Naming, R: Wait>(
 
 // What the node keeps of the key, its own row and its hints.
 fn shown<J: Naming, R: Wait>(
-    rt: &R,
-    alloc: Global,
-    cluster: &Cluster<J>,
+    lent: &OpenCluster<'_, J, R>,
     node: NodeId,
     key: &str,
 ) -> Result<Vec<Kept>, Fault>
@@ -148,12 +123,12 @@ fn shown<J: Naming, R: Wait>(
     ensures sized { OnOk result (IsKey key.now) }
     ensures only { IfErr result (IsKeyRefused key.now) }
 {
-    let key = match read_key(alloc, key) {
+    let key = match read_key(lent.alloc, key) {
         Ok(key) => key,
         Err(fault) => return Err(fault),
     };
-    let rows = cluster.show(rt, node, &key)?;
-    let kept = kept_of(alloc, rows.as_slice())?;
+    let rows = lent.cluster.show(lent.rt, node, &key)?;
+    let kept = kept_of(lent.alloc, rows.as_slice())?;
     Ok(kept)
 }
 
@@ -170,17 +145,4 @@ fn kept_of(alloc: Global, rows: &[RowFor]) -> Result<Vec<Kept>, Fault>
         })?;
     }
     Ok(kept)
-}
-
-// The mode of a node that a script names so.
-fn mode_of(mode: Mode) -> NodeMode
-    ensures { result ≡ node_mode mode }
-{
-    match mode {
-        Mode::None => NodeMode::Plain,
-        Mode::Mute => NodeMode::Mute,
-        Mode::Late => NodeMode::Late,
-        Mode::Repeat => NodeMode::Repeat,
-        Mode::Delay => NodeMode::Delay,
-    }
 }

@@ -1,12 +1,13 @@
-ghost use Rattle.std.specs.Prelude.{◌≡◌, ◌↔◌, None, false, length};
+ghost use Rattle.std.specs.Prelude.{◌≡◌, ◌↔◌, None, false};
 ghost use Rattle.dy_dots.specs.declared.nodes.TheConstants.{MAX_NODES};
 ghost use Rattle.dy_commands.specs.Answers.{TellsPut};
+ghost use Rattle.dy_commands.specs.Commands.{IsTogether};
 ghost use Rattle.dy_commands.specs.Seats.{IsOpen, IsOpened, seat_of};
 ghost use Rattle.dy_commands.specs.Writes.{IsWritten, RunsJudged};
 
 use crate::givens::Given;
-use crate::seats::Seats;
-use dy_cluster::{Cluster, DirectCalls, Session};
+use crate::runners::Runner;
+use dy_cluster::{Cluster, DirectCalls, OpenCluster, Session};
 use dy_coord::{PutDone, PutFault};
 use dy_dots::Fault;
 use dy_lines::{Outcome, Word};
@@ -25,23 +26,20 @@ pub(crate) struct Judged {
 
 /// Puts or deletes in the session that is named, which is opened even where the texts are refused.
 pub(crate) fn run_write<J: Naming, R: Wait>(
-    rt: &R,
-    cluster: &Cluster<J>,
-    direct: &mut DirectCalls<'_, J>,
-    seats: &mut Seats,
-    sessions: &mut Vec<Session<J>>,
+    lent: &mut OpenCluster<'_, J, R>,
+    runner: &mut Runner<'_, J>,
     judged: Judged,
 ) -> Outcome
-    requires room { direct.old.room ≡ MAX_NODES }
-    requires together { length seats.old.numbers.items ≡ length sessions.old.items }
-    ensures room { direct.new.room ≡ MAX_NODES }
-    ensures together { length seats.new.numbers.items ≡ length sessions.new.items }
-    ensures opened { IsOpened judged.session seats.old.numbers.items seats.new.numbers.items }
-    ensures is_open { IsOpen judged.session seats.new.numbers.items
-        ↔ (seats.new.refused ≡ false) }
-    ensures told { RunsJudged J J.ring J.n (seat_of judged.session seats.new.numbers.items)
-        judged.w judged.word result seats.new.refused sessions.old.items sessions.new.items
-        judged.given }
+    requires together { IsTogether runner.old.seats lent.old.sessions.items }
+    ensures cluster { lent.new.cluster.now ≡ lent.old.cluster.now }
+    ensures together { IsTogether runner.new.seats lent.new.sessions.items }
+    ensures opened { IsOpened judged.session runner.old.seats.numbers.items
+        runner.new.seats.numbers.items }
+    ensures is_open { IsOpen judged.session runner.new.seats.numbers.items
+        ↔ (runner.new.seats.refused ≡ false) }
+    ensures told { RunsJudged J J.ring J.n
+        (seat_of judged.session runner.new.seats.numbers.items) judged.w judged.word result
+        runner.new.seats.refused lent.old.sessions.items lent.new.sessions.items judged.given }
 {
     let Judged {
         session,
@@ -49,13 +47,18 @@ pub(crate) fn run_write<J: Naming, R: Wait>(
         word,
         given,
     } = judged;
-    let place = seats.place_of(rt, cluster, sessions, session);
+    let seats = &mut runner.seats;
+    let place = seats.place_of(lent.rt, lent.cluster, &mut lent.sessions, session);
     let given = match given {
         Ok(given) => given,
         Err(fault) => return refused(word, fault),
     };
     match place {
-        Ok(place) => write_in(rt, cluster, direct, &mut sessions[place], w, word, given),
+        Ok(place) => {
+            let session = &mut lent.sessions[place];
+            let direct = &mut runner.direct;
+            write_in(lent.rt, lent.cluster, direct, session, w, word, given)
+        }
         Err(fault) => refused(word, fault),
     }
 }

@@ -1,3 +1,4 @@
+pub mod Calls
 pub mod Following
 pub mod Gets
 pub mod Puts

@@ -12,6 +12,7 @@ ghost use Rattle.dy_reads.specs.Lists.{homes_in};
 ghost use Rattle.dy_reads.specs.Rules.{IsReadOut, HasRead, as_read};
 ghost use Rattle.dy_coord.specs.Gets.{StopsSoon, seen_in, seens_of};
 ghost use Rattle.dy_coord.specs.inside.GetParts.{Collects};
+ghost use Rattle.dy_coord.specs.inside.Reads.{MayRead};
 
 use dy_core::Place;
 use dy_dots::NodeId;
@@ -46,13 +47,8 @@ fn read_rows<J: Naming, T: Transport<J>, R: Wait>(
     gathering: &mut Gathering<J>,
     answers: &mut AnswerVec,
 )
-    requires fresh { (T.told transport.old).replies ≡ [] }
-    requires room { length (T.told transport.old).asks + length assign.old
-        ≤ (T.told transport.old).room }
-    requires answers_room { length answers.old.items
-        + 2 * (length (T.told transport.old).asks + length assign.old) ≤ answers.old.capacity }
-    requires gathering_room { 1 + 2 * (length (T.told transport.old).asks + length assign.old)
-        ≤ gathering.old.room }
+    requires room { MayRead (T.told transport.old) assign.old (length answers.old.items)
+        answers.old.capacity gathering.old.room }
     requires one { length gathering.old.seens ≡ 1 }
     requires r { length (first_answers gathering.old.seens) ≤ gathering.old.r }
     requires whats { All (λ a. a.what ≡ Fetch (snapshot_of key.now) since.now)

@@ -1,11 +1,11 @@
 ghost use Rattle.std.specs.Prelude.{◌≡◌, ◌≢◌, ◌≤◌, ◌*◌, [], length, IfOk, IfErr, OnErr};
 ghost use Rattle.std.specs.Prelude.{IsOkUnless};
 ghost use Rattle.dy_dots.specs.declared.faults.Fault.TheVariants.{NotEnough};
-ghost use Rattle.dy_dots.specs.declared.nodes.TheConstants.{MAX_NODES};
 ghost use Rattle.dy_preference.specs.Preferences.{IsPreferred};
 ghost use Rattle.dy_shares.specs.Shares.{since_of, with_get};
 ghost use Rattle.dy_quorum.specs.Gatherings.{first_answers};
 ghost use Rattle.dy_transport.specs.Told.{Told};
+ghost use Rattle.dy_coord.specs.Calls.{IsFresh};
 ghost use Rattle.dy_coord.specs.Gets.{IsGetRefused, IsGot};
 
 use crate::get_dones::GetDone;
@@ -54,10 +54,7 @@ pub fn get<J: Naming, T: Transport<J>, R: Wait>(
     session: &mut SessionShare<J>,
     key: &Key,
 ) -> Result<GetDone<J>, GetFault>
-    requires fresh_tries { (T.told transport.old).tries ≡ [] }
-    requires fresh_asks { (T.told transport.old).asks ≡ [] }
-    requires fresh_replies { (T.told transport.old).replies ≡ [] }
-    requires room { MAX_NODES ≤ (T.told transport.old).room }
+    requires fresh { IsFresh (T.told transport.old) }
     requires some { 1 ≤ r }
     requires r { r ≡ J.r }
     ensures ok { IfOk result (λ done.

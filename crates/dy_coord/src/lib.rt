@@ -9,6 +9,7 @@ mod gets;
 pub mod laws;
 mod put_reads;
 mod put_results;
+mod put_tasks;
 mod puts;
 
 pub use get_dones::GetDone;

@@ -13,6 +13,7 @@ ghost use Rattle.dy_reads.specs.Rules.{HasRead, IsReadOut, MayStandIn, as_read, 
 ghost use Rattle.dy_reads.specs.declared.requests.Request.TheVariants as request;
 ghost use Rattle.dy_coord.specs.Puts.{receipts_read};
 ghost use Rattle.dy_coord.specs.inside.PutReads.{last_of, receipt_at};
+ghost use Rattle.dy_coord.specs.inside.Reads.{MayRead};
 
 use dy_dots::{Dot, NodeId};
 use dy_node::Answer;
@@ -75,13 +76,8 @@ pub(crate) fn read_put<J: Naming, T: Transport<J>, R: Wait>(
     tally: &mut Tally<J>,
     answers: &mut AnswerVec,
 )
-    requires fresh { (T.told transport.old).replies ≡ [] }
-    requires room { length (T.told transport.old).asks + length assign.old
-        ≤ (T.told transport.old).room }
-    requires answers_room { length answers.old.items
-        + 2 * (length (T.told transport.old).asks + length assign.old) ≤ answers.old.capacity }
-    requires tally_room { 1 + 2 * (length (T.told transport.old).asks + length assign.old)
-        ≤ tally.old.room }
+    requires room { MayRead (T.told transport.old) assign.old (length answers.old.items)
+        answers.old.capacity tally.old.room }
     requires dot { IsTrue (has_dot row.now.versions dot) }
     requires one_key { All (λ v. v.key ≡ row.now.key) row.now.versions }
     requires own { tally.old.added ≡ receipt_parts row.now.key dot coordinator held ∷ [] }

@@ -9,6 +9,7 @@ ghost use Rattle.dy_shares.specs.Shares.{receipt_parts};
 ghost use Rattle.dy_book.specs.Books.{AreOf};
 ghost use Rattle.dy_transport.specs.Told.{Told};
 ghost use Rattle.dy_transport.specs.declared.transports.TheConstants.{SPARE_TRIES};
+ghost use Rattle.dy_coord.specs.Calls.{IsFresh};
 ghost use Rattle.dy_coord.specs.inside.PutReads.{with_tries};
 ghost use Rattle.dy_reads.specs.Lists.{homes_in};
 ghost use Rattle.dy_coord.specs.Puts.{Spreads};
@@ -17,6 +18,7 @@ ghost use Rattle.dy_coord.specs.PutDones.{IsPutDone};
 
 use crate::put_reads::{most_answers, read_put};
 use crate::put_results::{PutDone, PutFault};
+use crate::put_tasks::PutTask;
 use dy_core::Place;
 use dy_dots::{Context, Dot, Fault, NodeId};
 use dy_node::Begun;
@@ -154,53 +156,52 @@ fn conclude<J: Naming, T: Transport<J>, R: Wait>(
     }
 }
 
-// A put whose w is from 1 to n.
-fn put_in_range<J: Naming, T: Transport<J>, R: Wait>(
-    rt: &R,
-    alloc: Global,
-    transport: &mut T,
-    list: &Preference,
-    w: u8,
-    session: &mut SessionShare<J>,
-    key: &Key,
-    context: &Context,
-    value: &Option<Value>,
-) -> Result<PutDone<J>, PutFault>
-    requires fresh_tries { (T.told transport.old).tries ≡ [] }
-    requires fresh_asks { (T.told transport.old).asks ≡ [] }
-    requires fresh_replies { (T.told transport.old).replies ≡ [] }
-    requires room { MAX_NODES ≤ (T.told transport.old).room }
-    requires valid { IsPreferred list.now }
-    requires nodes { list.now.nodes ≡ preference_of J.ring key.now }
-    requires homes { list.now.n ≡ J.n }
-    requires some { 1 ≤ w }
-    requires few { w ≤ list.now.n }
-    ensures runs { PutRuns {J = J} list.now w key.now context.now value.now
-        session.old session.new (T.told transport.new) result }
-    ensures room { (T.told transport.new).room ≡ (T.told transport.old).room }
-{
-    let (mut answers, mut tally) = match prepare(alloc, list, w) {
-        Ok(made) => made,
-        Err(fault) => return Err(PutFault::early(alloc, fault)),
-    };
-    match begin_somewhere(rt, transport, list, key, context, value) {
-        Somewhere::At(c, begun) => {
-            let Begun { dot, row, receipt } = begun;
-            spread(
-                rt,
-                transport,
-                list,
-                c,
-                &row,
-                dot,
-                receipt,
-                &mut tally,
-                &mut answers,
-            );
-            conclude(rt, alloc, transport, key, dot, w, tally, answers, session)
+impl PutTask<'_> {
+    // A put whose w is from 1 to n.
+    fn put_in_range<J: Naming, T: Transport<J>, R: Wait>(
+        &self,
+        rt: &R,
+        alloc: Global,
+        transport: &mut T,
+        list: &Preference,
+        session: &mut SessionShare<J>,
+    ) -> Result<PutDone<J>, PutFault>
+        requires fresh { IsFresh (T.told transport.old) }
+        requires valid { IsPreferred list.now }
+        requires nodes { list.now.nodes ≡ preference_of J.ring self.now.key.now }
+        requires homes { list.now.n ≡ J.n }
+        requires some { 1 ≤ self.now.w }
+        requires few { self.now.w ≤ list.now.n }
+        ensures runs { PutRuns {J = J} list.now self.now.w self.now.key.now
+            self.now.context.now self.now.value session.old session.new
+            (T.told transport.new) result }
+        ensures room { (T.told transport.new).room ≡ (T.told transport.old).room }
+    {
+        let w = self.w;
+        let key = self.key;
+        let (mut answers, mut tally) = match prepare(alloc, list, w) {
+            Ok(made) => made,
+            Err(fault) => return Err(PutFault::early(alloc, fault)),
+        };
+        match begin_somewhere(rt, transport, list, key, self.context, &self.value) {
+            Somewhere::At(c, begun) => {
+                let Begun { dot, row, receipt } = begun;
+                spread(
+                    rt,
+                    transport,
+                    list,
+                    c,
+                    &row,
+                    dot,
+                    receipt,
+                    &mut tally,
+                    &mut answers,
+                );
+                conclude(rt, alloc, transport, key, dot, w, tally, answers, session)
+            }
+            Somewhere::NoNode => Err(PutFault::early(alloc, Fault::NoNode)),
+            Somewhere::Refused(fault) => Err(PutFault::early(alloc, fault)),
         }
-        Somewhere::NoNode => Err(PutFault::early(alloc, Fault::NoNode)),
-        Somewhere::Refused(fault) => Err(PutFault::early(alloc, fault)),
     }
 }
 
@@ -219,10 +220,7 @@ pub fn put<J: Naming, T: Transport<J>, R: Wait>(
     context: &Context,
     value: Option<Value>,
 ) -> Result<PutDone<J>, PutFault>
-    requires fresh_tries { (T.told transport.old).tries ≡ [] }
-    requires fresh_asks { (T.told transport.old).asks ≡ [] }
-    requires fresh_replies { (T.told transport.old).replies ≡ [] }
-    requires room { MAX_NODES ≤ (T.told transport.old).room }
+    requires fresh { IsFresh (T.told transport.old) }
     requires nodes { list.now.nodes ≡ preference_of J.ring key.now }
     requires homes { list.now.n ≡ J.n }
     ensures ends { PutEnds {J = J} list.now w key.now context.now value
@@ -238,5 +236,11 @@ pub fn put<J: Naming, T: Transport<J>, R: Wait>(
     if w as usize > list.homes().len() {
         return Err(PutFault::early(alloc, Fault::BadQuorum));
     }
-    put_in_range(rt, alloc, transport, list, w, session, key, context, &value)
+    let task = PutTask {
+        w,
+        key,
+        context,
+        value,
+    };
+    task.put_in_range(rt, alloc, transport, list, session)
 }

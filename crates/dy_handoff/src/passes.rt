@@ -23,11 +23,10 @@ fn receipts_in<J: Naming>(answer: Answer<J>) -> Option<Vec<Receipt<J>>>
     ensures some { IfSome result (λ receipts. stored_in answer ≡ receipts ∷ []) }
     ensures none { IfNone result (stored_in answer ≡ []) }
 {
-    match answer {
-        Answer::Stored(receipts) => Some(receipts),
-        Answer::Rows(_seen) => None,
-        Answer::Down | Answer::NoAnswer | Answer::Refused(_) => None,
+    if let Answer::Stored(receipts) = answer {
+        return Some(receipts);
     }
+    None
 }
 
 // Lets the node give up what the receipts name, and adds how much it gave up.

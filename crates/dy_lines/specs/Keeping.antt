@@ -26,3 +26,7 @@ hint_text node k =
 -- what it keeps for each other home, in the order of the list
 abbrev pub hints_text : ℕ → List Kept → List ℕ
 hints_text node kept = flat_map (hint_text node) kept
+
+-- what it keeps for itself, and then for each other home
+abbrev pub all_kept_text : ℕ → List Kept → List ℕ
+all_kept_text node kept = own_text node kept ++ hints_text node kept

@@ -8,7 +8,7 @@ use Rattle.dy_dots.specs.declared.dots.Dot.{Dot}
 use Rattle.dy_siblings.specs.declared.versions.Version.{Version}
 use Rattle.dy_lines.specs.Texts.{hex_text}
 use Rattle.dy_dots.specs.declared.faults.Fault.TheVariants.{NotEnough}
-use Rattle.dy_lines.specs.Keeping.{own_text, hints_text}
+use Rattle.dy_lines.specs.Keeping.{all_kept_text}
 use Rattle.dy_lines.specs.Places.{answers_text, places_text}
 use Rattle.dy_lines.specs.Refusals.{refusal_text}
 use Rattle.dy_lines.specs.declared.outcomes.Word.{Word}
@@ -47,15 +47,10 @@ values_text vs =
     if list_any is_present vs
     then flat_map (λ v. value_text v.dot v.value) vs else codes " none"
 
--- a dot, where there is one
-abbrev pub told_text : Option Dot → List ℕ
-told_text None = codes ""
-told_text (Some dot) = codes " " ++ dot_text dot
-
--- the version that a refused put made, where it made one
-abbrev pub after_text : Option Dot → List ℕ
-after_text None = codes ""
-after_text (Some dot) = codes " after " ++ dot_text dot
+-- a dot behind these words, where there is one
+abbrev pub dot_behind : List ℕ → Option Dot → List ℕ
+dot_behind words None = codes ""
+dot_behind words (Some dot) = words ++ dot_text dot
 
 -- what came of a command
 abbrev pub outcome_text : Outcome → List ℕ
@@ -67,18 +62,18 @@ outcome_text (Read context «from» row) =
     ++ codes " from" ++ places_text «from».items
     ++ codes " values" ++ values_text row.versions
 outcome_text (Lacking word dot answers) =
-    word_text word ++ codes " " ++ refusal_text NotEnough ++ told_text dot
+    word_text word ++ codes " " ++ refusal_text NotEnough ++ dot_behind (codes " ") dot
     ++ codes " answers" ++ answers_text answers.items
 outcome_text (Refused word fault after) =
-    word_text word ++ codes " " ++ refusal_text fault ++ after_text after
+    word_text word ++ codes " " ++ refusal_text fault
+    ++ dot_behind (codes " after ") after
 outcome_text (Done word) = word_text word ++ codes " ok"
 outcome_text (Delivered count) = codes "deliver ok " ++ decimal count
 outcome_text (HandedOver offers stored released) =
     codes "handoff ok offers " ++ decimal offers ++ codes " stored " ++ decimal stored
     ++ codes " released " ++ decimal released
 outcome_text (Shown node kept) =
-    codes "show " ++ decimal node ++ codes " own " ++ own_text node kept.items
-    ++ hints_text node kept.items
+    codes "show " ++ decimal node ++ codes " own " ++ all_kept_text node kept.items
 
 -- the command's number, a blank, and what came of it
 abbrev pub command_text : ℕ → Outcome → List ℕ

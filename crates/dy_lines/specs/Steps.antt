@@ -1,6 +1,5 @@
 -- The lines that tell the steps of a log, and which fetches a get used.
 use Rattle.std.specs.Prelude.{ℕ, List, [], ◌∷◌, ◌++◌, codes, decimal, Option, Some, None}
-use Rattle.std.specs.List.{flat_map}
 use Rattle.dy_dots.specs.Dots.{dot_text}
 use Rattle.dy_dots.specs.Spelling.{context_text, run_text}
 use Rattle.dy_core.specs.declared.places.Place.{Place}
@@ -8,7 +7,7 @@ use Rattle.dy_shares.specs.declared.kept_steps.KeptStep.{KeptStep}
 use Rattle.dy_shares.specs.declared.kept_steps.KeptStep.TheVariants.{Issued, Held, HeldRuns}
 use Rattle.dy_shares.specs.declared.kept_steps.KeptStep.TheVariants.{Released, Fetched, Acked}
 use Rattle.dy_lines.specs.Places.{place_text}
-use Rattle.dy_lines.specs.Texts.{hex_text}
+use Rattle.dy_lines.specs.Texts.{hex_text, listed_text}
 
 -- what a version stores: its bytes, behind a blank where there are some, or that it is a deletion
 abbrev pub written_text : Option (List ℕ) → List ℕ
@@ -45,7 +44,7 @@ step_text number session kept =
 
 -- numbers stand each behind a blank
 abbrev pub numbers_text : List ℕ → List ℕ
-numbers_text numbers = flat_map (λ number. codes " " ++ decimal number) numbers
+numbers_text numbers = listed_text decimal numbers
 
 -- the fetches that an answered get used, by their numbers, and its session
 abbrev pub told_text : List ℕ → ℕ → List ℕ

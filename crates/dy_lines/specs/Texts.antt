@@ -12,9 +12,13 @@ hex_text bytes = encode_lower bytes
 abbrev pub position_text : ℕ → List ℕ
 position_text position = hex_text (to_be_bytes w128 position)
 
--- nodes stand each behind a blank
+-- items of these texts stand each behind a blank
+abbrev pub listed_text : {A : Type 0} → (A → List ℕ) → List A → List ℕ
+listed_text text items = flat_map (λ item. codes " " ++ text item) items
+
+-- so do nodes
 abbrev pub nodes_text : List ℕ → List ℕ
-nodes_text nodes = flat_map (λ node. codes " " ++ decimal node) nodes
+nodes_text nodes = listed_text decimal nodes
 
 -- a text with the end of its line
 abbrev pub line : List ℕ → List ℕ

@@ -1,7 +1,8 @@
 ghost use Rattle.std.specs.Prelude.{◌≡◌, length};
 ghost use Rattle.std.specs.List.{sum_by};
 
-use crate::places::{At, Places};
+use crate::listed::Listed;
+use crate::places::At;
 use crate::printed::Hex;
 use dy_book::{AckedAt, Audit};
 use dy_core::{Holding, Place};
@@ -92,7 +93,7 @@ impl fmt::Display for AckedLine<'_> {
 
     fn fmt<W: fmt::Write>(&self, f: &mut fmt::Formatter<W>) -> fmt::Result {
         let key = Hex(self.key.as_bytes());
-        let places = Places(self.places);
+        let places = Listed(self.places);
         match self.own_w {
             Some(w) => write!(f, "acked {key} {} w {w} covered{places}", self.dot),
             None => write!(f, "acked {key} {} covered{places}", self.dot),

@@ -1,6 +1,7 @@
 ghost use Rattle.std.specs.Prelude.{◌≡◌, Some};
+ghost use Rattle.std.specs.Fmt.{DisplaysOnOk};
 ghost use Rattle.std.specs.List.{list_any};
-ghost use Rattle.dy_lines.specs.Keeping.{is_for};
+ghost use Rattle.dy_lines.specs.Keeping.{is_for, own_text};
 
 use dy_dots::{Context, NodeId};
 use std::fmt;
@@ -12,25 +13,42 @@ pub struct Kept {
     pub dots: Context,
 }
 
-/// What prints as the dots that the node keeps for itself.
+/// What prints as the dots that the node keeps for itself, and behind them those for each other
+/// home.
 #[derive(Clone, Copy)]
-pub(crate) struct OwnKept<'a> {
+pub(crate) struct AllKept<'a> {
     pub node: NodeId,
     pub kept: &'a [Kept],
 }
 
-impl fmt::Display for OwnKept<'_> {
-    ghost use Rattle.dy_lines.specs.Keeping.{own_text};
+impl fmt::Display for AllKept<'_> {
+    ghost use Rattle.dy_lines.specs.Keeping.{all_kept_text};
 
-    ghost output = { λ own. Some (own_text own.node own.kept.now) };
+    ghost output = { λ all. Some (all_kept_text all.node all.kept.now) };
 
     fn fmt<W: fmt::Write>(&self, f: &mut fmt::Formatter<W>) -> fmt::Result {
+        self.write_own(f)?;
+        for hint in self.kept {
+            if hint.home != self.node {
+                write!(f, " for {} {}", hint.home, hint.dots)?;
+            }
+        }
+        Ok(())
+    }
+}
+
+impl AllKept<'_> {
+    // Writes the dots that the node keeps for itself.
+    fn write_own<W: fmt::Write>(&self, f: &mut fmt::Formatter<W>) -> fmt::Result
+        ensures { DisplaysOnOk W.write_str_gives f.old result
+            (Some (own_text self.now.node self.now.kept.now)) f.new }
+    {
         if !has_own(self.kept, self.node) {
             return f.write_str("-");
         }
-        for one in self.kept {
-            if one.home == self.node {
-                write!(f, "{}", one.dots)?;
+        for own in self.kept {
+            if own.home == self.node {
+                write!(f, "{}", own.dots)?;
             }
         }
         Ok(())
@@ -42,26 +60,4 @@ fn has_own(kept: &[Kept], home: NodeId) -> bool
     ensures { result ≡ list_any (is_for home) kept.now }
 {
     kept.iter().any(|one| one.home == home)
-}
-
-/// What prints as the dots that the node keeps for each other home.
-#[derive(Clone, Copy)]
-pub(crate) struct HintsKept<'a> {
-    pub node: NodeId,
-    pub kept: &'a [Kept],
-}
-
-impl fmt::Display for HintsKept<'_> {
-    ghost use Rattle.dy_lines.specs.Keeping.{hints_text};
-
-    ghost output = { λ hints. Some (hints_text hints.node hints.kept.now) };
-
-    fn fmt<W: fmt::Write>(&self, f: &mut fmt::Formatter<W>) -> fmt::Result {
-        for one in self.kept {
-            if one.home != self.node {
-                write!(f, " for {} {}", one.home, one.dots)?;
-            }
-        }
-        Ok(())
-    }
 }

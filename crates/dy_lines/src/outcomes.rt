@@ -2,8 +2,8 @@ ghost use Rattle.std.specs.Prelude.{◌≡◌};
 ghost use Rattle.std.specs.List.{list_any};
 ghost use Rattle.dy_lines.specs.Outcomes.{is_present};
 
-use crate::keeping::{HintsKept, Kept, OwnKept};
-use crate::places::{Answers, Places};
+use crate::keeping::{AllKept, Kept};
+use crate::listed::Listed;
 use crate::printed::Hex;
 use crate::refusals::Refusal;
 use dy_core::PlaceVec;
@@ -138,20 +138,28 @@ impl fmt::Display for Outcome {
     fn fmt<W: fmt::Write>(&self, f: &mut fmt::Formatter<W>) -> fmt::Result {
         match self {
             Outcome::Stored { word, dot, answers } => {
-                write!(f, "{word} ok {dot} answers{}", Answers(answers.as_slice()))
+                write!(f, "{word} ok {dot} answers{}", Listed(answers.as_slice()))
             }
             Outcome::Read { context, from, row } => {
-                let from = Places(from.as_slice());
+                let from = Listed(from.as_slice());
                 let values = Values(row.versions());
                 write!(f, "get ok context {context} from{from} values{values}")
             }
             Outcome::Lacking { word, dot, answers } => {
-                let answers = Answers(answers.as_slice());
+                let answers = Listed(answers.as_slice());
                 let refusal = Refusal(Fault::NotEnough);
-                write!(f, "{word} {refusal}{} answers{answers}", Told(*dot))
+                let told = DotBehind {
+                    words: " ",
+                    dot: *dot,
+                };
+                write!(f, "{word} {refusal}{told} answers{answers}")
             }
             Outcome::Refused { word, fault, after } => {
-                write!(f, "{word} {}{}", Refusal(*fault), After(*after))
+                let after = DotBehind {
+                    words: " after ",
+                    dot: *after,
+                };
+                write!(f, "{word} {}{after}", Refusal(*fault))
             }
             Outcome::Done { word } => write!(f, "{word} ok"),
             Outcome::Delivered { count } => write!(f, "deliver ok {count}"),
@@ -164,48 +172,32 @@ impl fmt::Display for Outcome {
                 "handoff ok offers {offers} stored {stored} released {released}"
             ),
             Outcome::Shown { node, kept } => {
-                let kept = kept.as_slice();
-                let (own, hints) = (
-                    OwnKept { node: *node, kept },
-                    HintsKept { node: *node, kept },
-                );
-                write!(f, "show {node} own {own}{hints}")
+                let kept = AllKept {
+                    node: *node,
+                    kept: kept.as_slice(),
+                };
+                write!(f, "show {node} own {kept}")
             }
         }
     }
 }
 
-/// A dot that prints behind a blank, where there is one.
+// A dot that prints behind these words, where there is one.
 #[derive(Clone, Copy)]
-struct Told(Option<Dot>);
-
-impl fmt::Display for Told {
-    ghost use Rattle.std.specs.Prelude.{Some};
-    ghost use Rattle.dy_lines.specs.Outcomes.{told_text};
-
-    ghost output = { λ told. Some (told_text told.0) };
-
-    fn fmt<W: fmt::Write>(&self, f: &mut fmt::Formatter<W>) -> fmt::Result {
-        match self.0 {
-            Some(dot) => write!(f, " {dot}"),
-            None => Ok(()),
-        }
-    }
+struct DotBehind<'a> {
+    words: &'a str,
+    dot: Option<Dot>,
 }
 
-/// The dot of the version that a refused put made, where it made one.
-#[derive(Clone, Copy)]
-struct After(Option<Dot>);
-
-impl fmt::Display for After {
+impl fmt::Display for DotBehind<'_> {
     ghost use Rattle.std.specs.Prelude.{Some};
-    ghost use Rattle.dy_lines.specs.Outcomes.{after_text};
+    ghost use Rattle.dy_lines.specs.Outcomes.{dot_behind};
 
-    ghost output = { λ after. Some (after_text after.0) };
+    ghost output = { λ behind. Some (dot_behind behind.words.now behind.dot) };
 
     fn fmt<W: fmt::Write>(&self, f: &mut fmt::Formatter<W>) -> fmt::Result {
-        match self.0 {
-            Some(dot) => write!(f, " after {dot}"),
+        match self.dot {
+            Some(dot) => write!(f, "{}{dot}", self.words),
             None => Ok(()),
         }
     }

@@ -1,3 +1,4 @@
+use crate::listed::Item;
 use dy_core::Place;
 use dy_transport::AnswerRead;
 use std::fmt;
@@ -20,42 +21,24 @@ impl fmt::Display for At {
     }
 }
 
-/// Places that print each behind a blank.
-#[derive(Clone, Copy, Debug)]
-pub struct Places<'a>(pub &'a [Place]);
+impl Item for Place {
+    ghost use Rattle.dy_lines.specs.Places.{place_text};
 
-impl fmt::Display for Places<'_> {
-    ghost use Rattle.std.specs.Prelude.{Some};
-    ghost use Rattle.dy_lines.specs.Places.{places_text};
+    ghost text = { place_text };
 
-    ghost output = { λ places. Some (places_text places.0.now) };
-
-    fn fmt<W: fmt::Write>(&self, f: &mut fmt::Formatter<W>) -> fmt::Result {
-        for place in self.0 {
-            f.write_str(" ")?;
-            fmt::Display::fmt(&At(*place), f)?;
-        }
-        Ok(())
+    fn write<W: fmt::Write>(&self, f: &mut fmt::Formatter<W>) -> fmt::Result {
+        fmt::Display::fmt(&At(*self), f)
     }
 }
 
-/// Answers that print each behind a blank: the place, and which kind of answer it gave.
-#[derive(Clone, Copy, Debug)]
-pub struct Answers<'a>(pub &'a [AnswerRead]);
+impl Item for AnswerRead {
+    ghost use Rattle.dy_lines.specs.Places.{answer_text};
 
-impl fmt::Display for Answers<'_> {
-    ghost use Rattle.std.specs.Prelude.{Some};
-    ghost use Rattle.dy_lines.specs.Places.{answers_text};
+    ghost text = { answer_text };
 
-    ghost output = { λ answers. Some (answers_text answers.0.now) };
-
-    fn fmt<W: fmt::Write>(&self, f: &mut fmt::Formatter<W>) -> fmt::Result {
-        for answer in self.0 {
-            f.write_str(" ")?;
-            fmt::Display::fmt(&At(answer.place), f)?;
-            f.write_str("=")?;
-            fmt::Display::fmt(&answer.kind, f)?;
-        }
-        Ok(())
+    fn write<W: fmt::Write>(&self, f: &mut fmt::Formatter<W>) -> fmt::Result {
+        fmt::Display::fmt(&At(self.place), f)?;
+        f.write_str("=")?;
+        fmt::Display::fmt(&self.kind, f)
     }
 }

@@ -1,7 +1,6 @@
 ghost use Rattle.std.specs.Prelude.{Some};
-ghost use Rattle.dy_lines.specs.Texts.{hex_text, position_text, nodes_text};
+ghost use Rattle.dy_lines.specs.Texts.{hex_text, position_text};
 
-use dy_dots::NodeId;
 use std::{fmt, str};
 
 /// Bytes that print as lower-case hexadecimal digits, two for each.
@@ -37,20 +36,5 @@ impl fmt::Display for Position {
     fn fmt<W: fmt::Write>(&self, f: &mut fmt::Formatter<W>) -> fmt::Result {
         let bytes = self.0.to_be_bytes();
         write!(f, "{}", Hex(&bytes))
-    }
-}
-
-/// Nodes that print each behind a blank.
-#[derive(Clone, Copy, Debug)]
-pub struct Nodes<'a>(pub &'a [NodeId]);
-
-impl fmt::Display for Nodes<'_> {
-    ghost output = { λ nodes. Some (nodes_text nodes.0.now) };
-
-    fn fmt<W: fmt::Write>(&self, f: &mut fmt::Formatter<W>) -> fmt::Result {
-        for node in self.0 {
-            write!(f, " {}", node.number())?;
-        }
-        Ok(())
     }
 }

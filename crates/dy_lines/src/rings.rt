@@ -2,7 +2,8 @@ ghost use Rattle.std.specs.Prelude.{OnOk};
 ghost use Rattle.std.specs.Io.KnownBytes.{Appends};
 ghost use Rattle.dy_lines.specs.Clusters.{token_lines};
 
-use crate::printed::{Hex, Nodes, Position};
+use crate::listed::Listed;
+use crate::printed::{Hex, Position};
 use dy_dots::NodeId;
 use dy_ring::Token;
 use dy_siblings::Key;
@@ -62,7 +63,7 @@ impl fmt::Display for KeyLine<'_> {
         write!(
             f,
             "key {key} position {position} nodes{}",
-            Nodes(self.nodes)
+            Listed(self.nodes)
         )
     }
 }

@@ -3,39 +3,40 @@ use crate::refusals::Refusal;
 use dy_dots::Fault;
 use std::fmt;
 
-/// The line of a command that could not be read: its number, and the refusal.
+/// A line with the number of its command.
 #[derive(Clone, Copy, Debug, PartialEq, Eq)]
-pub struct RefusedLine {
-    pub number: u32,
-    pub fault: Fault,
+pub enum ServedLine {
+    /// The command could not be read.
+    Refused { number: u32, fault: Fault },
+    /// A renewal carried over so many values.
+    Renewed { number: u32, carried: usize },
 }
 
-impl fmt::Display for RefusedLine {
+impl fmt::Display for ServedLine {
     ghost use Rattle.std.specs.Prelude.{Some};
-    ghost use Rattle.dy_lines.specs.Served.{refused_text};
+    ghost use Rattle.dy_lines.specs.Served.{served_text};
 
-    ghost output = { λ line. Some (refused_text line.number line.fault) };
+    ghost output = { λ line. Some (served_text line) };
 
     fn fmt<W: fmt::Write>(&self, f: &mut fmt::Formatter<W>) -> fmt::Result {
-        write!(f, "{} {}", self.number, Refusal(self.fault))
+        match self {
+            ServedLine::Refused { number, fault } => write!(f, "{number} {}", Refusal(*fault)),
+            ServedLine::Renewed { number, carried } => write!(f, "{number} {}", Carried(*carried)),
+        }
     }
 }
 
-/// The line of a renewal: its number, and how many values were carried over.
-#[derive(Clone, Copy, Debug, PartialEq, Eq)]
-pub struct RenewedLine {
-    pub number: u32,
-    pub carried: usize,
-}
+// How many values a renewal carried over.
+#[derive(Clone, Copy)]
+struct Carried(usize);
 
-impl fmt::Display for RenewedLine {
+impl fmt::Display for Carried {
     ghost use Rattle.std.specs.Prelude.{Some};
-    ghost use Rattle.dy_lines.specs.Served.{renewed_text};
+    ghost use Rattle.dy_lines.specs.Served.{carried_text};
 
-    ghost output = { λ line. Some (renewed_text line.number line.carried) };
+    ghost output = { λ carried. Some (carried_text carried.0) };
 
     fn fmt<W: fmt::Write>(&self, f: &mut fmt::Formatter<W>) -> fmt::Result {
-        let RenewedLine { number, carried } = self;
-        write!(f, "{number} renew ok carried {carried}")
+        write!(f, "renew ok carried {}", self.0)
     }
 }

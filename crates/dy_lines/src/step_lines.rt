@@ -1,7 +1,7 @@
 // The lines of steps, and of what sessions were told of the fetches among them.
-ghost use Rattle.std.specs.Prelude.{◌≡◌, ◌≤◌, ◌<◌, ◌+◌, ◌^◌, [], IfErr, IsOkUnless, OnOk, length};
+ghost use Rattle.std.specs.Prelude.{◌≡◌, ◌≤◌, ◌<◌, ◌+◌, ◌^◌, [], IfErr, OnOk, length};
 ghost use Rattle.std.specs.Io.KnownBytes.{Appends};
-ghost use Rattle.dy_lines.specs.StepLines.{fetches_behind, fetches_with, is_fetch as is_a_fetch};
+ghost use Rattle.dy_lines.specs.StepLines.{fetches_behind, is_fetch as is_a_fetch};
 ghost use Rattle.dy_lines.specs.StepLines.{line_behind, step_line, step_lines, told_line};
 ghost use Rattle.dy_lines.specs.Stops.{IsStoppedForMemory};
 ghost use Rattle.dy_lines.specs.inside.Fetches.{IsFirstBetween};
@@ -62,7 +62,9 @@ fn write_step<A: Audience, O: Write>(
 {
     if is_fetch(step) {
         write_line(audience, number, step, out)?;
-        note_fetch(audience, fetches, number)?;
+        if audience.is_told(number) {
+            fetches.push(number).map_err(|_| Fault::OutOfMemory)?;
+        }
         return Ok(());
     }
     write_told(audience, fetches.as_slice(), out)?;
@@ -99,28 +101,6 @@ fn write_line<A: Audience, O: Write>(
         session: audience.session_of(number),
     };
     write_whole(&line, out)?;
-    Ok(())
-}
-
-// Puts the fetch behind those that are still to be told, if a session was told of it.
-fn note_fetch<A: Audience>(
-    audience: &A,
-    fetches: &mut Vec<usize>,
-    number: usize,
-) -> Result<(), Fault>
-    requires behind { A.before audience.now < number }
-    requires within { number ≤ A.last audience.now }
-    requires first { IsFirstBetween (A.before audience.now) (A.last audience.now)
-        fetches.old.items }
-    ensures first { OnOk result (IsFirstBetween (A.before audience.now) (A.last audience.now)
-        fetches.new.items) }
-    ensures fetches { OnOk result (fetches.new.items
-        ≡ fetches_with (A.sessions audience.now) fetches.old.items number) }
-    ensures memory { IsOkUnless result Fault.OutOfMemory }
-{
-    if audience.is_told(number) {
-        fetches.push(number)?;
-    }
     Ok(())
 }
 

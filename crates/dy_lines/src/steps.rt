@@ -1,3 +1,4 @@
+use crate::listed::Listed;
 use crate::places::At;
 use crate::printed::Hex;
 use dy_shares::KeptStep;
@@ -89,24 +90,6 @@ impl fmt::Display for StepLine<'_> {
     }
 }
 
-// Numbers that print each behind a blank.
-#[derive(Clone, Copy)]
-struct Numbers<'a>(&'a [usize]);
-
-impl fmt::Display for Numbers<'_> {
-    ghost use Rattle.std.specs.Prelude.{Some};
-    ghost use Rattle.dy_lines.specs.Steps.{numbers_text};
-
-    ghost output = { λ numbers. Some (numbers_text numbers.0.now) };
-
-    fn fmt<W: fmt::Write>(&self, f: &mut fmt::Formatter<W>) -> fmt::Result {
-        for number in self.0 {
-            write!(f, " {number}")?;
-        }
-        Ok(())
-    }
-}
-
 /// The line of an answered get: the numbers of the fetches that it used, and the number of the
 /// session that was told their rows.
 #[derive(Clone, Copy, Debug)]
@@ -122,6 +105,6 @@ impl fmt::Display for ToldLine<'_> {
     ghost output = { λ line. Some (told_text line.fetches.now line.session) };
 
     fn fmt<W: fmt::Write>(&self, f: &mut fmt::Formatter<W>) -> fmt::Result {
-        write!(f, "told{} session {}", Numbers(self.fetches), self.session)
+        write!(f, "told{} session {}", Listed(self.fetches), self.session)
     }
 }

@@ -141,7 +141,7 @@ impl<J: Naming> Sheet<J> {
     pub fn ask_count(&self) -> usize
         ensures { result ≡ length self.now.told.asks }
     {
-        self.trail.ask_count()
+        self.sent.len()
     }
 
     /// Tells of a try. Takes no memory.
@@ -260,15 +260,11 @@ impl<J: Naming> Sheet<J> {
             self.trail.note_none();
             return None;
         };
-        self.left[number] = 0;
-        let sent = &self.sent[number];
-        let answer = Answer::NoAnswer;
-        let place = Place {
-            holder: sent.to,
-            home: sent.home,
-        };
-        self.trail
-            .note_reply(number, place.holder, place.home, &answer);
-        Some((place, answer))
+        self.take(Answered {
+            call: self.call,
+            number,
+            answer: Answer::NoAnswer,
+            is_last: true,
+        })
     }
 }

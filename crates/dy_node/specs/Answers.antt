@@ -10,8 +10,8 @@ use Rattle.dy_book.specs.Books.{BookParts, receipts_of, with_untold}
 use Rattle.dy_node.specs.Stored.{versions_at}
 use Rattle.dy_node.specs.Nodes.{NodeState, fetch_steps, hold_steps, with_message}
 use Rattle.dy_node.specs.Refusals.{FetchRefused, StoreRefused}
-use Rattle.dy_node.specs.declared.modes.Mode.{Mode}
-use Rattle.dy_node.specs.declared.modes.Mode.TheVariants.{Plain, Mute, Late, Repeat, Delay}
+use Rattle.dy_modes.specs.declared.modes.Mode.{Mode}
+use Rattle.dy_modes.specs.declared.modes.Mode.TheVariants.{Plain, Mute, Late, Repeat, Delay}
 use Rattle.dy_node.specs.declared.asks.Ask.{Ask}
 use Rattle.dy_node.specs.declared.asks.Ask.TheVariants.{Store, Fetch}
 use Rattle.dy_node.specs.declared.asks.Answer.{Answer}

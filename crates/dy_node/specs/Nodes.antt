@@ -19,10 +19,10 @@ use Rattle.dy_shares.specs.Codes.{node_part_code}
 use Rattle.dy_book.specs.Books.{BookParts, with_untold, world_of}
 use Rattle.dy_node.specs.Stored.{Rooms, Stored, empty_rooms, rooms_code, stored_code, versions_at}
 use Rattle.dy_node.specs.contracts.messages.Message as message
-use Rattle.dy_node.specs.contracts.modes.Mode as modes
+use Rattle.dy_modes.specs.contracts.modes.Mode as modes
 use Rattle.dy_node.specs.declared.messages.Message.{Message}
-use Rattle.dy_node.specs.declared.modes.Mode.{Mode}
-use Rattle.dy_node.specs.declared.modes.Mode.TheVariants.{Plain}
+use Rattle.dy_modes.specs.declared.modes.Mode.{Mode}
+use Rattle.dy_modes.specs.declared.modes.Mode.TheVariants.{Plain}
 
 -- what a node is seen as: its share, the rows that it keeps, whether it is up, its mode, and the
 -- messages that it stores later

@@ -3,9 +3,9 @@ ghost use Rattle.std.specs.Prelude.{◌≡◌, ◌↔◌, true, false, None};
 ghost use Rattle.dy_node.specs.Answers.{AnsweredBy, IsDone, IsDown, IsPutOff, IsRepeated, MayAsk};
 
 use crate::asks::{Answer, Ask};
-use crate::modes::Mode;
 use crate::nodes::Node;
 use dy_book::Book;
+use dy_modes::Mode;
 use dy_shares::Naming;
 
 // Does what is asked, whatever the mode.

@@ -8,11 +8,11 @@ ghost use Rattle.dy_node.specs.Stored.{ShowsNothing, kept_rows};
 ghost use Rattle.dy_node.specs.Nodes.{HoldsAs, first_state, with_mode, with_up};
 
 use crate::messages::Message;
-use crate::modes::Mode;
 use crate::stores::Stores;
 use dy_book::Book;
 use dy_dots::{Fault, NodeId};
 use dy_hint_store::RowRefFor;
+use dy_modes::Mode;
 use dy_shares::{Naming, NodeShare};
 use dy_siblings::Key;
 use std::alloc::Global;

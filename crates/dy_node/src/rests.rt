@@ -4,9 +4,9 @@ ghost use Rattle.dy_node.specs.Stored.{Shows};
 ghost use Rattle.dy_node.specs.Nodes.{AreDeferred};
 
 use crate::messages::Message;
-use crate::modes::Mode;
 use crate::nodes::Node;
 use crate::stores::Stores;
+use dy_modes::Mode;
 use dy_shares::{Naming, NodeShare};
 use std::alloc::Global;
 use std::collections::VecDeque;

@@ -38,10 +38,9 @@ pub fn begin_somewhere<J: Naming, T: Transport<J>, R: Wait>(
     ensures room { (T.told transport.new).room ≡ (T.told transport.old).room }
 {
     let nodes = list.nodes();
-    for i in 0..nodes.len() {
-        let node = nodes[i];
-        match transport.begin(rt, node, list.home_for(node), key, context, value) {
-            Ok(begun) => return Somewhere::At(node, begun),
+    for node in nodes {
+        match transport.begin(rt, *node, list.home_for(*node), key, context, value) {
+            Ok(begun) => return Somewhere::At(*node, begun),
             Err(Fault::Down) => {}
             Err(fault) => return Somewhere::Refused(fault),
         }
@@ -67,10 +66,9 @@ pub fn look_somewhere<J: Naming, T: Transport<J>, R: Wait>(
     ensures room { (T.told transport.new).room ≡ (T.told transport.old).room }
 {
     let nodes = list.nodes();
-    for i in 0..nodes.len() {
-        let node = nodes[i];
-        match transport.look(rt, node, list.home_for(node), key, since) {
-            Ok(seen) => return Somewhere::At(node, seen),
+    for node in nodes {
+        match transport.look(rt, *node, list.home_for(*node), key, since) {
+            Ok(seen) => return Somewhere::At(*node, seen),
             Err(Fault::Down) => {}
             Err(fault) => return Somewhere::Refused(fault),
         }

@@ -56,13 +56,13 @@ pub record IsDoneNext (s : Setting) (w : ℕ) (cs : List Command) (i : ℕ) (os 
   pub count : length os ≡ i
   pub done : DoAll s w (map command_parts (take (i + 1) cs)) (os ++ o ∷ []) first last
 
-pub done_next : (s : Setting) (w : ℕ) (cs : List Command) (i : ℕ) (os : List Outcome)
+pub done_next : (s t : Setting) (w : ℕ) (cs : List Command) (i : ℕ) (os : List Outcome)
     (c : Command) (o : Outcome) (first between last : Seated) →
     i < length cs → c ≡ slice_index_or cs i c →
-    DoAll s w (map command_parts (take i cs)) os first between →
-    Does s w (command_parts c) o between last →
+    DoAll s w (map command_parts (take i cs)) os first between → t ≡ s →
+    Does t w (command_parts c) o between last →
     IsDoneNext s w cs i os o first last
-done_next s w cs i os c o first between last within here done one =
+done_next s t w cs i os c o first between last within here done same one =
     let before = map command_parts (take i cs) in
     let next = take_more cs i c within ∙ ap (λ (x : Command). take i cs ++ x ∷ []) (sym here) in
     record {
@@ -70,7 +70,8 @@ done_next s w cs i os c o first between last within here done one =
           ∙ length-map (take i cs) command_parts ∙ length-take-le i cs (omega arith);
       done = subst (λ (l : List CommandParts). DoAll s w l (os ++ o ∷ []) first last)
           (sym (ap (map command_parts) next ∙ map-append command_parts (take i cs) (c ∷ [])))
-          (done_behind s w before os (command_parts c) o first between last done one);
+          (done_behind s w before os (command_parts c) o first between last done
+          (subst (λ (x : Setting). Does x w (command_parts c) o between last) same one));
     }
 
 -- and its line is written behind theirs

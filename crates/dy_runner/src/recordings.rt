@@ -1,12 +1,11 @@
 // A run whose outcomes are kept until its cluster is closed.
 ghost use Rattle.std.specs.Prelude.{◌≡◌, [], IfOk, IsOkUnless};
-ghost use Rattle.dy_dots.specs.declared.nodes.TheConstants.{MAX_NODES};
 ghost use Rattle.dy_script.specs.Reading.{script_parts};
 ghost use Rattle.dy_cluster.specs.Settings.{setting};
 ghost use Rattle.dy_runner.specs.Runs.{HasPlayed};
 
-use dy_cluster::{Cluster, DirectCalls, Session, Work};
-use dy_commands::{Seats, run_command};
+use dy_cluster::{OpenCluster, Work};
+use dy_commands::{Runner, Seats, run_command};
 use dy_dots::Fault;
 use dy_lines::Outcome;
 use dy_script::Script;
@@ -59,50 +58,31 @@ impl Work for Recording<'_> {
 
     ghost refused = { λ _ _ _ fault. fault ≡ Fault.OutOfMemory };
 
-    fn run<J: Naming, R: Wait>(
-        &mut self,
-        rt: &R,
-        alloc: Global,
-        cluster: &Cluster<J>,
-        sessions: &mut Vec<Session<J>>,
-    ) -> Result<(), Fault> {
-        let direct = cluster.direct_calls()?;
-        self.recorded = record_all(rt, alloc, cluster, direct, sessions, self.script)?;
+    fn run<J: Naming, R: Wait>(&mut self, lent: &mut OpenCluster<'_, J, R>) -> Result<(), Fault> {
+        self.recorded = record_all(lent, self.script)?;
         Ok(())
     }
 }
 
-// Runs each command over this transport. Room for what came of it is had before.
+// Runs each command. Room for what came of it is had before.
 fn record_all<J: Naming, R: Wait>(
-    rt: &R,
-    alloc: Global,
-    cluster: &Cluster<J>,
-    mut direct: DirectCalls<'_, J>,
-    sessions: &mut Vec<Session<J>>,
+    lent: &mut OpenCluster<'_, J, R>,
     script: &Script,
 ) -> Result<Recorded, Fault>
-    requires room { direct.room ≡ MAX_NODES }
-    requires none { sessions.old.items ≡ [] }
-    ensures played { IfOk result (HasPlayed (setting J J.ring J.n J.r cluster.now.options)
-        (script_parts script.now) sessions.new.items) }
+    requires none { lent.old.sessions.items ≡ [] }
+    ensures played { IfOk result (HasPlayed
+        (setting J J.ring J.n J.r lent.old.cluster.now.options) (script_parts script.now)
+        lent.new.sessions.items) }
     ensures memory { IsOkUnless result Fault.OutOfMemory }
 {
-    let mut seats = Seats::new(alloc);
-    let mut plays = Vec::new(alloc);
+    let mut runner = Runner::new(lent.alloc, lent.cluster)?;
+    let mut plays = Vec::new(lent.alloc);
     for command in script.run.as_slice() {
         plays.reserve(1)?;
-        let outcome = run_command(
-            rt,
-            alloc,
-            cluster,
-            &mut direct,
-            &mut seats,
-            sessions,
-            script.w,
-            command,
-        );
-        let steps = cluster.steps(rt);
+        let outcome = run_command(lent, &mut runner, command, script.w);
+        let steps = lent.cluster.steps(lent.rt);
         plays.push_reserved(Played { outcome, steps });
     }
+    let seats = runner.seats;
     Ok(Recorded { plays, seats })
 }

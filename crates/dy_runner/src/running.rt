@@ -1,16 +1,14 @@
-ghost use Rattle.std.specs.Prelude.{◌≡◌, [], OnOk};
-ghost use Rattle.dy_dots.specs.declared.nodes.TheConstants.{MAX_NODES};
+ghost use Rattle.std.specs.Prelude.{◌≡◌, [], false, OnOk};
 ghost use Rattle.dy_script.specs.Reading.{script_parts};
 ghost use Rattle.dy_cluster.specs.Settings.{setting};
 ghost use Rattle.dy_runner.specs.Runs.{HasRun};
 
-use dy_cluster::{Cluster, DirectCalls, Session, Work};
-use dy_commands::{Seats, run_command};
+use dy_cluster::{OpenCluster, Work};
+use dy_commands::{Runner, run_command};
 use dy_dots::Fault;
 use dy_lines::{CommandLine, write_whole};
 use dy_script::Script;
 use dy_shares::Naming;
-use std::alloc::Global;
 use std::io;
 use std::io::Write;
 use std::sync::Wait;
@@ -39,48 +37,31 @@ impl<O: Write> Work for Run<'_, O> {
 
     ghost refused = { λ _ _ _ fault. fault ≡ Fault.OutOfMemory };
 
-    fn run<J: Naming, R: Wait>(
-        &mut self,
-        rt: &R,
-        alloc: Global,
-        cluster: &Cluster<J>,
-        sessions: &mut Vec<Session<J>>,
-    ) -> Result<(), Fault> {
-        let direct = cluster.direct_calls()?;
-        if let Err(error) = run_all(rt, alloc, cluster, direct, sessions, self.script, self.out) {
+    fn run<J: Naming, R: Wait>(&mut self, lent: &mut OpenCluster<'_, J, R>) -> Result<(), Fault> {
+        let runner = Runner::new(lent.alloc, lent.cluster)?;
+        if let Err(error) = run_all(lent, runner, self.script, self.out) {
             self.lost = Some(error);
         }
         Ok(())
     }
 }
 
-// Runs each command over this transport, and writes its line.
+// Runs each command, and writes its line.
 fn run_all<J: Naming, O: Write, R: Wait>(
-    rt: &R,
-    alloc: Global,
-    cluster: &Cluster<J>,
-    mut direct: DirectCalls<'_, J>,
-    sessions: &mut Vec<Session<J>>,
+    lent: &mut OpenCluster<'_, J, R>,
+    mut runner: Runner<'_, J>,
     script: &Script,
     out: &mut O,
 ) -> io::Result<()>
-    requires room { direct.room ≡ MAX_NODES }
-    requires none { sessions.old.items ≡ [] }
-    ensures { OnOk result (HasRun (setting J J.ring J.n J.r cluster.now.options)
-        (script_parts script.now) sessions.new.items (O.contents out.old) (O.contents out.new)) }
+    requires unseated { runner.seats.numbers.items ≡ [] }
+    requires asked { runner.seats.refused ≡ false }
+    requires none { lent.old.sessions.items ≡ [] }
+    ensures { OnOk result (HasRun (setting J J.ring J.n J.r lent.old.cluster.now.options)
+        (script_parts script.now) lent.new.sessions.items (O.contents out.old)
+        (O.contents out.new)) }
 {
-    let mut seats = Seats::new(alloc);
     for (index, command) in script.run.iter().enumerate() {
-        let outcome = run_command(
-            rt,
-            alloc,
-            cluster,
-            &mut direct,
-            &mut seats,
-            sessions,
-            script.w,
-            command,
-        );
+        let outcome = run_command(lent, &mut runner, command, script.w);
         let line = CommandLine {
             number: index + 1,
             outcome: &outcome,

@@ -69,7 +69,7 @@ fn write_planned<O: Write, R: Wait>(
     ensures only { IfErr result (IsStoppedFor HasFailed) }
 {
     if with_steps {
-        return write_with_steps(rt, alloc, plan, script, out);
+        return write_with_steps(rt, alloc, &plan, script, out);
     }
     let Plan { ring, options } = plan;
     let closed = run_script(rt, alloc, ring, options, script, out)?;
@@ -82,22 +82,21 @@ fn write_planned<O: Write, R: Wait>(
 fn write_with_steps<O: Write, R: Wait>(
     rt: &R,
     alloc: Global,
-    plan: Plan,
+    plan: &Plan,
     script: &Script,
     out: &mut O,
 ) -> Result<(), Stopped>
-    requires planned { IsPlanOf (script_parts script.now) plan }
+    requires planned { IsPlanOf (script_parts script.now) plan.now }
     ensures run { OnOk result ((wrote : List ℕ) × IsRun (script_parts script.now) true wrote
         × Appends (O.contents out.old) (O.contents out.new) wrote) }
     ensures only { IfErr result (IsStoppedFor HasFailed) }
 {
-    let Plan { ring, options } = plan;
-    let again = ring.try_clone(alloc)?;
+    let ring = plan.ring.try_clone(alloc)?;
     let mut recording = Recording {
         script,
         recorded: Recorded::new(alloc),
     };
-    let closed = with_cluster(rt, alloc, ring, options, &mut recording)?;
+    let closed = with_cluster(rt, alloc, ring, plan.options, &mut recording)?;
     let recorded = &recording.recorded;
     let audit = &closed.audit;
     let trace = Trace::new(alloc, recorded.seats.numbers.as_slice(), audit)?;
@@ -106,7 +105,7 @@ fn write_with_steps<O: Write, R: Wait>(
         r: script.r,
         w: script.w,
     };
-    write_cluster(line, again.tokens(), out)?;
+    write_cluster(line, plan.ring.tokens(), out)?;
     write_plays(alloc, &trace, recorded.plays.as_slice(), out)?;
     write_audit(alloc, script.w, script.settled, audit, out)?;
     Ok(())

@@ -1,7 +1,5 @@
 // The cluster that the tests use.
-use dy_book::{MAX_STEPS, MAX_VERSIONS};
 use dy_cluster::{Fault, Options, Ring};
-use dy_dots::MAX_COUNTER;
 use std::alloc::Global;
 
 // How many nodes there are.
@@ -40,12 +38,5 @@ pub fn five_nodes(alloc: Global) -> Result<Ring, Fault> {
 
 /// Three homes a key, of which a put and a get need two.
 pub fn options() -> Options {
-    Options {
-        n: 3,
-        r: 2,
-        w: 2,
-        counter_limit: MAX_COUNTER,
-        versions_limit: MAX_VERSIONS,
-        steps_limit: MAX_STEPS,
-    }
+    Options::of(3, 2, 2)
 }

@@ -28,7 +28,8 @@ need k (Some x) = Ok x
 need k None = Err (ScriptSyntax k)
 
 -- what may be left out is read where it is there
-abbrev pub optional : {A : Type 0} → ℕ → (Data → Option A) → Option Data → Result (Option A) Fault
+abbrev pub optional :
+    {A D : Type 0} → ℕ → (D → Option A) → Option D → Result (Option A) Fault
 optional k read_as None = Ok None
 optional k read_as (Some d) = seen Some (need k (read_as d))
 

@@ -11,8 +11,8 @@ use Rattle.dy_dots.specs.declared.faults.Fault.{Fault}
 use Rattle.dy_dots.specs.declared.faults.Fault.TheVariants.{ScriptSyntax, UnknownCommand}
 use Rattle.dy_script.specs.declared.commands.Command.{Command}
 use Rattle.dy_script.specs.declared.commands.Command.TheVariants as command
-use Rattle.dy_script.specs.declared.commands.Mode.{Mode}
-use Rattle.dy_script.specs.declared.commands.Mode.TheVariants as mode
+use Rattle.dy_modes.specs.declared.modes.Mode.{Mode}
+use Rattle.dy_modes.specs.Modes.{mode_named}
 use Rattle.dy_script.specs.declared.commands.Write.{Write}
 use Rattle.dy_script.specs.declared.scripts.TheConstants.{MAX_SCRIPT_SESSIONS}
 use Rattle.dy_script.specs.Members.{◌>>=◌, need, allow_only, as_whole}
@@ -60,16 +60,7 @@ lone_node nodes k d = do
   _ ← allow_only k (codes "do" ∷ codes "node" ∷ []) d
   node_named nodes k d
 
--- the mode of this word
-unfoldable pub mode_named : List ℕ → Option Mode
-mode_named word =
-    if bytes_eq word (codes "none") then Some mode.None
-    else if bytes_eq word (codes "mute") then Some mode.Mute
-    else if bytes_eq word (codes "late") then Some mode.Late
-    else if bytes_eq word (codes "repeat") then Some mode.Repeat
-    else if bytes_eq word (codes "delay") then Some mode.Delay
-    else None
-
+-- the mode that the command names
 unfoldable pub mode_of : ℕ → Data → Result Mode Fault
 mode_of k d = do
   word ← text k (codes "mode") d

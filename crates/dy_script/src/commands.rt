@@ -1,17 +1,4 @@
-/// What a node does with the asks that reach it.
-#[derive(Clone, Copy, Debug, PartialEq, Eq)]
-pub enum Mode {
-    /// Does them, and answers.
-    None,
-    /// Does them, and answers nothing.
-    Mute,
-    /// Does them, and answers nothing at first; the answer comes later.
-    Late,
-    /// Does each three times, and gives the last answer.
-    Repeat,
-    /// Keeps stores for later, does no fetch, and answers nothing.
-    Delay,
-}
+use dy_modes::Mode;
 
 /// What a put and a delete say beside the value.
 #[derive(Debug, Drop)]

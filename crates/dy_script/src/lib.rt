@@ -12,7 +12,7 @@ mod scripts;
 mod streams;
 mod tokens;
 
-pub use commands::{Command, Mode, Write};
+pub use commands::{Command, Write};
 pub use reading::read;
 pub use requests::{Request, read_request};
 pub use scripts::{Layout, Limits, MAX_COMMANDS, MAX_SCRIPT_SESSIONS, Script};

@@ -3,7 +3,7 @@ ghost use Rattle.std.specs.List.{list_all};
 ghost use Rattle.dy_script.specs.inside.Documents.{view, items_view, members_view};
 ghost use Rattle.dy_script.specs.inside.Keys.{is_one_of};
 ghost use Rattle.serde_json.specs.Find.{get as member_of, as_str, as_bool, as_array, as_object};
-ghost use Rattle.dy_script.specs.Members.{seen, allow_only, text, small, flag};
+ghost use Rattle.dy_script.specs.Members.{need, optional, seen, allow_only, text, small, flag};
 ghost use Rattle.dy_script.specs.Members.{optional_text, optional_list, optional_whole};
 ghost use Rattle.dy_script.specs.Members.{optional_small, as_whole, as_small};
 
@@ -54,16 +54,30 @@ impl<'v, 'a> Members<'v, 'a> {
         self.value.get(name)
     }
 
+    // What was found, or else that the command is wrong.
+    fn need<T>(&self, found: Option<T>) -> Result<T, Fault>
+        ensures { result ≡ need self.now.command found }
+    {
+        found.ok_or(self.fault())
+    }
+
+    // What was read of a member that may be left out.
+    fn optional<T>(&self, read: Option<Option<T>>) -> Result<Option<T>, Fault>
+        ensures { result ≡ optional self.now.command (λ found. found) read }
+    {
+        match read {
+            Some(found) => Ok(Some(self.need(found)?)),
+            None => Ok(None),
+        }
+    }
+
     /// The text of this name.
     #[tactic(auto, unfolding(crate::specs::Members::text))]
     pub(crate) fn text(&self, name: &str) -> Result<&'a str, Fault>
         ensures { seen (λ s. s.now) result
             ≡ text self.now.command name.now (view self.now.value.now) }
     {
-        match self.get(name).and_then(text_of) {
-            Some(text) => Ok(text),
-            None => Err(self.fault()),
-        }
+        self.need(self.get(name).and_then(text_of))
     }
 
     /// The text of this name, where it is there.
@@ -72,13 +86,7 @@ impl<'v, 'a> Members<'v, 'a> {
         ensures { seen (option_map (λ s. s.now)) result
             ≡ optional_text self.now.command name.now (view self.now.value.now) }
     {
-        match self.get(name) {
-            Some(value) => match text_of(value) {
-                Some(text) => Ok(Some(text)),
-                None => Err(self.fault()),
-            },
-            None => Ok(None),
-        }
+        self.optional(self.get(name).map(text_of))
     }
 
     /// The elements of the list of this name, where it is there.
@@ -87,43 +95,23 @@ impl<'v, 'a> Members<'v, 'a> {
         ensures { seen (option_map (λ vs. items_view vs.now)) result
             ≡ optional_list self.now.command name.now (view self.now.value.now) }
     {
-        match self.get(name) {
-            Some(value) => match list_of(value) {
-                Some(list) => Ok(Some(list)),
-                None => Err(self.fault()),
-            },
-            None => Ok(None),
-        }
+        self.optional(self.get(name).map(list_of))
     }
 
     /// The whole number of this name, where it is there.
     #[tactic(auto, unfolding(crate::specs::Members::optional_whole))]
     pub(crate) fn optional_whole(&self, name: &str) -> Result<Option<u64>, Fault>
-        ensures { result
-            ≡ optional_whole self.now.command name.now (view self.now.value.now) }
+        ensures { result ≡ optional_whole self.now.command name.now (view self.now.value.now) }
     {
-        match self.get(name) {
-            Some(value) => match whole_of(value) {
-                Some(number) => Ok(Some(number)),
-                None => Err(self.fault()),
-            },
-            None => Ok(None),
-        }
+        self.optional(self.get(name).map(whole_of))
     }
 
     /// The whole number from 0 to 255 of this name, where it is there.
     #[tactic(auto, unfolding(crate::specs::Members::optional_small))]
     pub(crate) fn optional_small(&self, name: &str) -> Result<Option<u8>, Fault>
-        ensures { result
-            ≡ optional_small self.now.command name.now (view self.now.value.now) }
+        ensures { result ≡ optional_small self.now.command name.now (view self.now.value.now) }
     {
-        match self.get(name) {
-            Some(value) => match small_of(value) {
-                Some(number) => Ok(Some(number)),
-                None => Err(self.fault()),
-            },
-            None => Ok(None),
-        }
+        self.optional(self.get(name).map(small_of))
     }
 
     /// The whole number from 0 to 255 of this name.
@@ -131,10 +119,7 @@ impl<'v, 'a> Members<'v, 'a> {
     pub(crate) fn small(&self, name: &str) -> Result<u8, Fault>
         ensures { result ≡ small self.now.command name.now (view self.now.value.now) }
     {
-        match self.get(name).and_then(small_of) {
-            Some(number) => Ok(number),
-            None => Err(self.fault()),
-        }
+        self.need(self.get(name).and_then(small_of))
     }
 
     /// The truth value of this name, false where it is not there.
@@ -143,10 +128,7 @@ impl<'v, 'a> Members<'v, 'a> {
         ensures { result ≡ flag self.now.command name.now (view self.now.value.now) }
     {
         match self.get(name) {
-            Some(value) => match flag_of(value) {
-                Some(flag) => Ok(flag),
-                None => Err(self.fault()),
-            },
+            Some(value) => self.need(flag_of(value)),
             None => Ok(false),
         }
     }

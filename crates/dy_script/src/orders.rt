@@ -9,10 +9,11 @@ ghost use Rattle.dy_script.specs.Orders.{at_node, command_of};
 ghost use Rattle.dy_script.specs.inside.Documents.{view};
 ghost use Rattle.dy_script.specs.inside.Readings.{IsReadingOf};
 
-use crate::commands::{Command, Mode, Write};
+use crate::commands::{Command, Write};
 use crate::members::{Members, whole_of};
 use crate::scripts::MAX_SCRIPT_SESSIONS;
 use dy_dots::Fault;
+use dy_modes::Mode;
 use json::Value;
 use std::alloc::Global;
 
@@ -87,17 +88,13 @@ fn node_named(members: Members, nodes: usize) -> Result<usize, Fault>
 }
 
 /// The mode that the command names.
-#[tactic(auto, unfolding(crate::specs::Orders::mode_of, crate::specs::Orders::mode_named))]
+#[tactic(auto, unfolding(crate::specs::Orders::mode_of))]
 fn mode_of(members: Members) -> Result<Mode, Fault>
     ensures { result ≡ mode_of members.entry.command (view members.entry.value.now) }
 {
-    match members.text("mode")? {
-        "none" => Ok(Mode::None),
-        "mute" => Ok(Mode::Mute),
-        "late" => Ok(Mode::Late),
-        "repeat" => Ok(Mode::Repeat),
-        "delay" => Ok(Mode::Delay),
-        _ => Err(members.fault()),
+    match Mode::named(members.text("mode")?) {
+        Some(mode) => Ok(mode),
+        None => Err(members.fault()),
     }
 }
 

@@ -12,7 +12,7 @@ use Rattle.dy_serve.specs.Answers.{asked_of}
 use Rattle.dy_serve.specs.Below.{Standing, none_standing}
 use Rattle.dy_serve.specs.Closings.{Service}
 use Rattle.dy_serve.specs.InputLines.{is_nothing}
-use Rattle.dy_serve.specs.declared.open_clusters.Ways.{Ways}
+use Rattle.dy_serve.specs.declared.served_clusters.Ways.{Ways}
 use Rattle.dy_serve.specs.inside.Meeting.{AreAnsweredHere, IsAnsweredHere}
 use Rattle.dy_serve.specs.inside.Stretches.{ways_of}
 

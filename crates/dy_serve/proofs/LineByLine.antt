@@ -1,23 +1,25 @@
 -- One line more is answered behind those before it.
 use Rattle.std.proofs.Common.{◌≡◌, ◌≢◌, ◌∙◌, ◌+◌, ◌++◌, ◌∷◌, [], All, Bool, true, false, ℕ, List}
-use Rattle.std.proofs.Common.{Option, Ok, cond, length, refl, sym, ap, subst, arith, append-nil}
+use Rattle.std.proofs.Common.{Option, None, Ok, cond, length, refl, sym, ap, subst, arith, append-nil}
 use Rattle.std.proofs.Common.{inl, inr, length-append}
 use Rattle.std.proofs.KnownBytes.{Consumes-trans}
 use Rattle.std.proofs.lemmas.List.Elements.{All-append, All-cons, All-nil}
-use Rattle.std.specs.Io.KnownBytes.{Consumes}
+use Rattle.std.specs.Prelude.{Result, Err, IfOk}
+use Rattle.std.specs.Io.KnownBytes.{Appends, Consumes}
 use Rattle.dy_cluster.specs.Settings.{Setting}
 use Rattle.dy_cluster.specs.declared.restings.Closed.{Closed}
+use Rattle.dy_lines.specs.declared.stops.Stopped.{Stopped}
 use Rattle.dy_script.specs.Reading.{ScriptParts}
 use Rattle.dy_script.specs.Requests.{renews}
 use Rattle.dy_serve.specs.Answers.{Asked, asked_by, asked_in}
 use Rattle.dy_serve.specs.Below.{Standing}
 use Rattle.dy_serve.specs.InputLines.{AreLines, IsRead}
 use Rattle.dy_serve.specs.declared.answering.Answered.{Answered}
-use Rattle.dy_serve.specs.declared.open_clusters.Ways.{Ways}
+use Rattle.dy_serve.specs.declared.served_clusters.Ways.{Ways}
 use Rattle.dy_serve.specs.declared.services.Stop.{Stop}
 use Rattle.dy_serve.specs.inside.Meeting.{AreAnsweredHere, IsAnsweredHere, MeetsLine}
-use Rattle.dy_serve.specs.inside.Stretches.{Begins, ServesRest, ServesTo}
-use Rattle.dy_serve.specs.inside.Stretches.{with_renewal}
+use Rattle.dy_serve.specs.inside.Stretches.{Begins, HasBegun, RunsScript, ServesLines, ServesNone}
+use Rattle.dy_serve.specs.inside.Stretches.{ServesRest, ServesTo, with_renewal}
 use Rattle.dy_serve.proofs.Asking.{answered_behind, asked_behind}
 use Rattle.dy_serve.proofs.Stretching.{are_lines_behind}
 
@@ -137,6 +139,28 @@ rest_in s t w v nodes m count is_last stop before after in_old in_new text same_
     (subst (λ (x : ℕ). ServesRest is_last t v x count stop before after in_old in_new text)
     same_nodes rest))
 
+-- where there is more input
+pub lines_rest : (s t : Setting) (w v : Ways) (nodes m count : ℕ) (is_last : Bool) (stop : Stop)
+    (before after : Standing) (in_old in_new : Option (List ℕ)) (text : List ℕ) →
+    is_last ≡ false → t ≡ s → v ≡ w → m ≡ nodes →
+    ServesLines t v m count stop before after in_old in_new text →
+    ServesRest is_last s w nodes count stop before after in_old in_new text
+lines_rest s t w v nodes m count is_last stop before after in_old in_new text more same_setting
+    same_w same_nodes lines =
+    subst (λ (b : Bool). ServesRest b s w nodes count stop before after in_old in_new text)
+    (sym more)
+    (rest_in s t w v nodes m count false stop before after in_old in_new text same_setting same_w
+    same_nodes lines)
+
+-- and where there is none
+pub none_rest : (s : Setting) (w : Ways) (nodes count : ℕ) (is_last : Bool) (stop : Stop)
+    (before after : Standing) (in_old in_new : Option (List ℕ)) (text : List ℕ) →
+    is_last ≡ true → ServesNone count stop before after in_old in_new text →
+    ServesRest is_last s w nodes count stop before after in_old in_new text
+none_rest s w nodes count is_last stop before after in_old in_new text ended none =
+    subst (λ (b : Bool). ServesRest b s w nodes count stop before after in_old in_new text)
+    (sym ended) none
+
 -- where no renewal is asked for, and the input goes on
 pub serves_here : (s : Setting) (w : Ways) (nodes first count : ℕ) (does_renew is_last : Bool)
     (before after : Standing) (in_old in_new : Option (List ℕ)) (bytes text : List ℕ) →
@@ -155,3 +179,19 @@ pub begins_in : (s : Setting) (w : Ways) (script : ScriptParts) (x y : Option Cl
     Begins s w script x number after count text → Begins s w script y number after count text
 begins_in s w script x y number after count text same begins =
     subst (λ (c : Option Closed). Begins s w script c number after count text) same begins
+
+-- a cluster begins with the commands of the script, where none was before it
+pub begun_by : (s : Setting) (w : Ways) (script : ScriptParts) (closed : Option Closed)
+    (n : ℕ) (after : Standing) (out_old out_new : Option (List ℕ))
+    (r : Result ℕ Stopped) → closed ≡ None →
+    IfOk r (λ _. length after.sessions.numbers ≡ length after.sessions.tellings) →
+    IfOk r (λ count. (text : List ℕ) × RunsScript s w script after count text
+    × Appends out_old out_new text) →
+    IfOk r (λ count. HasBegun s w script closed n after count out_old out_new)
+begun_by s w script closed n after out_old out_new (Ok count) none together wrote = record {
+  together = together;
+  text = wrote.0;
+  begins = begins_in s w script None closed n after count wrote.0 (sym none) wrote.1;
+  wrote = wrote.2;
+}
+begun_by s w script closed n after out_old out_new (Err e) none together wrote = tt

@@ -28,7 +28,7 @@ use Rattle.dy_serve.specs.Answers.{IsCarriedInto, IsDone}
 use Rattle.dy_serve.specs.Below.{AreBelow, AreBelowIf, AreNew, Standing, none_standing}
 use Rattle.dy_serve.specs.Below.{one_session, session_at, session_in, standing, told_by}
 use Rattle.dy_serve.specs.Closings.{AreLeft}
-use Rattle.dy_serve.specs.declared.open_clusters.Ways.{Ways}
+use Rattle.dy_serve.specs.declared.served_clusters.Ways.{Ways}
 use Rattle.dy_serve.specs.declared.told.ToldSoFar.{ToldSoFar}
 use Rattle.dy_serve.specs.inside.Stretches.{GoesOn}
 

@@ -31,7 +31,7 @@ use Rattle.dy_serve.specs.Closings.{Service}
 use Rattle.dy_serve.specs.InputLines.{AreFirstLines, AreLines}
 use Rattle.dy_serve.specs.Refusals.{CutsService, IsNotCarried, IsOutOfNumbers, IsRenewalRefused}
 use Rattle.dy_serve.specs.Served.{asked_of_all, first_lines, service_of}
-use Rattle.dy_serve.specs.declared.open_clusters.Ways.{Ways}
+use Rattle.dy_serve.specs.declared.served_clusters.Ways.{Ways}
 use Rattle.dy_serve.specs.declared.services.Stop.{Stop}
 use Rattle.dy_serve.specs.inside.Shortages.{StopsCluster, StopsClusters}
 use Rattle.dy_serve.specs.inside.Shortages.{StopsServing, begun_at}

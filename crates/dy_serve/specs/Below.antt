@@ -28,6 +28,10 @@ none_standing = record { sessions = none_seated; read = [] }
 abbrev pub standing : Seats → List SessionPart → List Entry → Standing
 standing seats tellings log = record { sessions = seated seats tellings; read = steps_of log }
 
+-- nothing was done in a cluster with these sessions and so much of the log read
+abbrev pub IsUntouched : Seats → List SessionPart → List Entry → Type 0
+IsUntouched seats tellings log = standing seats tellings log ≡ none_standing
+
 -- the session of this number, where it is open
 abbrev pub session_at : ℕ → Seated → Option SessionPart
 session_at number s = slice_get s.tellings (seat_of number s.numbers)

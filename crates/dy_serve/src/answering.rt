@@ -1,5 +1,5 @@
 // How a command and a line are answered.
-ghost use Rattle.std.specs.Prelude.{◌≡◌, ◌⊎◌, ◌+◌, List, ℕ, length, IfErr, IfOk, OnOk};
+ghost use Rattle.std.specs.Prelude.{◌≡◌, ◌⊎◌, ◌+◌, List, ℕ, IfErr, IfOk, OnOk};
 ghost use Rattle.std.specs.Io.KnownBytes.{Appends};
 ghost use Rattle.dy_lines.specs.Outcomes.{command_text};
 ghost use Rattle.dy_lines.specs.Served.{refused_text};
@@ -7,6 +7,7 @@ ghost use Rattle.dy_lines.specs.Stops.{IsStoppedFor, IsStoppedForMemory};
 ghost use Rattle.dy_lines.specs.Texts.{line as text_line};
 ghost use Rattle.dy_script.specs.Orders.{command_parts};
 ghost use Rattle.dy_cluster.specs.Settings.{setting};
+ghost use Rattle.dy_commands.specs.Commands.{IsTogether};
 ghost use Rattle.dy_serve.specs.Answers.{IsDone};
 ghost use Rattle.dy_serve.specs.Below.{standing};
 ghost use Rattle.dy_serve.specs.inside.Meeting.{AsksSo, MeetsLine};
@@ -14,11 +15,12 @@ ghost use Rattle.dy_serve.specs.inside.Shortages.{HasNoNumber};
 ghost use Rattle.dy_serve.specs.InputLines.{IsKept};
 
 use crate::input_lines::{Line, is_blank};
-use crate::open_clusters::OpenCluster;
+use crate::served_clusters::ServedCluster;
 use crate::told::{session_of, told_so_far};
-use dy_cluster::Session;
+use dy_cluster::OpenCluster;
+use dy_commands::run_command;
 use dy_dots::Fault;
-use dy_lines::{CommandLine, Outcome, RefusedLine, Stopped, write_whole};
+use dy_lines::{CommandLine, Outcome, ServedLine, Stopped, write_whole};
 use dy_script::{Command, Request, read_request};
 use dy_shares::Naming;
 use std::alloc::Global;
@@ -51,32 +53,30 @@ pub(crate) fn next_number(count: u32) -> Result<u32, Fault>
 /// Does the command of this number, and writes its line, and its steps below if they are wanted.
 /// All of it reaches the reader at once. May wait for locks.
 pub(crate) fn answer_command<J: Naming, O: Write, R: Wait>(
-    rt: &R,
-    alloc: Global,
-    opened: &mut OpenCluster<'_, J>,
-    sessions: &mut Vec<Session<J>>,
+    lent: &mut OpenCluster<'_, J, R>,
+    opened: &mut ServedCluster<'_, J>,
     number: u32,
     command: &Command,
     out: &mut O,
 ) -> Result<(), Stopped>
-    requires together { length opened.old.seats.numbers.items ≡ length sessions.old.items }
-    ensures together { length opened.new.seats.numbers.items ≡ length sessions.new.items }
-    ensures cluster { opened.new.cluster.now ≡ opened.old.cluster.now }
-    ensures w { opened.new.w ≡ opened.old.w }
-    ensures nodes { opened.new.nodes ≡ opened.old.nodes }
+    requires together { IsTogether opened.old.runner.seats lent.old.sessions.items }
+    ensures together { IsTogether opened.new.runner.seats lent.new.sessions.items }
+    ensures cluster { lent.new.cluster.now ≡ lent.old.cluster.now }
+    ensures terms { opened.new.terms ≡ opened.old.terms }
     ensures done { OnOk result ((text : List ℕ)
-        × IsDone (setting J J.ring J.n J.r opened.old.cluster.now.options) opened.old.w.w
-        opened.old.w.with_steps (command_parts command.now) number
-        (standing opened.old.seats sessions.old.items opened.old.mark)
-        (standing opened.new.seats sessions.new.items opened.new.mark) text
+        × IsDone (setting J J.ring J.n J.r lent.old.cluster.now.options) opened.old.terms.ways.w
+        opened.old.terms.ways.with_steps (command_parts command.now) number
+        (standing opened.old.runner.seats lent.old.sessions.items opened.old.mark)
+        (standing opened.new.runner.seats lent.new.sessions.items opened.new.mark) text
         × Appends (O.contents out.old) (O.contents out.new) text) }
     ensures memory { IfErr result IsStoppedForMemory }
 {
     let session = session_of(command);
-    let so_far = told_so_far(&opened.seats, sessions.as_slice(), session);
-    let outcome = opened.run(rt, alloc, sessions, command);
+    let so_far = told_so_far(&opened.runner.seats, lent.sessions.as_slice(), session);
+    let ways = opened.terms.ways;
+    let outcome = run_command(lent, &mut opened.runner, command, ways.w);
     tell(number, &outcome, out)?;
-    opened.write_below(rt, alloc, sessions.as_slice(), session, so_far, out)?;
+    opened.write_below(lent, session, so_far, out)?;
     out.flush()?;
     Ok(())
 }
@@ -99,7 +99,7 @@ fn refuse<O: Write>(number: u32, fault: Fault, out: &mut O) -> io::Result<()>
     ensures { OnOk result (Appends (O.contents out.old) (O.contents out.new)
         (text_line (refused_text number fault))) }
 {
-    let refusal = RefusedLine { number, fault };
+    let refusal = ServedLine::Refused { number, fault };
     writeln!(out, "{refusal}")?;
     out.flush()?;
     Ok(())
@@ -139,31 +139,28 @@ pub(crate) struct Answered {
 
 /// Answers the line, unless it asks to renew the cluster. May wait for locks.
 pub(crate) fn answer_line<J: Naming, O: Write, R: Wait>(
-    rt: &R,
-    alloc: Global,
-    opened: &mut OpenCluster<'_, J>,
-    sessions: &mut Vec<Session<J>>,
-    count: u32,
+    lent: &mut OpenCluster<'_, J, R>,
+    opened: &mut ServedCluster<'_, J>,
     line: &Line,
+    count: u32,
     out: &mut O,
 ) -> Result<Answered, Stopped>
-    requires together { length opened.old.seats.numbers.items ≡ length sessions.old.items }
-    ensures together { length opened.new.seats.numbers.items ≡ length sessions.new.items }
-    ensures cluster { opened.new.cluster.now ≡ opened.old.cluster.now }
-    ensures w { opened.new.w ≡ opened.old.w }
-    ensures nodes { opened.new.nodes ≡ opened.old.nodes }
+    requires together { IsTogether opened.old.runner.seats lent.old.sessions.items }
+    ensures together { IsTogether opened.new.runner.seats lent.new.sessions.items }
+    ensures cluster { lent.new.cluster.now ≡ lent.old.cluster.now }
+    ensures terms { opened.new.terms ≡ opened.old.terms }
     ensures answered { IfOk result (λ answered. (whole : List ℕ) →
         IsKept line.now.is_long line.now.bytes.items whole →
         (text : List ℕ)
-        × MeetsLine (setting J J.ring J.n J.r opened.old.cluster.now.options) opened.old.w
-        opened.old.nodes count whole answered
-        (standing opened.old.seats sessions.old.items opened.old.mark)
-        (standing opened.new.seats sessions.new.items opened.new.mark) text
+        × MeetsLine (setting J J.ring J.n J.r lent.old.cluster.now.options) opened.old.terms.ways
+        opened.old.terms.nodes count whole answered
+        (standing opened.old.runner.seats lent.old.sessions.items opened.old.mark)
+        (standing opened.new.runner.seats lent.new.sessions.items opened.new.mark) text
         × Appends (O.contents out.old) (O.contents out.new) text) }
     ensures only { IfErr result (IsStoppedFor
         (λ fault. (fault ≡ Fault.OutOfMemory) ⊎ HasNoNumber count fault)) }
 {
-    match asked_of_line(alloc, opened.nodes, count, line)? {
+    match asked_of_line(lent.alloc, opened.terms.nodes, count, line)? {
         LineAsked::Nothing => Ok(Answered {
             count,
             renews: false,
@@ -181,7 +178,7 @@ pub(crate) fn answer_line<J: Naming, O: Write, R: Wait>(
                 renews: true,
             }),
             Request::Do(command) => {
-                answer_command(rt, alloc, opened, sessions, number, &command, out)?;
+                answer_command(lent, opened, number, &command, out)?;
                 Ok(Answered {
                     count: number,
                     renews: false,

@@ -1,16 +1,15 @@
 // What is printed of a cluster that was closed.
-ghost use Rattle.std.specs.Prelude.{◌≡◌, ◌++◌, List, ℕ, IfErr, OnOk, length};
+ghost use Rattle.std.specs.Prelude.{◌++◌, List, ℕ, IfErr, OnOk};
 ghost use Rattle.std.specs.Io.KnownBytes.{Appends};
-ghost use mathlib.Core.List.{IsPrefix};
 ghost use Rattle.dy_shares.specs.Shares.{steps_of};
 ghost use Rattle.dy_shares.specs.declared.entries.Entry.{Entry};
-ghost use Rattle.dy_book.specs.Audits.{IsHistoryOf};
 ghost use Rattle.dy_lines.specs.Stops.{IsStoppedForMemory};
 ghost use Rattle.dy_plans.specs.AuditLines.{audit_lines};
 ghost use Rattle.dy_serve.specs.Closings.{AreLeft, AreLeftIf};
+ghost use Rattle.dy_serve.specs.inside.Reads.{HasRead};
 
 use crate::news::News;
-use crate::told::nothing_told;
+use crate::told::numbers_of;
 use dy_cluster::Audit;
 use dy_lines::{Stopped, write_step_lines};
 use dy_plans::write_audit;
@@ -28,9 +27,8 @@ pub(crate) fn write_closing<O: Write>(
     audit: &Audit,
     out: &mut O,
 ) -> Result<(), Stopped>
-    ensures written { OnOk result ((read log : List Entry) → steps ≡ length read
-        → IsPrefix read log → IsHistoryOf audit.now.history (steps_of log) → (rest : List ℕ)
-        × AreLeftIf with_steps (steps_of read) audit.now rest
+    ensures written { OnOk result ((read : List Entry) → HasRead steps read audit.now
+        → (rest : List ℕ) × AreLeftIf with_steps (steps_of read) audit.now rest
         × Appends (O.contents out.old) (O.contents out.new)
         (rest ++ audit_lines script.now.w script.now.settled audit.now)) }
     ensures memory { IfErr result IsStoppedForMemory }
@@ -39,7 +37,7 @@ pub(crate) fn write_closing<O: Write>(
         write_last(alloc, script, audit, out)?;
         return Ok(());
     }
-    write_left(alloc, steps, audit, out)?;
+    write_left(alloc, audit, steps, out)?;
     write_last(alloc, script, audit, out)?;
     Ok(())
 }
@@ -63,13 +61,12 @@ fn write_last<O: Write>(
 // Writes the steps of the cluster behind so many.
 fn write_left<O: Write>(
     alloc: Global,
-    steps: usize,
     audit: &Audit,
+    steps: usize,
     out: &mut O,
 ) -> Result<(), Stopped>
-    ensures written { OnOk result ((read log : List Entry) → steps ≡ length read
-        → IsPrefix read log → IsHistoryOf audit.now.history (steps_of log) → (rest : List ℕ)
-        × AreLeft (steps_of read) audit.now rest
+    ensures written { OnOk result ((read : List Entry) → HasRead steps read audit.now
+        → (rest : List ℕ) × AreLeft (steps_of read) audit.now rest
         × Appends (O.contents out.old) (O.contents out.new) rest) }
     ensures memory { IfErr result IsStoppedForMemory }
 {
@@ -78,7 +75,8 @@ fn write_left<O: Write>(
         return Ok(());
     }
     let rest = &trail[steps..];
-    let news = News::new(alloc, steps, rest, 0, nothing_told(alloc))?;
+    let told = numbers_of(alloc, &[], &[])?;
+    let news = News::new(alloc, steps, rest, 0, told)?;
     write_step_lines(alloc, &news, news.before, news.steps, out)?;
     Ok(())
 }

@@ -6,7 +6,7 @@ mod answering;
 mod closing;
 mod input_lines;
 mod news;
-mod open_clusters;
+mod served_clusters;
 mod services;
 mod serving;
 mod told;

@@ -1,5 +1,4 @@
-ghost use Rattle.std.specs.Prelude.{◌≡◌, ◌⊎◌, List, ℕ, Result, None, false, IfErr, IfOk, OnOk};
-ghost use Rattle.std.specs.Prelude.{length};
+ghost use Rattle.std.specs.Prelude.{◌≡◌, ◌⊎◌, List, ℕ, Result, IfErr, IfOk, OnOk, length};
 ghost use Rattle.std.specs.Io.KnownBytes.{Appends};
 ghost use Rattle.std.specs.declared.marker.Brand.{Brand};
 ghost use Rattle.dy_dots.specs.declared.faults.Fault.{Fault as FaultParts};
@@ -19,7 +18,7 @@ ghost use Rattle.dy_serve.specs.InputLines.{IsAllOf};
 ghost use Rattle.dy_serve.specs.Refusals.{CutsService};
 ghost use Rattle.dy_serve.specs.Served.{IsServed, first_lines, service_of};
 ghost use Rattle.dy_serve.specs.inside.Shortages.{StopsCluster, StopsClusters};
-ghost use Rattle.dy_serve.specs.inside.Stretches.{HasServed, HasServedSo, ServesCluster};
+ghost use Rattle.dy_serve.specs.inside.Stretches.{HasServed, HasServedAll, ServesCluster};
 
 use crate::closing::write_closing;
 use crate::input_lines::Line;
@@ -33,6 +32,16 @@ use std::alloc::Global;
 use std::io;
 use std::io::{BufRead, Write};
 use std::sync::Wait;
+
+// What a service is for: the script, the cluster that it asks for, and whether steps are wanted.
+#[derive(Drop)]
+struct Setup<'a, R: Wait> {
+    rt: &'a R,
+    alloc: Global,
+    plan: &'a Plan,
+    script: &'a Script,
+    with_steps: bool,
+}
 
 /// Opens the cluster that the script asks for, and does its commands. Then it does the command that
 /// each line of the input says, to its end. Each is answered by a line, with its steps below if
@@ -61,89 +70,40 @@ pub fn serve<I: BufRead, O: Write, R: Wait>(
         × Appends (O.contents out.old) (O.contents out.new) wrote) }
 {
     match plan_of(alloc, script) {
-        Ok(plan) => serve_planned(rt, alloc, &plan, script, with_steps, input, out),
+        Ok(plan) => {
+            let setup = Setup {
+                rt,
+                alloc,
+                plan: &plan,
+                script,
+                with_steps,
+            };
+            serve_planned(&setup, input, out)
+        }
         Err(fault) => Err(Stopped::Refused(fault)),
     }
 }
 
 // Serves in clusters of this plan, one after another.
 fn serve_planned<I: BufRead, O: Write, R: Wait>(
-    rt: &R,
-    alloc: Global,
-    plan: &Plan,
-    script: &Script,
-    with_steps: bool,
+    setup: &Setup<'_, R>,
     input: &mut I,
     out: &mut O,
 ) -> Result<(), Stopped>
-    requires planned { IsPlanOf (script_parts script.now) plan.now }
+    requires planned { IsPlanOf (script_parts setup.now.script.now) setup.now.plan.now }
     ensures served { OnOk result ((text wrote : List ℕ)
-        × IsServed (script_parts script.now) with_steps text wrote
+        × IsServed (script_parts setup.now.script.now) setup.now.with_steps text wrote
         × IsAllOf (I.remaining input.old) text
         × Appends (O.contents out.old) (O.contents out.new) wrote) }
-    ensures only { IfErr result (IsStoppedFor (λ fault. CutsService (script_parts script.now)
-        with_steps (I.remaining input.old) (O.contents out.old) (O.contents out.new) fault
+    ensures only { IfErr result (IsStoppedFor (λ fault.
+        CutsService (script_parts setup.now.script.now) setup.now.with_steps
+        (I.remaining input.old) (O.contents out.old) (O.contents out.new) fault
         ⊎ HasFailed fault)) }
 {
-    write_head(plan, script, with_steps, out)?;
-    let line = Line::new(alloc)?;
-    let stop = Stop {
-        count: 0,
-        renews: false,
-        is_last: false,
-    };
-    let mut progress = Progress {
-        line,
-        closed: None,
-        seats: Seats::new(alloc),
-        steps: 0,
-        stop,
-    };
-    serve_clusters(
-        rt,
-        alloc,
-        plan,
-        script,
-        with_steps,
-        &mut progress,
-        input,
-        out,
-    )?;
+    write_head(setup.plan, setup.script, setup.with_steps, out)?;
+    let line = Line::new(setup.alloc)?;
+    serve_clusters(setup, line, input, out)?;
     Ok(())
-}
-
-// Serves in one cluster after another, until no line asks to renew it.
-fn serve_clusters<I: BufRead, O: Write, R: Wait>(
-    rt: &R,
-    alloc: Global,
-    plan: &Plan,
-    script: &Script,
-    with_steps: bool,
-    progress: &mut Progress,
-    input: &mut I,
-    out: &mut O,
-) -> Result<(), Stopped>
-    requires planned { IsPlanOf (script_parts script.now) plan.now }
-    requires closed { progress.old.closed ≡ None }
-    requires more { progress.old.stop.is_last ≡ false }
-    ensures ended { OnOk result (progress.new.stop.renews ≡ false) }
-    ensures served { OnOk result (HasServedSo
-        (service_of (script_parts script.now) plan.now.ring with_steps)
-        progress.new.closed progress.new.stop
-        (I.remaining input.old) (I.remaining input.new)
-        (O.contents out.old) (O.contents out.new)) }
-    ensures only { IfErr result (IsStoppedFor (StopsClusters
-        (service_of (script_parts script.now) plan.now.ring with_steps) (I.remaining input.old)
-        (O.contents out.old) (O.contents out.new))) }
-{
-    serve_cluster(rt, alloc, plan, script, with_steps, progress, input, out)?;
-    for _ in rt.forever() {
-        if !progress.stop.renews {
-            return Ok(());
-        }
-        serve_cluster(rt, alloc, plan, script, with_steps, progress, input, out)?;
-    }
-    unreachable!()
 }
 
 // Writes the cluster's numbers and its tokens, if the steps are wanted.
@@ -168,83 +128,114 @@ fn write_head<O: Write>(
     Ok(())
 }
 
+// Serves in one cluster after another, until no line asks to renew it.
+fn serve_clusters<I: BufRead, O: Write, R: Wait>(
+    setup: &Setup<'_, R>,
+    line: Line,
+    input: &mut I,
+    out: &mut O,
+) -> Result<(), Stopped>
+    requires planned { IsPlanOf (script_parts setup.now.script.now) setup.now.plan.now }
+    ensures served { OnOk result (HasServedAll
+        (service_of (script_parts setup.now.script.now) setup.now.plan.now.ring
+        setup.now.with_steps) (I.remaining input.old) (I.remaining input.new)
+        (O.contents out.old) (O.contents out.new)) }
+    ensures only { IfErr result (IsStoppedFor (StopsClusters
+        (service_of (script_parts setup.now.script.now) setup.now.plan.now.ring
+        setup.now.with_steps) (I.remaining input.old)
+        (O.contents out.old) (O.contents out.new))) }
+{
+    let stop = Stop {
+        count: 0,
+        renews: false,
+        is_last: false,
+    };
+    let mut progress = Progress {
+        line,
+        closed: None,
+        seats: Seats::new(setup.alloc),
+        steps: 0,
+        stop,
+    };
+    serve_cluster(setup, &mut progress, input, out)?;
+    for _ in setup.rt.forever() {
+        if !progress.stop.renews {
+            return Ok(());
+        }
+        serve_cluster(setup, &mut progress, input, out)?;
+    }
+    unreachable!()
+}
+
 // Opens a cluster, serves in it, closes it, and writes how it was closed.
 fn serve_cluster<I: BufRead, O: Write, R: Wait>(
-    rt: &R,
-    alloc: Global,
-    plan: &Plan,
-    script: &Script,
-    with_steps: bool,
+    setup: &Setup<'_, R>,
     progress: &mut Progress,
     input: &mut I,
     out: &mut O,
 ) -> Result<(), Stopped>
-    requires planned { IsPlanOf (script_parts script.now) plan.now }
+    requires planned { IsPlanOf (script_parts setup.now.script.now) setup.now.plan.now }
     ensures served { OnOk result (ServesCluster
         (record {
-          setting = setting Brand plan.now.ring plan.now.options.n plan.now.options.r
-              plan.now.options;
-          script = script_parts script.now;
-          with_steps = with_steps;
+          setting = setting Brand setup.now.plan.now.ring setup.now.plan.now.options.n
+              setup.now.plan.now.options.r setup.now.plan.now.options;
+          script = script_parts setup.now.script.now;
+          with_steps = setup.now.with_steps;
         })
         progress.old.closed progress.old.stop progress.new.closed progress.new.stop
         (I.remaining input.old) (I.remaining input.new)
         (O.contents out.old) (O.contents out.new)) }
     ensures only { IfErr result (IsStoppedFor (StopsCluster
-        (setting Brand plan.now.ring plan.now.options.n plan.now.options.r plan.now.options)
-        (script_parts script.now) progress.old.closed progress.old.stop (I.remaining input.old)
-        (O.contents out.old) (O.contents out.new))) }
+        (setting Brand setup.now.plan.now.ring setup.now.plan.now.options.n
+        setup.now.plan.now.options.r setup.now.plan.now.options)
+        (script_parts setup.now.script.now) progress.old.closed progress.old.stop
+        (I.remaining input.old) (O.contents out.old) (O.contents out.new))) }
 {
-    let closed = close_served(rt, alloc, plan, script, with_steps, progress, input, out)?;
-    write_closing(
-        alloc,
-        script,
-        with_steps,
-        progress.steps,
-        &closed.audit,
-        out,
-    )?;
+    let closed = close_served(setup, progress, input, out)?;
+    let steps = progress.steps;
+    let (script, with_steps) = (setup.script, setup.with_steps);
+    write_closing(setup.alloc, script, with_steps, steps, &closed.audit, out)?;
     progress.closed = Some(closed);
     Ok(())
 }
 
 // Opens a cluster, serves in it, and closes it.
 fn close_served<I: BufRead, O: Write, R: Wait>(
-    rt: &R,
-    alloc: Global,
-    plan: &Plan,
-    script: &Script,
-    with_steps: bool,
+    setup: &Setup<'_, R>,
     progress: &mut Progress,
     input: &mut I,
     out: &mut O,
 ) -> Result<Closed, Stopped>
-    requires planned { IsPlanOf (script_parts script.now) plan.now }
+    requires planned { IsPlanOf (script_parts setup.now.script.now) setup.now.plan.now }
     ensures served { IfOk result (λ closed. (tellings : List SessionPart) × (read : List Entry)
-        × IsClosedBehind plan.now.ring plan.now.options.n plan.now.options.r tellings read closed
+        × IsClosedBehind setup.now.plan.now.ring setup.now.plan.now.options.n
+        setup.now.plan.now.options.r tellings read closed
         × (progress.new.steps ≡ length read)
-        × HasServed (setting Brand plan.now.ring plan.now.options.n plan.now.options.r
-        plan.now.options) (record { w = script.now.w; with_steps = with_steps })
-        (script_parts script.now) progress.old.closed progress.old.stop
+        × HasServed (setting Brand setup.now.plan.now.ring setup.now.plan.now.options.n
+        setup.now.plan.now.options.r setup.now.plan.now.options)
+        (record { w = setup.now.script.now.w; with_steps = setup.now.with_steps })
+        (script_parts setup.now.script.now) progress.old.closed progress.old.stop
         progress.new.stop (standing progress.new.seats tellings read)
         (I.remaining input.old) (I.remaining input.new)
         (O.contents out.old) (O.contents out.new)) }
-    ensures options { IfOk result (λ closed. closed.options ≡ plan.now.options) }
+    ensures options { IfOk result (λ closed. closed.options ≡ setup.now.plan.now.options) }
     ensures only { IfErr result (IsStoppedFor (StopsCluster
-        (setting Brand plan.now.ring plan.now.options.n plan.now.options.r plan.now.options)
-        (script_parts script.now) progress.old.closed progress.old.stop (I.remaining input.old)
-        (O.contents out.old) (O.contents out.new))) }
+        (setting Brand setup.now.plan.now.ring setup.now.plan.now.options.n
+        setup.now.plan.now.options.r setup.now.plan.now.options)
+        (script_parts setup.now.script.now) progress.old.closed progress.old.stop
+        (I.remaining input.old) (O.contents out.old) (O.contents out.new))) }
 {
-    let ring = plan.ring.try_clone(alloc)?;
+    let plan = setup.plan;
+    let ring = plan.ring.try_clone(setup.alloc)?;
     let mut service = Service {
-        script,
-        with_steps,
+        script: setup.script,
+        with_steps: setup.with_steps,
         progress,
         input,
         out,
         lost: None,
     };
-    let ended = with_marked_cluster(rt, alloc, ring, plan.options, &mut service);
+    let ended = with_marked_cluster(setup.rt, setup.alloc, ring, plan.options, &mut service);
     if let Some(error) = service.lost {
         return Err(Stopped::Output(error));
     }

@@ -1,5 +1,5 @@
 // What the session of a command was told by it.
-ghost use Rattle.std.specs.Prelude.{◌≡◌, [], IfOk, IsOkUnless, drop};
+ghost use Rattle.std.specs.Prelude.{◌≡◌, IfOk, IsOkUnless, drop};
 ghost use Rattle.dy_commands.specs.Commands.{seated};
 ghost use Rattle.dy_script.specs.Orders.{command_parts};
 ghost use Rattle.dy_serve.specs.Below.{AreNew, session_at, session_in, told_by};
@@ -75,24 +75,25 @@ pub(crate) fn told_since<J: Naming>(
             let numbers = session.numbers();
             let acks = behind(numbers.acks.as_slice(), so_far.acks);
             let fetches = behind(numbers.fetches.as_slice(), so_far.fetches);
-            Ok(StepNumbers {
-                acks: Vec::from_slice(alloc, acks)?,
-                fetches: Vec::from_slice(alloc, fetches)?,
-            })
+            Ok(numbers_of(alloc, acks, fetches)?)
         }
-        None => Ok(nothing_told(alloc)),
+        None => Ok(numbers_of(alloc, &[], &[])?),
     }
 }
 
-/// The step numbers of a session that was told nothing. Takes no memory.
-pub(crate) fn nothing_told(alloc: Global) -> StepNumbers
-    ensures acks { result.acks.items ≡ [] }
-    ensures fetches { result.fetches.items ≡ [] }
+/// These step numbers of a session.
+pub(crate) fn numbers_of(
+    alloc: Global,
+    acks: &[usize],
+    fetches: &[usize],
+) -> Result<StepNumbers, Fault>
+    ensures acks { IfOk result (λ told. told.acks.items ≡ acks.now) }
+    ensures fetches { IfOk result (λ told. told.fetches.items ≡ fetches.now) }
+    ensures memory { IsOkUnless result Fault.OutOfMemory }
 {
-    StepNumbers {
-        acks: Vec::new(alloc),
-        fetches: Vec::new(alloc),
-    }
+    let acks = Vec::from_slice(alloc, acks)?;
+    let fetches = Vec::from_slice(alloc, fetches)?;
+    Ok(StepNumbers { acks, fetches })
 }
 
 // The numbers behind so many.

@@ -1,7 +1,7 @@
 -- What fails next in a storm.
 use Rattle.std.specs.Prelude.{◌≡◌, ℕ, ◌%◌, true, false}
-use Rattle.dy_node.specs.declared.modes.Mode.{Mode}
-use Rattle.dy_node.specs.declared.modes.Mode.TheVariants.{Plain, Mute, Late, Repeat}
+use Rattle.dy_modes.specs.declared.modes.Mode.{Mode}
+use Rattle.dy_modes.specs.declared.modes.Mode.TheVariants.{Plain, Mute, Late, Repeat}
 use Rattle.rand_pcg.specs.Lcg.{Lcg}
 use Rattle.rand_pcg.specs.Pcg.{pcg32}
 use Rattle.dy_storm.specs.declared.events.Event.{Event}

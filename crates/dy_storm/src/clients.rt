@@ -6,7 +6,7 @@ ghost use Rattle.dy_storm.specs.Turns.{AreTurns};
 
 use crate::outages::Outages;
 use crate::turns::Player;
-use dy_clients::{Client, Connection, Fault, Naming, Transport};
+use dy_clients::{Access, Client, Connection, Fault, Naming, Transport};
 use dy_draws::draw;
 use dy_plans::Storm;
 use rand_pcg::Lcg64Xsh32;
@@ -70,12 +70,11 @@ impl Client for Clients {
     /// Makes its turns, whatever is refused. May wait for answers and locks.
     fn run<J: Naming, T: Transport<J>, R: Wait>(
         &self,
-        rt: &R,
-        alloc: Global,
         number: usize,
-        connection: &mut Connection<'_, J, T>,
+        lent: &mut Access<'_, J, T, R>,
     ) -> Result<(), Fault> {
-        self.make_turns(rt, alloc, &mut Player::new(number), connection);
+        let mut player = Player::new(number);
+        self.make_turns(lent.rt, lent.alloc, &mut player, &mut lent.connection);
         Ok(())
     }
 }

@@ -4,11 +4,10 @@ ghost use Rattle.dy_storm.specs.Seeds.{generator_of};
 
 use crate::events::{Event, Outage, next_outage};
 use crate::rounds::Rounds;
-use dy_clients::{Cluster, Naming, Operator, Post};
+use dy_clients::{Controls, Naming, Operator};
 use dy_plans::Storm;
 use rand_pcg::Lcg64Xsh32;
 use rand_pcg::rand_core::SeedableRng;
-use std::alloc::Global;
 use std::sync::Wait;
 use std::sync::atomic::{AtomicUsize, Ordering};
 
@@ -50,21 +49,15 @@ impl Outages {
 impl Operator for Outages {
     /// Once a round is over, one thing fails or comes back; the last of them do so at once where
     /// the clients have ended. Then every node is up, and does what it is asked.
-    fn run<J: Naming, R: Wait>(
-        &self,
-        rt: &R,
-        _alloc: Global,
-        cluster: &Cluster<J>,
-        post: &mut Post<J>,
-    ) {
+    fn run<J: Naming, R: Wait>(&self, lent: &mut Controls<'_, J, R>) {
         let mut generator = self.generator();
         for round in 0..self.plan.puts {
-            self.rounds.wait(rt, round);
+            self.rounds.wait(lent.rt, round);
             let next = next_outage(&mut generator);
-            let count = disturb(rt, cluster, post, next);
+            let count = disturb(lent, next);
             self.handed_over.fetch_add(count, Ordering::SeqCst);
         }
-        cluster.restore(rt);
+        lent.cluster.restore(lent.rt);
     }
 
     fn end<R: Wait>(&self, rt: &R) {
@@ -73,23 +66,18 @@ impl Operator for Outages {
 }
 
 // Lets it come true. Gives how many versions were handed over.
-fn disturb<J: Naming, R: Wait>(
-    rt: &R,
-    cluster: &Cluster<J>,
-    post: &mut Post<J>,
-    next: Outage,
-) -> usize
+fn disturb<J: Naming, R: Wait>(lent: &mut Controls<'_, J, R>, next: Outage) -> usize
     ensures { next.event ≢ Event.Handoff → result ≡ 0 }
 {
-    let Some(node) = cluster.node(next.node) else {
+    let Some(node) = lent.cluster.node(next.node) else {
         return 0;
     };
     match next.event {
-        Event::SetUp(is_up) => cluster.set_up(rt, node, is_up),
-        Event::SetMode(mode) => cluster.fault(rt, node, mode),
+        Event::SetUp(is_up) => lent.cluster.set_up(lent.rt, node, is_up),
+        Event::SetMode(mode) => lent.cluster.fault(lent.rt, node, mode),
         Event::Handoff => {
             // A pass at a node that is down, or without memory, hands nothing over.
-            if let Ok(pass) = cluster.handoff_by_post(rt, post, node) {
+            if let Ok(pass) = lent.cluster.handoff_by_post(lent.rt, &mut lent.post, node) {
                 return pass.released;
             }
         }

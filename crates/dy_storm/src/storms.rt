@@ -15,7 +15,7 @@ ghost use Rattle.dy_storm.specs.Turns.{AreTurns};
 use crate::clients::Clients;
 use crate::counts::Counts;
 use crate::rings::{five_nodes, options};
-use dy_clients::{ClientsDone, Closed, Fault, Ring, with_operator, with_workers};
+use dy_clients::{ClientsDone, Closed, Fault, Ring, Staff, with_operator, with_workers};
 use dy_mailboxes::Open;
 use dy_plans::Storm;
 use std::alloc::Global;
@@ -103,6 +103,9 @@ fn run<R: Threads + Wait + Sync>(
     if !clients.plan.faults {
         return with_workers(rt, alloc, ring, options(), &Open, threads, clients);
     }
-    let outages = &clients.outages;
-    with_operator(rt, alloc, ring, options(), &Open, threads, clients, outages)
+    let staff = Staff {
+        gate: &Open,
+        operator: &clients.outages,
+    };
+    with_operator(rt, alloc, ring, options(), &staff, threads, clients)
 }

@@ -1,12 +1,11 @@
 // What a storm prints of its steps.
-ghost use Rattle.std.specs.Prelude.{◌≡◌, ◌++◌, List, OnOk, IfErr};
+ghost use Rattle.std.specs.Prelude.{◌≡◌, List, OnOk, IfErr};
 ghost use Rattle.std.specs.Io.KnownBytes.{Appends};
 ghost use Rattle.std.specs.List.{enumerate_from, flat_map};
 ghost use Rattle.dy_shares.specs.Shares.{SessionPart};
-ghost use Rattle.dy_lines.specs.Clusters.{cluster_lines};
 ghost use Rattle.dy_lines.specs.Sessions.{place_by};
 ghost use Rattle.dy_lines.specs.Tellings.{AreToldBy};
-ghost use Rattle.dy_storm.specs.Traces.{all_gets, step_line, step_lines, trace_lines};
+ghost use Rattle.dy_storm.specs.Traces.{all_gets, step_line, trace_lines};
 
 use crate::rings::options;
 use dy_book::Audit;
@@ -37,26 +36,9 @@ pub(crate) fn write_trace<O: Write>(
     ensures refused { IfErr result (λ stopped. (fault : Fault)
         → stopped ≡ Stopped.Refused fault → fault ≡ Fault.OutOfMemory) }
 {
-    if is_wanted {
-        return write_log(alloc, tokens, audit, out);
+    if !is_wanted {
+        return Ok(());
     }
-    Ok(())
-}
-
-// Writes them.
-fn write_log<O: Write>(
-    alloc: Global,
-    tokens: &[Token],
-    audit: &Audit,
-    out: &mut O,
-) -> Result<(), Stopped>
-    ensures written { OnOk result ((tellings : List SessionPart)
-        → AreToldBy 2 audit.now.told.items tellings
-        → Appends (O.contents out.old) (O.contents out.new)
-        (cluster_lines 3 2 2 tokens.now ++ step_lines audit.now ++ all_gets tellings)) }
-    ensures refused { IfErr result (λ stopped. (fault : Fault)
-        → stopped ≡ Stopped.Refused fault → fault ≡ Fault.OutOfMemory) }
-{
     let told = audit.told.as_slice();
     let steps = audit.history.kept();
     let sessions = SessionIndex::new(alloc, steps.len(), told)?;

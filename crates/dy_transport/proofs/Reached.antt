@@ -25,8 +25,8 @@ use Rattle.dy_node.specs.declared.asks.Answer.TheVariants as answer
 use Rattle.dy_node.specs.declared.asks.Ask.{Ask}
 use Rattle.dy_node.specs.declared.asks.Ask.TheVariants.{Store, Fetch}
 use Rattle.dy_node.specs.declared.begun.Begun.{Begun}
-use Rattle.dy_node.specs.declared.modes.Mode.{Mode}
-use Rattle.dy_node.specs.declared.modes.Mode.TheVariants.{Plain, Mute, Late, Repeat, Delay}
+use Rattle.dy_modes.specs.declared.modes.Mode.{Mode}
+use Rattle.dy_modes.specs.declared.modes.Mode.TheVariants.{Plain, Mute, Late, Repeat, Delay}
 use Rattle.dy_transport.specs.Asking.{IsAnswerTo, IsBegun}
 
 -- the same versions, beside the same others
@@ -183,15 +183,14 @@ module _ {J : Type 0} where
         is_awaited = both.1;
       }
 
-  pub answers_fit : (to : ℕ) (ask : Ask J) (old : NodeState) (b : BookParts) (new : NodeState)
-      (c : BookParts) (first : Answer J) (second : Option (Answer J)) → old.part.node ≡ to →
+  pub answers_fit : (ask : Ask J) (old : NodeState) (b : BookParts) (new : NodeState)
+      (c : BookParts) (first : Answer J) (second : Option (Answer J)) →
       (old.is_up ≡ false → IsDown first) →
       (old.is_up ≡ false → (second ≡ None) × (new ≡ old) × (c ≡ b)) →
       (old.is_up ≡ true → AnsweredBy old.mode ask old b new c first second) →
-      AreAnswers to ask first second
-  answers_fit to ask old b new c first second is down nothing up =
-      subst (λ n. AreAnswers n ask first second) is
-      (by_flag old.is_up ask old b new c first second refl down nothing up)
+      AreAnswers old.part.node ask first second
+  answers_fit ask old b new c first second down nothing up =
+      by_flag old.is_up ask old b new c first second refl down nothing up
 
   -- what is begun, from the version that was made and from what was held
   pub begun_fits : (layout : Layout) (node home : ℕ) (key : List ℕ) (context : DotSet)

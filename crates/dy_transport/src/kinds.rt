@@ -39,13 +39,14 @@ impl fmt::Display for AnswerKind {
     ghost output = { λ kind. Some (kind_text kind) };
 
     fn fmt<W: fmt::Write>(&self, f: &mut fmt::Formatter<W>) -> fmt::Result {
-        match self {
-            AnswerKind::Stored => f.write_str("stored"),
-            AnswerKind::Rows => f.write_str("rows"),
-            AnswerKind::Down => f.write_str("down"),
-            AnswerKind::NoAnswer => f.write_str("noanswer"),
-            AnswerKind::Refused(number) => write!(f, "E{number}"),
-        }
+        let word = match self {
+            AnswerKind::Stored => "stored",
+            AnswerKind::Rows => "rows",
+            AnswerKind::Down => "down",
+            AnswerKind::NoAnswer => "noanswer",
+            AnswerKind::Refused(number) => return write!(f, "E{number}"),
+        };
+        f.write_str(word)
     }
 }
 

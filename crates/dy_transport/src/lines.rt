@@ -67,13 +67,10 @@ impl<J: Naming> Line<J> {
         ensures ok { IfOk result (λ line. line ≡ nothing_in_line room) }
         ensures memory { IsOkUnless result Fault.OutOfMemory }
     {
-        let trail = Trail::new(alloc, room)?;
-        let first = VecDeque::with_capacity(alloc, room)?;
-        let second = VecDeque::with_capacity(alloc, room)?;
         Ok(Line {
-            trail,
-            first,
-            second,
+            trail: Trail::new(alloc, room)?,
+            first: VecDeque::with_capacity(alloc, room)?,
+            second: VecDeque::with_capacity(alloc, room)?,
         })
     }
 
@@ -105,9 +102,8 @@ impl<J: Naming> Line<J> {
         ensures second_ones { self.new.second ≡ self.old.second
             ++ later_for (length self.old.told.asks) to ask.now later }
     {
-        let number = self.trail.ask_count();
         let home = home_asked(ask);
-        self.trail.note_ask(to, ask);
+        let number = self.trail.note_ask(to, ask);
         self.first.push_back_reserved(Waiting {
             number,
             node: to,

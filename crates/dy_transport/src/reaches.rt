@@ -16,6 +16,7 @@ ghost use Rattle.dy_transport.specs.Refusals.{IsOfBegin, IsOfNode, IsOfOffer};
 
 use crate::locks::lock_soon;
 use dy_book::Book;
+use dy_core::Place;
 use dy_dots::{Context, Fault, NodeId};
 use dy_node::{Answer, Ask, Begun, Node, RowFor, answer};
 use dy_shares::{Naming, Receipt, Seen, Since};
@@ -91,17 +92,15 @@ fn offer_by<J: Naming>(
     held.offer(book)
 }
 
-// The first and the later answer of this node, which has this number.
+// The first and the later answer of this node.
 fn answer_by<J: Naming>(
     held: &mut Node<J>,
     book: &mut Book<J>,
-    to: NodeId,
     ask: &Ask<'_, J>,
 ) -> (Answer<J>, Option<Answer<J>>)
-    requires number { held.old.part.node ≡ to }
-    requires may_ask { MayAsk J.ring J.n to ask.now }
-    ensures first { IsAnswerTo to ask.now result.0 }
-    ensures second { IfSome result.1 (λ second. IsAnswerTo to ask.now second) }
+    requires { MayAsk J.ring J.n held.old.part.node ask.now }
+    ensures first { IsAnswerTo held.old.part.node ask.now result.0 }
+    ensures second { IfSome result.1 (λ second. IsAnswerTo held.old.part.node ask.now second) }
     ensures awaited { IfSome result.1 (λ _. result.0 ≡ NoAnswer) }
     ensures down { IsDown result.0 ↔ (held.old.is_up ≡ false) }
     ensures nothing { held.old.is_up ≡ false →
@@ -134,46 +133,46 @@ impl<'a, J: Naming> Reach<'a, J> {
         Some(held)
     }
 
-    // Begins a put, under the node's lock and the book's.
+    // Begins a put at the holder for the home, under the node's lock and the book's.
     pub(crate) fn begin_at<R: Wait>(
         &self,
         rt: &R,
-        node: NodeId,
-        home: NodeId,
+        place: Place,
         key: &Key,
         context: &Context,
         value: &Option<Value>,
     ) -> Result<Begun<J>, Fault>
-        requires { IsTrue (may_hold (homes_of J.ring J.n key.now) node home) }
-        ensures begun { IfOk result (λ b.
-            IsBegun (layout_of J.ring J.n) node home key.now context.now value.now b) }
+        requires { IsTrue (may_hold (homes_of J.ring J.n key.now) place.holder place.home) }
+        ensures begun { IfOk result (λ b. IsBegun (layout_of J.ring J.n) place.holder place.home
+            key.now context.now value.now b) }
         ensures refused { IfErr result IsOfBegin }
     {
+        let Place { holder, home } = place;
         let copy = copied(self.alloc, value)?;
-        let Some(mut held) = self.lock_node(rt, node) else {
+        let Some(mut held) = self.lock_node(rt, holder) else {
             return Err(Fault::Down);
         };
         let mut open = lock_soon(rt, self.book);
-        begin_by(&mut held, &mut open, node, home, key, context, copy)
+        begin_by(&mut held, &mut open, holder, home, key, context, copy)
     }
 
-    // Fetches, under the node's lock and the book's.
+    // Fetches at the holder for the home, under the node's lock and the book's.
     pub(crate) fn look_at<R: Wait>(
         &self,
         rt: &R,
-        node: NodeId,
-        home: NodeId,
+        place: Place,
         key: &Key,
         since: &Since<J>,
     ) -> Result<Seen<J>, Fault>
-        ensures seen { IfOk result (λ s. IsSeenAt node home key.now since.now s) }
+        ensures seen { IfOk result
+            (λ s. IsSeenAt place.holder place.home key.now since.now s) }
         ensures refused { IfErr result IsOfNode }
     {
-        let Some(mut held) = self.lock_node(rt, node) else {
+        let Some(mut held) = self.lock_node(rt, place.holder) else {
             return Err(Fault::Down);
         };
         let mut open = lock_soon(rt, self.book);
-        held.fetch(&mut open, home, key, since)
+        held.fetch(&mut open, place.home, key, since)
     }
 
     // Lists hints, under the node's lock and the book's.
@@ -222,6 +221,6 @@ impl<'a, J: Naming> Reach<'a, J> {
             return (Answer::NoAnswer, None);
         };
         let mut open = lock_soon(rt, self.book);
-        answer_by(&mut held, &mut open, to, ask)
+        answer_by(&mut held, &mut open, ask)
     }
 }

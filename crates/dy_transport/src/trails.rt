@@ -76,13 +76,6 @@ impl<J: Naming> Trail<J> {
         self.room
     }
 
-    /// How many asks the trace has. Takes no memory.
-    pub fn ask_count(&self) -> usize
-        ensures { result ≡ length self.now.asks }
-    {
-        self.asks.len()
-    }
-
     /// Adds a try. Takes no memory.
     pub fn note_try(&mut self, tried: Try<J>)
         requires { length self.old.tries < self.old.room + SPARE_TRIES }
@@ -91,14 +84,18 @@ impl<J: Naming> Trail<J> {
         self.tries.push_reserved(tried);
     }
 
-    /// Adds an ask, after the answers that were read so far. Takes no memory.
-    pub fn note_ask(&mut self, to: NodeId, ask: &Ask<'_, J>)
+    /// Adds an ask, after the answers that were read so far, and gives its number, from 0. Takes no
+    /// memory.
+    pub fn note_ask(&mut self, to: NodeId, ask: &Ask<'_, J>) -> usize
         requires { length self.old.asks < self.old.room }
-        ensures { self.new ≡ with_ask self.old to ask.now }
+        ensures number { result ≡ length self.old.asks }
+        ensures told { self.new ≡ with_ask self.old to ask.now }
     {
+        let number = self.asks.len();
         let read = self.replies.len();
         self.asks.push_reserved(Asked::new(to, ask, read));
         self.drained = false;
+        number
     }
 
     /// Adds an answer to the ask of this number. Takes no memory.

@@ -69,7 +69,8 @@ pub trait Transport<J: Naming> {
             (Begin node home (snapshot_of key.now) (snapshot_of context.now)
             (snapshot_of value.now) (snapshot_of result)) }
     {
-        let gave = self.reach().begin_at(rt, node, home, key, context, value);
+        let place = Place { holder: node, home };
+        let gave = self.reach().begin_at(rt, place, key, context, value);
         self.note_try(&mut Some(Try::Begin {
             node,
             home,
@@ -96,7 +97,8 @@ pub trait Transport<J: Naming> {
         ensures told { told self.new ≡ with_try (told self.old)
             (Look node home (snapshot_of key.now) since.now (snapshot_of result)) }
     {
-        let gave = self.reach().look_at(rt, node, home, key, since);
+        let place = Place { holder: node, home };
+        let gave = self.reach().look_at(rt, place, key, since);
         self.note_try(&mut Some(Try::Look {
             node,
             home,
@@ -116,10 +118,8 @@ pub trait Transport<J: Naming> {
         ensures told { told self.new ≡ with_try (told self.old) (Offer node (snapshot_of result)) }
     {
         let gave = self.reach().offer_at(rt, node);
-        self.note_try(&mut Some(Try::Offer {
-            node,
-            gave: show(&gave),
-        }));
+        let shown = show(&gave);
+        self.note_try(&mut Some(Try::Offer { node, gave: shown }));
         gave
     }
 

@@ -1,7 +1,6 @@
 use crate::shoppers::visit;
 use crate::states::{beat, clear, reconcile};
-use dy_clients::{Client, Connection, Context, Fault, Key, Naming, Transport};
-use std::alloc::Global;
+use dy_clients::{Access, Client, Context, Fault, Key, Naming, Transport};
 use std::sync::Wait;
 use std::sync::atomic::{AtomicUsize, Ordering};
 
@@ -19,15 +18,13 @@ pub(crate) struct Shop {
 impl Client for Shop {
     fn run<J: Naming, T: Transport<J>, R: Wait>(
         &self,
-        rt: &R,
-        alloc: Global,
         number: usize,
-        connection: &mut Connection<'_, J, T>,
+        lent: &mut Access<'_, J, T, R>,
     ) -> Result<(), Fault> {
-        let done = call(rt, alloc, number, connection);
+        let done = call(number, lent);
         // Whoever was refused has gone, too.
         if self.gone.fetch_add(1, Ordering::SeqCst) == 4 {
-            self.lock_up(rt, alloc, connection)?;
+            self.lock_up(lent)?;
         }
         done
     }
@@ -35,16 +32,14 @@ impl Client for Shop {
 
 // What the client of this number came for.
 fn call<J: Naming, T: Transport<J>, R: Wait>(
-    rt: &R,
-    alloc: Global,
     number: usize,
-    connection: &mut Connection<'_, J, T>,
+    lent: &mut Access<'_, J, T, R>,
 ) -> Result<(), Fault> {
-    let key = Key::new(alloc, NAMES[number % 5].as_bytes())?;
+    let key = Key::new(lent.alloc, NAMES[number % 5].as_bytes())?;
     if number < 3 {
-        visit(rt, alloc, connection, &key, number)
+        visit(lent, &key, number)
     } else {
-        beat(rt, alloc, connection, &key, number == 3)
+        beat(lent, &key, number == 3)
     }
 }
 
@@ -53,22 +48,20 @@ impl Shop {
     // device is left.
     fn lock_up<J: Naming, T: Transport<J>, R: Wait>(
         &self,
-        rt: &R,
-        alloc: Global,
-        connection: &mut Connection<'_, J, T>,
+        lent: &mut Access<'_, J, T, R>,
     ) -> Result<(), Fault> {
-        let cluster = connection.cluster();
+        let cluster = lent.connection.cluster();
         for number in 0..usize::from(cluster.nodes()) {
             if let Some(node) = cluster.node(number) {
-                cluster.handoff(rt, node)?;
+                cluster.handoff(lent.rt, node)?;
             }
         }
         for number in 0..5usize {
-            let key = Key::new(alloc, NAMES[number].as_bytes())?;
+            let key = Key::new(lent.alloc, NAMES[number].as_bytes())?;
             let ended = if number < 3 {
-                clear(rt, alloc, connection, &key, &mut Context::new(alloc))?
+                clear(lent, &key, &mut Context::new(lent.alloc))?
             } else {
-                reconcile(rt, alloc, connection, &key)?
+                reconcile(lent, &key)?
             };
             self.found.fetch_add(ended, Ordering::SeqCst);
         }

@@ -6,7 +6,7 @@ use Rattle.dy_script.specs.Requests.{does, renews, request_parts}
 use Rattle.dy_serve.specs.Below.{Standing}
 use Rattle.dy_serve.specs.Answers.{Asked, IsDone, IsRefused, asked_by}
 use Rattle.dy_serve.specs.InputLines.{is_nothing}
-use Rattle.dy_serve.specs.declared.open_clusters.Ways.{Ways}
+use Rattle.dy_serve.specs.declared.served_clusters.Ways.{Ways}
 use Rattle.dy_serve.specs.declared.answering.Answered.{Answered}
 use Rattle.dy_serve.specs.declared.answering.LineAsked.{LineAsked}
 use Rattle.dy_serve.specs.declared.answering.LineAsked.TheVariants.{Nothing, Wanted, Wrong}

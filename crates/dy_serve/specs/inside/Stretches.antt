@@ -14,7 +14,7 @@ use Rattle.dy_serve.specs.Closings.{IsClosing, Service}
 use Rattle.dy_serve.specs.InputLines.{AreLines, IsAllOf}
 use Rattle.dy_serve.specs.Served.{asked_of_all}
 use Rattle.dy_serve.specs.inside.Meeting.{AreAnsweredHere}
-use Rattle.dy_serve.specs.declared.open_clusters.Ways.{Ways}
+use Rattle.dy_serve.specs.declared.served_clusters.Ways.{Ways}
 use Rattle.dy_serve.specs.declared.services.Stop.{Stop}
 
 -- how the commands of a service are done and told
@@ -49,6 +49,15 @@ abbrev pub Begins :
 Begins s w script None number after count text = RunsScript s w script after count text
 Begins s w script (Some closed) number after count text =
     GoesOn s w.with_steps closed number after count text
+
+-- it began so, each of its sessions has a number, and this was written
+pub record HasBegun (s : Setting) (w : Ways) (script : ScriptParts) (closed : Option Closed)
+    (number : ℕ) (after : Standing) (count : ℕ) (out_old out_new : Option (List ℕ))
+    : Type 0 where
+  pub together : length after.sessions.numbers ≡ length after.sessions.tellings
+  pub text : List ℕ
+  pub begins : Begins s w script closed number after count text
+  pub wrote : Appends out_old out_new text
 
 -- each line of these bytes was answered, from the number behind the first on; the last may ask to
 -- renew the cluster
@@ -151,3 +160,11 @@ pub record HasServedSo (v : Service) (closed : Option Closed) (stop : Stop)
   pub last_is : closed ≡ Some last
   pub so : ServedSo v stop last in_old in_new text
   pub wrote : Appends out_old out_new text
+
+-- so it was, and no line asks to renew the last cluster
+pub record HasServedAll (v : Service) (in_old in_new out_old out_new : Option (List ℕ))
+    : Type 0 where
+  pub closed : Option Closed
+  pub stop : Stop
+  pub ended : stop.renews ≡ false
+  pub served : HasServedSo v closed stop in_old in_new out_old out_new

@@ -11,7 +11,7 @@ returns-in-Ok-place-clause-told g c =
     let place = c.in-Ok-place.ensures in
     let judged = c.in-Ok.ensures in
     let naming = g.J.Naming in
-    let old = c.index_mut.result.now in
+    let old = c.index_mut-session.result.now in
     let new = c.get_in.new.session in
     let Reads : List ℕ → Type 0 = λ k. IsRead g.row.J.Denot naming.ring naming.n naming.r k
     c.get_in.result old new in
@@ -19,8 +19,8 @@ returns-in-Ok-place-clause-told g c =
     c.get_in.result in (
       Ok c.in-Ok.key,
       judged,
-      tried_at _ word.Get c.get_in.result _ c.args.sessions.now.items _ Read place.refused
-          (told_at c.in-Ok-place.place _ c.args.sessions.now.items
+      tried_at _ word.Get c.get_in.result _ c.args.lent.now.sessions.items _ Read place.refused
+          (told_at c.in-Ok-place.place _ c.args.lent.now.sessions.items
           c.place_of-place.new.sessions.items old new Read place.place place.there
-          c.index_mut.ensures.value place.seated (subst Reads judged.ok.0 c.get_in.ensures.told)),
+          c.index_mut-session.ensures.value place.seated (subst Reads judged.ok.0 c.get_in.ensures.told)),
     )

@@ -17,8 +17,8 @@ returns-in-Put-clause-done g c =
     let Judged : List ℕ → Type 0 = λ v. IsPutJudged (string_bytes write.key)
     (option_map string_bytes write.context) v given in
     let Runs : ℕ → Type 0 = λ w. RunsJudged g.row.J.Denot g.J.Naming.ring g.J.Naming.n
-    (seat_of write.session after.seats.numbers.items) w word.Put c.run_write.result
-    after.seats.refused c.args.sessions.now.items after.sessions.items given in
+    (seat_of write.session after.runner.seats.numbers.items) w word.Put c.run_write.result
+    after.runner.seats.refused c.args.lent.now.sessions.items after.lent.sessions.items given in
     rw c.in-Put.is (
       given,
       subst Judged c.deref.ensures.value (record {
@@ -44,8 +44,8 @@ returns-in-Delete-clause-done g c =
     let given = c.read_delete.result in
     let after = c.run_write-in-Delete.new in
     let Runs : ℕ → Type 0 = λ w. RunsJudged g.row.J.Denot g.J.Naming.ring g.J.Naming.n
-    (seat_of write.session after.seats.numbers.items) w word.Delete c.run_write-in-Delete.result
-    after.seats.refused c.args.sessions.now.items after.sessions.items given in
+    (seat_of write.session after.runner.seats.numbers.items) w word.Delete c.run_write-in-Delete.result
+    after.runner.seats.refused c.args.lent.now.sessions.items after.lent.sessions.items given in
     rw c.in-Delete.is (
       given,
       record {
@@ -72,8 +72,8 @@ returns-in-Get-clause-done g c =
     let naming = g.J.Naming in
     let Judged : List ℕ → Type 0 = λ k. IsKeyJudged k told.0 in
     let Reads : List ℕ → Type 0 = λ k. ReadsJudged g.row.J.Denot naming.ring naming.n naming.r
-    (seat_of c.in-Get.session c.run_get.new.seats.numbers.items) k c.run_get.result
-    c.run_get.new.seats.refused c.args.sessions.now.items c.run_get.new.sessions.items told.0 in
+    (seat_of c.in-Get.session c.run_get.new.runner.seats.numbers.items) k c.run_get.result
+    c.run_get.new.runner.seats.refused c.args.lent.now.sessions.items c.run_get.new.lent.sessions.items told.0 in
     rw c.in-Get.is (record {
       opens = record {
         opened = c.run_get.ensures.opened;

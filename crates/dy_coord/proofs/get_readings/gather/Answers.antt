@@ -32,41 +32,34 @@ read_rows-requires-clause-room g c =
     let p = c.requires.valid in
     let few : length c.args.list.now.nodes ≤ 32 = p.few in
     let room : 32 ≤ (g.T.Transport.told c.args.transport.now).room = c.requires.room in
-    rw (
-      c.ask_homes.ensures.room,
-      c.ask_homes.ensures.asks,
-      c.requires.fresh_asks,
-      c.home_for-held.ensures.value,
-      c.new-assign.ensures.value,
-    ) (omega arith)
-
-pub read_rows-requires-clause-answers_room : goal.read_rows-requires-clause-answers_room
-read_rows-requires-clause-answers_room g c =
-    let what = Fetch (snapshot_of c.args.key.now) c.args.since.now in
-    let asked = few_asked c.args.list.now what c.args.coordinator c.requires.valid in
-    let room = c.requires.answers_room in
+    let answers_room = c.requires.answers_room in
+    let gathering_room = c.requires.gathering_room in
     let none = ap length c.requires.no_answers in
-    rw (
-      c.ask_homes.ensures.asks,
-      c.requires.fresh_asks,
-      c.home_for-held.ensures.value,
-      c.new-assign.ensures.value,
-      ap length c.push_reserved.ensures.items ∙ length-append c.args.answers.now.items _,
-      c.push_reserved.ensures.capacity,
-    ) (omega arith)
-
-pub read_rows-requires-clause-gathering_room : goal.read_rows-requires-clause-gathering_room
-read_rows-requires-clause-gathering_room g c =
-    let what = Fetch (snapshot_of c.args.key.now) c.args.since.now in
-    let asked = few_asked c.args.list.now what c.args.coordinator c.requires.valid in
-    let room = c.requires.gathering_room in
     let same = ap (λ t. t.room) c.add.ensures in
-    rw (
-      c.ask_homes.ensures.asks,
-      c.requires.fresh_asks,
-      c.home_for-held.ensures.value,
-      c.new-assign.ensures.value,
-    ) (omega arith)
+    record {
+      fresh = c.ask_homes.ensures.replies;
+      asks = rw (
+        c.ask_homes.ensures.room,
+        c.ask_homes.ensures.asks,
+        c.requires.fresh_asks,
+        c.home_for-held.ensures.value,
+        c.new-assign.ensures.value,
+      ) (omega arith);
+      answers = rw (
+        c.ask_homes.ensures.asks,
+        c.requires.fresh_asks,
+        c.home_for-held.ensures.value,
+        c.new-assign.ensures.value,
+        ap length c.push_reserved.ensures.items ∙ length-append c.args.answers.now.items _,
+        c.push_reserved.ensures.capacity,
+      ) (omega arith);
+      pieces = rw (
+        c.ask_homes.ensures.asks,
+        c.requires.fresh_asks,
+        c.home_for-held.ensures.value,
+        c.new-assign.ensures.value,
+      ) (omega arith);
+    }
 
 pub read_rows-requires-clause-whats : goal.read_rows-requires-clause-whats
 read_rows-requires-clause-whats g c =

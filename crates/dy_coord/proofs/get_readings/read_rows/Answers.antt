@@ -26,7 +26,7 @@ read_next-requires-clause-room g c =
     let inv = c.reading.invariant in
     let n = reading_count what start.asks c.args.assign.now told.asks told.replies
     c.reading.assign inv.reading in
-    let room = c.requires.room in
+    let room = c.requires.room.asks in
     rw (inv.room, n) room
 
 pub read_next-requires-clause-answers_room : goal.read_next-requires-clause-answers_room
@@ -39,7 +39,7 @@ read_next-requires-clause-answers_room g c =
     c.reading.assign inv.reading in
     let len = inv.answers_len in
     let cap = inv.answers_room in
-    let room = c.requires.answers_room in
+    let room = c.requires.room.answers in
     λ within. omega arith
 
 pub add-requires : goal.add-requires
@@ -50,7 +50,7 @@ add-requires g c =
     let inv = c.reading.invariant in
     let n = reading_count what start.asks c.args.assign.now told.asks told.replies
     c.reading.assign inv.reading in
-    let room = c.requires.gathering_room in
+    let room = c.requires.room.pieces in
     let same = inv.gathering_room in
     let count = inv.count in
     let q = c.in-Some-read_next.ensures.some.1 in

@@ -89,8 +89,8 @@ pub returns-in-NoNode-clause-refused : goal.returns-in-NoNode-clause-refused
 returns-in-NoNode-clause-refused g c =
     let l = c.in-NoNode.ensures in
     inr (inr (record {
-      asks = l.asks ∙ c.requires.fresh_asks;
-      replies = l.replies ∙ c.requires.fresh_replies;
+      asks = l.asks ∙ c.requires.fresh.asks;
+      replies = l.replies ∙ c.requires.fresh.replies;
       answers = c.without_answers-in-NoNode.ensures.answers;
       cause = inr (inl (c.without_answers-in-NoNode.ensures.fault, rw (← c.since-since.ensures) l.tries));
     }))
@@ -100,8 +100,8 @@ pub returns-in-Refused-clause-refused : goal.returns-in-Refused-clause-refused
 returns-in-Refused-clause-refused g c =
     let l = c.in-Refused.ensures in
     inr (inr (record {
-      asks = l.asks ∙ c.requires.fresh_asks;
-      replies = l.replies ∙ c.requires.fresh_replies;
+      asks = l.asks ∙ c.requires.fresh.asks;
+      replies = l.replies ∙ c.requires.fresh.replies;
       answers = c.without_answers-in-Refused.ensures.answers;
       cause = inr (inr (rw (c.without_answers-in-Refused.ensures.fault, ← c.since-since.ensures) l.tries));
     }))

@@ -24,7 +24,7 @@ read_next-requires-clause-room g c =
     let n = reading_count (Store (snapshot_of c.args.row.now)) start.asks c.args.assign.now
     told.asks
     told.replies c.reading.assign inv.reading in
-    let room = c.requires.room in
+    let room = c.requires.room.asks in
     rw (inv.room, n) room
 
 pub read_next-requires-clause-answers_room : goal.read_next-requires-clause-answers_room
@@ -37,7 +37,7 @@ read_next-requires-clause-answers_room g c =
     told.replies c.reading.assign inv.reading in
     let len = inv.answers_len in
     let cap = inv.answers_room in
-    let room = c.requires.answers_room in
+    let room = c.requires.room.answers in
     λ within. omega arith
 
 pub add-requires-clause-room : goal.add-requires-clause-room
@@ -48,7 +48,7 @@ add-requires-clause-room g c =
     let n = reading_count (Store (snapshot_of c.args.row.now)) start.asks c.args.assign.now
     told.asks
     told.replies c.reading.assign inv.reading in
-    let room = c.requires.tally_room in
+    let room = c.requires.room.pieces in
     let same = inv.tally_room in
     let count = inv.count in
     let q = c.in-Some-read_next.ensures.some.1 in

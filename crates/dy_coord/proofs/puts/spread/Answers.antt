@@ -32,41 +32,34 @@ read_put-requires-clause-room g c =
     c.requires.valid in
     let few = c.requires.valid.few in
     let room = c.requires.room in
-    rw (
-      c.ask_homes.ensures.room,
-      c.ask_homes.ensures.asks,
-      c.requires.fresh_asks,
-      c.home_for-held.ensures.value,
-      c.new-assign.ensures.value,
-    ) (omega arith)
-
-pub read_put-requires-clause-answers_room : goal.read_put-requires-clause-answers_room
-read_put-requires-clause-answers_room g c =
-    let asked = few_asked c.args.list.now (Store (snapshot_of c.args.row.now)) c.args.coordinator
-    c.requires.valid in
-    let room = c.requires.answers_room in
+    let answers_room = c.requires.answers_room in
+    let tally_room = c.requires.tally_room in
     let none = ap length c.requires.no_answers in
-    rw (
-      c.ask_homes.ensures.asks,
-      c.requires.fresh_asks,
-      c.home_for-held.ensures.value,
-      c.new-assign.ensures.value,
-      ap length c.push_reserved.ensures.items ∙ length-append c.args.answers.now.items _,
-      c.push_reserved.ensures.capacity,
-    ) (omega arith)
-
-pub read_put-requires-clause-tally_room : goal.read_put-requires-clause-tally_room
-read_put-requires-clause-tally_room g c =
-    let asked = few_asked c.args.list.now (Store (snapshot_of c.args.row.now)) c.args.coordinator
-    c.requires.valid in
-    let room = c.requires.tally_room in
     let same = ap (λ t. t.room) c.add.ensures.value in
-    rw (
-      c.ask_homes.ensures.asks,
-      c.requires.fresh_asks,
-      c.home_for-held.ensures.value,
-      c.new-assign.ensures.value,
-    ) (omega arith)
+    record {
+      fresh = c.ask_homes.ensures.replies;
+      asks = rw (
+        c.ask_homes.ensures.room,
+        c.ask_homes.ensures.asks,
+        c.requires.fresh_asks,
+        c.home_for-held.ensures.value,
+        c.new-assign.ensures.value,
+      ) (omega arith);
+      answers = rw (
+        c.ask_homes.ensures.asks,
+        c.requires.fresh_asks,
+        c.home_for-held.ensures.value,
+        c.new-assign.ensures.value,
+        ap length c.push_reserved.ensures.items ∙ length-append c.args.answers.now.items _,
+        c.push_reserved.ensures.capacity,
+      ) (omega arith);
+      pieces = rw (
+        c.ask_homes.ensures.asks,
+        c.requires.fresh_asks,
+        c.home_for-held.ensures.value,
+        c.new-assign.ensures.value,
+      ) (omega arith);
+    }
 
 pub read_put-requires-clause-whats : goal.read_put-requires-clause-whats
 read_put-requires-clause-whats g c =

@@ -1,5 +1,5 @@
 -- Each node so far was down; the one that is tried now ends it, or is down too.
-use Rattle.std.proofs.Common.{◌≡◌, ℕ, List, Result, Ok, Err, take, rules, sym, ap, refl}
+use Rattle.std.proofs.Common.{◌≡◌, ℕ, List, Result, Ok, Err, take, arith, rules, sym, ap, refl}
 use Rattle.dy_dots.specs.declared.faults.Fault.{Fault}
 use Rattle.dy_node.specs.declared.begun.Begun.{Begun}
 use Rattle.dy_transport.specs.declared.tries.Try.{Try}
@@ -12,11 +12,11 @@ returns-in-Ok-clause-tries g c =
     let list = c.args.list.now in
     let tried : ℕ → Result (Begun g.row.J.Denot) Fault → Try g.row.J.Denot =
     begin_try list c.args.key.now c.args.context.now c.args.value.now in
-    let before : (g.T.Transport.told c.loop-i.transport).tries
-    ≡ downs tried (take c.loop-i.i c.nodes-nodes.result.now) =
-    rw c.loop-i.invariant refl in
-    tries_at tried list.nodes c.nodes-nodes.result.now _ c.loop-i.i c.index-nodes-i.result
-    (Ok c.in-Ok.begun) c.nodes-nodes.ensures.value c.loop-i-test.true c.index-nodes-i.is
+    let before : (g.T.Transport.told c.loop-node.transport).tries
+    ≡ downs tried (take c.loop-node.node-index c.nodes-nodes.result.now) =
+    rw c.loop-node.invariant refl in
+    tries_at tried list.nodes c.nodes-nodes.result.now _ c.loop-node.node-index c.node-item.result
+    (Ok c.in-Ok.begun) c.nodes-nodes.ensures.value (omega arith) c.node-item.is
     (rw (c.in-Ok.ensures.told, before, c.home_for.ensures.value) refl)
 
 pub returns-in-Ok-clause-begun : goal.returns-in-Ok-clause-begun
@@ -27,21 +27,21 @@ returns-in-Err-clause-tries g c =
     let list = c.args.list.now in
     let tried : ℕ → Result (Begun g.row.J.Denot) Fault → Try g.row.J.Denot =
     begin_try list c.args.key.now c.args.context.now c.args.value.now in
-    let before : (g.T.Transport.told c.loop-i.transport).tries
-    ≡ downs tried (take c.loop-i.i c.nodes-nodes.result.now) =
-    rw c.loop-i.invariant refl in (
+    let before : (g.T.Transport.told c.loop-node.transport).tries
+    ≡ downs tried (take c.loop-node.node-index c.nodes-nodes.result.now) =
+    rw c.loop-node.invariant refl in (
       (
-        c.index-nodes-i.result,
-        tries_at tried list.nodes c.nodes-nodes.result.now _ c.loop-i.i c.index-nodes-i.result
-            (Err c.in-Err.fault) c.nodes-nodes.ensures.value c.loop-i-test.true c.index-nodes-i.is
+        c.node-item.result,
+        tries_at tried list.nodes c.nodes-nodes.result.now _ c.loop-node.node-index c.node-item.result
+            (Err c.in-Err.fault) c.nodes-nodes.ensures.value (omega arith) c.node-item.is
             (rw (c.in-Err.ensures.told, before, c.home_for.ensures.value) refl),
       ),
       (search rules),
       c.in-Err.ensures.refused,
     )
 
-pub loop-i-preserved : goal.loop-i-preserved
-loop-i-preserved g c =
+pub loop-node-preserved : goal.loop-node-preserved
+loop-node-preserved g c =
     let list = c.args.list.now in
     let start = g.T.Transport.told c.args.transport.now in
     let tried : ℕ → Result (Begun g.row.J.Denot) Fault → Try g.row.J.Denot =
@@ -50,9 +50,9 @@ loop-i-preserved g c =
       c.begin.ensures.told,
       c.in-Err-Down.is,
       c.in-Err-Down.field-0-is,
-      c.loop-i.invariant,
+      c.loop-node.invariant,
       c.home_for.ensures.value,
     )
     (ap (λ (ts : List (Try g.row.J.Denot)). record start { tries = ts })
-    (sym (downs_more tried c.nodes-nodes.result.now c.loop-i.i c.index-nodes-i.result
-    c.loop-i-test.true c.index-nodes-i.is)))
+    (sym (downs_more tried c.nodes-nodes.result.now c.loop-node.node-index c.node-item.result
+    (omega arith) c.node-item.is)))

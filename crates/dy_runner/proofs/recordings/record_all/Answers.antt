@@ -1,6 +1,6 @@
 -- One more command is done, and recorded, behind those before it.
 use Rattle.std.proofs.Common.{◌≡◌, ◌<◌, ◌+◌, List, length}
-use Rattle.std.proofs.Common.{map, slice_index_or, sym, subst, take}
+use Rattle.std.proofs.Common.{◌∙◌, ap, map, slice_index_or, sym, subst, take}
 use Rattle.dy_cluster.specs.Settings.{setting}
 use Rattle.dy_lines.specs.declared.outcomes.Outcome.{Outcome}
 use Rattle.dy_script.specs.Orders.{command_parts}
@@ -20,20 +20,23 @@ loop-command-preserved g c =
     let index = c.loop-command.command-index in
     let script = c.args.script.now in
     let s = setting g.row.J.Denot g.J.Naming.ring g.J.Naming.n g.J.Naming.r
-    c.args.cluster.now.options in
-    let last = seated after.seats after.sessions.items in
+    c.args.lent.now.cluster.now.options in
+    let last = seated after.runner.seats after.lent.sessions.items in
     let same = c.as_slice-command-items.ensures.value in
     let within = subst (λ (cs : List Command). index < length cs) same c.loop-command-test.true in
     let here = subst (λ (cs : List Command). command ≡ slice_index_or cs index command) same
     c.command-item.is in
-    let next = done_next s script.w script.run.items index (outcomes_in plays) command outcome
-    none_seated (seated c.loop-command.seats c.loop-command.sessions.items) last within here
-    c.loop-command.invariant.so_far c.run_command-outcome.ensures.done in
+    let next = done_next s _ script.w script.run.items index (outcomes_in plays) command outcome
+    none_seated (seated c.loop-command.runner.seats c.loop-command.lent.sessions.items) last within
+    here
+    c.loop-command.invariant.so_far (ap (λ cl. setting g.row.J.Denot g.J.Naming.ring g.J.Naming.n
+    g.J.Naming.r cl.options) c.loop-command.invariant.cluster)
+    c.run_command-outcome.ensures.done in
     let played : Played = record { outcome = outcome; steps = c.steps-steps.result } in
     let recorded = outcomes_next plays c.reserve.new.self.items c.push_reserved.new.self.items
     played c.reserve.ensures.items c.push_reserved.ensures.items in
     record {
-      room = c.run_command-outcome.ensures.room;
+      cluster = c.run_command-outcome.ensures.cluster ∙ c.loop-command.invariant.cluster;
       together = c.run_command-outcome.ensures.together;
       so_far = subst (λ (os : List Outcome). DoAll s script.w
           (map command_parts (take (index + 1) script.run.items)) os none_seated last)

@@ -1,5 +1,5 @@
 -- One more command is done, and its line written, behind those before it.
-use Rattle.std.proofs.Common.{◌≡◌, ◌<◌, ◌++◌, ◌∷◌, [], List, length, slice_index_or, subst}
+use Rattle.std.proofs.Common.{◌≡◌, ◌∙◌, ◌<◌, ◌++◌, ◌∷◌, [], List, ap, length, slice_index_or, subst}
 use Rattle.dy_cluster.specs.Settings.{setting}
 use Rattle.dy_script.specs.declared.commands.Command.{Command}
 use Rattle.dy_commands.specs.Commands.{none_seated, seated}
@@ -20,12 +20,13 @@ loop-index-preserved g c =
     let here = subst (λ (cs : List Command). command ≡ slice_index_or cs index command) same
     c.command-item.is in
     let next = done_next (setting g.row.J.Denot g.J.Naming.ring g.J.Naming.n g.J.Naming.r
-    c.args.cluster.now.options) script.w script.run.items index so_far.0 command outcome none_seated
-    (seated c.loop-index.seats c.loop-index.sessions.items)
-    (seated after.seats after.sessions.items) within here so_far.1
-    c.run_command-outcome.ensures.done in
+    c.args.lent.now.cluster.now.options) _ script.w script.run.items index so_far.0 command outcome
+    none_seated (seated c.loop-index.runner.seats c.loop-index.lent.sessions.items)
+    (seated after.runner.seats after.lent.sessions.items) within here so_far.1
+    (ap (λ cl. setting g.row.J.Denot g.J.Naming.ring g.J.Naming.n g.J.Naming.r cl.options)
+    c.loop-index.invariant.cluster) c.run_command-outcome.ensures.done in
     record {
-      room = c.run_command-outcome.ensures.room;
+      cluster = c.run_command-outcome.ensures.cluster ∙ c.loop-index.invariant.cluster;
       together = c.run_command-outcome.ensures.together;
       so_far = (
         so_far.0 ++ outcome ∷ [],

@@ -8,7 +8,7 @@ use Rattle.dy_serve.specs.Closings.{AreLeftIf}
 use Rattle.dy_serve.proofs.closing.write_closing.Goals as goal
 
 pub returns-then-not-with_steps-clause-written : goal.returns-then-not-with_steps-clause-written
-returns-then-not-with_steps-clause-written g c read log steps begins history =
+returns-then-not-with_steps-clause-written g c read had =
     let contents = g.O.Write.contents in
     let script = c.args.script.now in
     let without : false ≡ c.args.with_steps = search rules in
@@ -18,11 +18,11 @@ returns-then-not-with_steps-clause-written g c read log steps begins history =
     ([], refl, c.in_ok-write_last.ensures.written)
 
 pub returns-clause-written : goal.returns-clause-written
-returns-clause-written g c read log steps begins history =
+returns-clause-written g c read had =
     let contents = g.O.Write.contents in
     let script = c.args.script.now in
     let wanted : true ≡ c.args.with_steps = search rules in
-    let left = c.in_ok-write_left.ensures.written read log steps begins history in
+    let left = c.in_ok-write_left.ensures.written read had in
     subst (λ (b : Bool). (rest : List ℕ) × AreLeftIf b (steps_of read) c.args.audit.now rest
     × Appends (contents c.args.out.now) (contents c.write_last-2.new.out)
     (rest ++ audit_lines script.w script.settled c.args.audit.now)) wanted

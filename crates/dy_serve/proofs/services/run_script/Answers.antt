@@ -23,17 +23,17 @@ loop-command-preserved g c =
     record {
       together = ends.together;
       cluster = ends.cluster ∙ c.loop-command.invariant.cluster;
-      w = ends.w ∙ c.loop-command.invariant.w;
-      nodes = ends.nodes ∙ c.loop-command.invariant.nodes;
+      terms = ends.terms ∙ c.loop-command.invariant.terms;
       count = number;
       so_far = (
         so_far.0 ++ ends.done.0,
         script_next _ _ _ _ items index command c.in_ok-count.count
-            (standing c.loop-command.opened.seats c.loop-command.sessions.items
+            (standing c.loop-command.opened.runner.seats c.loop-command.lent.sessions.items
             c.loop-command.opened.mark) _ so_far.0 ends.done.0
             within here so_far.1 number
             (ap (λ cl. setting g.row.J.Denot g.J.Naming.ring g.J.Naming.n g.J.Naming.r cl.options)
-            c.loop-command.invariant.cluster) c.loop-command.invariant.w ends.done.1,
+            c.loop-command.invariant.cluster)
+            (ap (λ t. t.ways) c.loop-command.invariant.terms) ends.done.1,
         Appends-trans _ _ _ so_far.0 ends.done.0 so_far.2 ends.done.2,
       );
     }

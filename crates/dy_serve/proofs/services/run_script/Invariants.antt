@@ -11,15 +11,14 @@ use Rattle.dy_serve.proofs.services.run_script.Given as goal
 abbrev pub invariant-loop-command : goal.invariant-loop-command
 invariant-loop-command g l =
     record {
-      together : length l.opened.seats.numbers.items ≡ length l.sessions.items;
-      cluster : l.opened.cluster.now ≡ l.initial.opened.cluster.now;
-      w : l.opened.w ≡ l.initial.opened.w;
-      nodes : l.opened.nodes ≡ l.initial.opened.nodes;
+      together : length l.opened.runner.seats.numbers.items ≡ length l.lent.sessions.items;
+      cluster : l.lent.cluster.now ≡ l.initial.lent.cluster.now;
+      terms : l.opened.terms ≡ l.initial.opened.terms;
       count : l.count ≡ l.command-index;
       so_far : (text : List ℕ)
           × AreAnsweredHere (setting g.row.J.Denot g.J.Naming.ring g.J.Naming.n g.J.Naming.r
-          l.initial.opened.cluster.now.options) l.initial.opened.w
+          l.initial.lent.cluster.now.options) l.initial.opened.terms.ways
           (asked_of (map command_parts (take l.command-index l.script.run.items))) 1 none_standing
-          (standing l.opened.seats l.sessions.items l.opened.mark) text
+          (standing l.opened.runner.seats l.lent.sessions.items l.opened.mark) text
           × Appends (g.O.Write.contents l.initial.out) (g.O.Write.contents l.out) text;
     }

@@ -13,8 +13,7 @@ loop-init g c =
       iterator = search rules;
       together = c.requires.together;
       cluster = refl;
-      w = refl;
-      nodes = refl;
+      terms = refl;
       so_far = (
         [],
         [],
@@ -39,7 +38,8 @@ returns-then-is_end-clause-served g c =
     let met = c.in_ok-answered.ensures.answered read.0 read.4 in
     let here = meets_in _ _ _ _ _ _ c.loop.count read.0 c.in_ok-answered.answered _ _ met.0
     (ap (λ cl. setting g.row.J.Denot g.J.Naming.ring g.J.Naming.n g.J.Naming.r cl.options)
-    c.loop.invariant.cluster) c.loop.invariant.w c.loop.invariant.nodes met.1 in (
+    c.loop.invariant.cluster) (ap (λ t. t.ways) c.loop.invariant.terms)
+    (ap (λ t. t.nodes) c.loop.invariant.terms) met.1 in (
       so.1 ++ met.0,
       record {
         bytes = so.0 ++ read.1;
@@ -59,7 +59,8 @@ loop-preserved g c =
     let met = ends.answered read.0 read.4 in
     let here = meets_in _ _ _ _ _ _ c.loop.count read.0 c.in_ok-answered.answered _ _ met.0
     (ap (λ cl. setting g.row.J.Denot g.J.Naming.ring g.J.Naming.n g.J.Naming.r cl.options)
-    c.loop.invariant.cluster) c.loop.invariant.w c.loop.invariant.nodes met.1 in
+    c.loop.invariant.cluster) (ap (λ t. t.ways) c.loop.invariant.terms)
+    (ap (λ t. t.nodes) c.loop.invariant.terms) met.1 in
     let goes_on = c.is_end.ensures.1 c.if-is_end.false in
     let serves = serves_line _ _ _ _ _ c.in_ok-is_last.is_last _ _ _ _ _ _ so.0 so.1 met.0 read.0
     read.1 so.2 read.2 read.3 read.5 c.in_ok-answered.answered here in
@@ -67,8 +68,7 @@ loop-preserved g c =
       iterator = search rules;
       together = ends.together;
       cluster = ends.cluster ∙ c.loop.invariant.cluster;
-      w = ends.w ∙ c.loop.invariant.w;
-      nodes = ends.nodes ∙ c.loop.invariant.nodes;
+      terms = ends.terms ∙ c.loop.invariant.terms;
       so_far = (
         so.0 ++ read.1,
         so.1 ++ met.0,

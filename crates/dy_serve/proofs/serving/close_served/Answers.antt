@@ -12,9 +12,10 @@ use Rattle.dy_serve.proofs.serving.close_served.Goals as goal
 
 pub returns-in_err-ended-clause-only : goal.returns-in_err-ended-clause-only
 returns-in_err-ended-clause-only g c =
+    let setup = c.args.setup.now in
     let contents = g.O.Write.contents in
-    let plan = c.args.plan.now in
-    let script = script_parts c.args.script.now in
+    let plan = setup.plan.now in
+    let script = script_parts setup.script.now in
     let progress = c.args.progress.now in
     let given = g.I.Read.remaining c.args.input.now in
     let before = contents c.args.out.now in

@@ -6,12 +6,16 @@ use Rattle.dy_serve.proofs.serving.serve_cluster.Goals as goal
 
 pub returns-clause-served : goal.returns-clause-served
 returns-clause-served g c =
-    let script = c.args.script.now in
+    let script = c.args.setup.now.script.now in
     let served = c.in_ok-closed.ensures.served in
     let closed = c.in_ok-closed.closed in
     let behind = served.2 in
-    let left = c.in_ok-write_closing.ensures.written served.1 behind.rest.book.log served.3 behind.begins
-    behind.ended.audit.tells.history in
+    let left = c.in_ok-write_closing.ensures.written served.1 (record {
+      log = behind.rest.book.log;
+      count = served.3;
+      begins = behind.begins;
+      history = behind.ended.audit.tells.history;
+    }) in
     record {
       stands = standing c.close_served.new.progress.seats served.0 served.1;
       between = g.O.Write.contents c.close_served.new.out;

@@ -9,7 +9,8 @@ invariant-loop g l =
     record {
       iterator : (goal.iterator-loop g).can_next l.iterator'
           × (goal.iterator-loop g).is_finite l.iterator';
-      so_far : HasServedSo (service_of (script_parts l.script) l.plan.ring l.with_steps)
+      so_far : HasServedSo (service_of (script_parts l.setup.script.now) l.setup.plan.now.ring
+          l.setup.with_steps)
           l.progress.closed l.progress.stop
           (g.I.Read.remaining l.fn.input) (g.I.Read.remaining l.input)
           (g.O.Write.contents l.fn.out) (g.O.Write.contents l.out);

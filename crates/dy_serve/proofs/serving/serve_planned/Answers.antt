@@ -12,15 +12,15 @@ use Rattle.dy_serve.proofs.serving.serve_planned.Goals as goal
 
 pub returns-clause-served : goal.returns-clause-served
 returns-clause-served g c =
-    let script = script_parts c.args.script.now in
-    let ring = c.args.plan.now.ring in
-    let head = first_lines script ring c.args.with_steps in
+    let setup = c.args.setup.now in
+    let script = script_parts setup.script.now in
+    let ring = setup.plan.now.ring in
+    let head = first_lines script ring setup.with_steps in
     let planned = c.requires.planned in
-    let had = c.in_ok-serve_clusters.ensures.served in
-    let ended = c.in_ok-serve_clusters.ensures.ended in
-    let served = all_served ring script c.args.with_steps c.serve_clusters.new.progress.stop
-    had.last
-    _ _ had.text planned.laid_out planned.limits planned.quorum ended had.so in (
+    let all = c.in_ok-serve_clusters.ensures.served in
+    let had = all.served in
+    let served = all_served ring script setup.with_steps all.stop had.last
+    _ _ had.text planned.laid_out planned.limits planned.quorum all.ended had.so in (
       had.so.bytes,
       head ++ had.text,
       served.0,
@@ -31,15 +31,16 @@ returns-clause-served g c =
 -- what stops the clusters cuts the service
 pub returns-in_err-serve_clusters-clause-only : goal.returns-in_err-serve_clusters-clause-only
 returns-in_err-serve_clusters-clause-only g c =
+    let setup = c.args.setup.now in
     let given = g.I.Read.remaining c.args.input.now in
     let before = g.O.Write.contents c.args.out.now in
     let between = g.O.Write.contents c.write_head.new.out in
     let after = g.O.Write.contents c.serve_clusters.new.out in
-    let script = script_parts c.args.script.now in
-    let ring = c.args.plan.now.ring in
-    passed_on (StopsClusters (service_of script ring c.args.with_steps) given between after)
-    (λ f. CutsService script c.args.with_steps given before after f ⊎ HasFailed f)
+    let script = script_parts setup.script.now in
+    let ring = setup.plan.now.ring in
+    passed_on (StopsClusters (service_of script ring setup.with_steps) given between after)
+    (λ f. CutsService script setup.with_steps given before after f ⊎ HasFailed f)
     c.in_err-serve_clusters.field-0.0 c.from_residual-in_err-serve_clusters.result
     c.from_residual-in_err-serve_clusters.ensures.1 c.in_err-serve_clusters.ensures.only
-    (λ f. cuts_behind script ring c.args.with_steps given before between after f
+    (λ f. cuts_behind script ring setup.with_steps given before between after f
     c.requires.planned.laid_out c.in_ok-write_head.ensures)

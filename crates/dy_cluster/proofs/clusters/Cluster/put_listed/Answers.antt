@@ -1,11 +1,20 @@
 use Rattle.std.proofs.Common.{subst}
 use Rattle.dy_preference.specs.Preferences.{Preferred}
-use Rattle.dy_coord.specs.PutEnds.{PutEnds}
+use Rattle.dy_cluster.specs.inside.Calls.{PutsBy}
 use Rattle.dy_cluster.proofs.clusters.Cluster.put_listed.Goals as goal
 
 -- the list is the key's
-pub returns-clause-ends : goal.returns-clause-ends
-returns-clause-ends g c =
-    subst (λ (list : Preferred). PutEnds list c.args.w c.args.key.now c.args.context.now
-    c.args.value c.args.session.now c.put.new.session (g.T.Transport.told c.args.transport.now)
-    (g.T.Transport.told c.put.new.transport) c.put.result) c.requires.list c.put.ensures.ends
+pub returns : goal.returns
+returns g c =
+    let told = g.T.Transport.told in
+    let call = c.args.call in
+    let P : Preferred → Type 0 = λ list. PutsBy {J = g.row.J.Denot} list call.w call.key.now
+    call.context.now call.value c.args.session.now c.put.new.session
+    (told c.args.transport.now) (told c.put.new.transport) c.put.result in
+    let puts : P c.args.list.now = record {
+      ends = c.put.ensures.ends;
+      ok = c.put.ensures.ok;
+      err = c.put.ensures.err;
+      room = c.put.ensures.room;
+    } in
+    subst P c.requires.list puts

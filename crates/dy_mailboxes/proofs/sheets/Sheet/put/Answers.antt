@@ -6,7 +6,7 @@ use Rattle.dy_mailboxes.proofs.sheets.Sheet.put.Goals as goal
 pub invariant_of-self : goal.invariant_of-self
 invariant_of-self g c =
     rw (
-      c.note_ask.ensures,
+      c.note_ask.ensures.told,
       c.push_reserved.ensures.items,
       c.push_reserved-2.ensures.items,
       c.push_reserved.ensures.capacity,

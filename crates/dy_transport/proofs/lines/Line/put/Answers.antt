@@ -6,14 +6,14 @@ use Rattle.dy_transport.proofs.lines.Line.put.Goals as goal
 pub invariant_of-self : goal.invariant_of-self
 invariant_of-self g c =
     rw (
-      c.note_ask.ensures,
+      c.note_ask-number.ensures.told,
       c.push_back_reserved.ensures.items,
       c.push_back_reserved-in-Some.ensures.items,
       c.push_back_reserved.ensures.capacity,
       c.push_back_reserved-in-Some.ensures.capacity,
     ) (
       puts_two _ _ _ _ _ c.args.to c.args.ask.now _ _ _ c.args.answer c.in-Some.answer
-          c.self.invariant.0 (room_left (sym c.self.view_is) c.requires.room) c.ask_count-number.ensures
+          c.self.invariant.0 (room_left (sym c.self.view_is) c.requires.room) c.note_ask-number.ensures.number
           c.home_asked-home.ensures c.requires.first
           (later_is _ _ _ c.in-Some.is c.requires.second)
           (later_is _ _ _ c.in-Some.is c.requires.awaited),
@@ -25,12 +25,12 @@ invariant_of-self g c =
 pub invariant_of-self-in_default : goal.invariant_of-self-in_default
 invariant_of-self-in_default g c =
     rw (
-      c.note_ask.ensures,
+      c.note_ask-number.ensures.told,
       c.push_back_reserved.ensures.items,
       c.push_back_reserved.ensures.capacity,
     ) (
       puts_one _ _ _ _ _ c.args.to c.args.ask.now _ _ _ c.args.answer c.self.invariant.0
-          (room_left (sym c.self.view_is) c.requires.room) c.ask_count-number.ensures
+          (room_left (sym c.self.view_is) c.requires.room) c.note_ask-number.ensures.number
           c.home_asked-home.ensures c.requires.first,
       c.self.invariant.1,
       c.self.invariant.2,

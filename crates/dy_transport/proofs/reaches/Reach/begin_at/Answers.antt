@@ -7,5 +7,5 @@ use Rattle.dy_transport.proofs.reaches.Reach.begin_at.Goals as goal
 pub returns-clause-begun : goal.returns-clause-begun
 returns-clause-begun g c =
     subst (λ v. IfOk c.begin_by.result
-    (λ b. IsBegun (layout_of g.J.Naming.ring g.J.Naming.n) c.args.node c.args.home c.args.key.now c.args.context.now v b))
+    (λ b. IsBegun (layout_of g.J.Naming.ring g.J.Naming.n) c.args.place.holder c.args.place.home c.args.key.now c.args.context.now v b))
     c.in_ok-copy.ensures.value c.begin_by.ensures.begun
