@@ -2,8 +2,8 @@
 from typing import Any, Dict, Iterable, List, Optional, Sequence
 
 from reading.lines import (
-    COMMAND_FORMS, STEP_FORMS, Ack, Acked, Answer, Form, Got, Held, Issue, Listed, Place, Refusal,
-    Refused, Said, Shown, StepForm, Told, Written,
+    COMMAND_FORMS, STEP_FORMS, Ack, Acked, Answer, Done, Form, Got, Held, Issue, Listed, Place,
+    Refusal, Refused, Said, Shown, StepForm, Told, Written,
 )
 from reading.rules import AT_NODE, OF_KEY, OF_MODE, OF_SESSION, WRITES
 from reading.scripts import Command
@@ -89,6 +89,8 @@ def outcome_in(line: Line, run: Run) -> Object:
     if isinstance(form, Shown):
         hints = [{"home": home, "dots": dots} for home, dots in form.hints]
         return {"own": form.own, "hints": hints}
+    if isinstance(form, Done):
+        return dict(form.counts)
     if isinstance(form, Refused):
         answers = answers_in(form.answers) if form.answers else {}
         wanted = {"wanted": wanted_by(line, run)} if form.answers else {}

@@ -85,7 +85,7 @@ def say_got(form: Got, line: Line, run: Run) -> List[str]:
 
 
 def say_done(form: Done, line: Line, run: Run) -> List[str]:
-    return [line.command.told(COMMANDS[form.word].done)]
+    return [line.command.told(COMMANDS[form.word].done, form.counts)]
 
 
 def say_delivered(form: Delivered, line: Line, run: Run) -> List[str]:

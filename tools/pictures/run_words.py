@@ -1,7 +1,7 @@
 """What the row of a command says beside its lanes."""
 from typing import Callable, Dict, Tuple
 
-from reading.lines import COMMAND_FORMS, Delivered, Got, Passed, Refused, Shown, Written
+from reading.lines import Delivered, Done, Got, Passed, Refused, Shown, Written
 from reading.rules import AT_NODE, COMMANDS, OF_KEY, WRITES
 from reading.scripts import Command
 from reading.texts import counted
@@ -13,7 +13,7 @@ from .svg import shown
 def words_of(event: Event) -> Tuple[str, str]:
     """What the command asks, and what came of it."""
     drawn = COMMANDS[event.command.word].drawn
-    asked = event.command.told(drawn) if drawn else _asked(event.command)
+    asked = event.command.told(drawn, {}) if drawn else _asked(event.command)
     return asked, CAME[type(event.form)](event)
 
 
@@ -41,6 +41,10 @@ def _got(event: Event) -> str:
     return values + (f"; mended: {homes}" if homes else "")
 
 
+def _counted(event: Event, counts: Dict[str, int]) -> str:
+    return event.command.told(COMMANDS[event.command.word].came, counts)
+
+
 def _passed(event: Event) -> str:
     form = event.form
     if not form.offers:
@@ -59,11 +63,11 @@ def _refused(event: Event) -> str:
 
 
 CAME: Dict[type, Callable[[Event], str]] = {
-    **dict.fromkeys(COMMAND_FORMS, lambda event: ""),
     Written: _written,
     Got: _got,
+    Done: lambda event: _counted(event, event.form.counts),
     Passed: _passed,
-    Delivered: lambda event: f"{counted(event.form.stored, 'kept message')} stored",
+    Delivered: lambda event: _counted(event, {"stored": event.form.stored}),
     Shown: _held,
     Refused: _refused,
 }

@@ -1,6 +1,6 @@
 """The forms of the lines that `dynamo run` and `dynamo ring` print, by docs/FORMATS.md."""
 import re
-from typing import Callable, Iterator, List, Match, NamedTuple, Optional, Tuple, Union
+from typing import Callable, Dict, Iterator, List, Match, NamedTuple, Optional, Tuple, Union
 
 from .rules import COMMANDS, WRITES
 
@@ -17,7 +17,6 @@ KEY = "(?:[0-9a-f]{2})+"
 VALUE = f"{DOT}=(?:[0-9a-f]{{2}})*"
 REFUSAL = rf"(E({COUNT}) ([A-Za-z]+)(?: (?!after |answers )([^ ]+))?)"
 WROTE, OTHERS = "|".join(WRITES), "|".join(word for word in COMMANDS if word not in WRITES)
-DONE = "|".join(word for word, rule in COMMANDS.items() if rule.done)
 
 
 class Place(NamedTuple):
@@ -63,10 +62,11 @@ class Got(NamedTuple):
 
 
 class Done(NamedTuple):
-    """A command was done whose line says no more, as that a node is down, is up or has a mode."""
+    """A command was done whose line says no more than its counts, as that a node is down or up."""
 
     number: int
     word: str
+    counts: Dict[str, int]
 
 
 class Delivered(NamedTuple):
@@ -274,6 +274,17 @@ def lacking(number: str, word: str, dot: Optional[str], answers: str) -> Refused
     return Refused(int(number), word, refusal, dot, answers_of(answers))
 
 
+def counting(word: str) -> str:
+    """Returns the form of a line that says no more than what the command counts."""
+    counts = "".join(f" {name} ({COUNT})" for name in COMMANDS[word].counts)
+    return f"({COUNT}) ({word}) ok{counts}"
+
+
+def done(match: Match[str]) -> Done:
+    counts = map(int, match.groups()[2:])
+    return Done(int(match[1]), match[2], dict(zip(COMMANDS[match[2]].counts, counts)))
+
+
 def held(match: Match[str]) -> Held:
     return Held(place_of(match[1]), bytes.fromhex(match[2]), match[3])
 
@@ -314,12 +325,9 @@ FORMS: List[Tuple[str, Callable[[Match[str]], Form]]] = [
         f"({COUNT}) get ok context ({CONTEXT}) from((?: {PLACE})+) values((?: {VALUE})+| none)",
         lambda m: Got(int(m[1]), "get", m[2], places_of(m[3]), values_of(m[4])),
     ),
-    (f"({COUNT}) ({DONE}) ok", lambda m: Done(int(m[1]), m[2])),
+    *((counting(word), done) for word, rule in COMMANDS.items() if rule.done),
     (f"({COUNT}) deliver ok ({COUNT})", lambda m: Delivered(int(m[1]), "deliver", int(m[2]))),
-    (
-        f"({COUNT}) handoff ok offers ({COUNT}) stored ({COUNT}) released ({COUNT})",
-        lambda m: Passed(int(m[1]), "handoff", int(m[2]), int(m[3]), int(m[4])),
-    ),
+    (counting("handoff"), lambda m: Passed(int(m[1]), m[2], *map(int, m.groups()[2:]))),
     (
         f"({COUNT}) show ({NODE}) own ({CONTEXT})((?: for {NODE} {CONTEXT})*)",
         lambda m: Shown(int(m[1]), "show", int(m[2]), m[3], hints_of(m[4])),

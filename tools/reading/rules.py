@@ -9,8 +9,9 @@ from typing import Dict, NamedTuple, Tuple
 
 class CommandRule(NamedTuple):
     """The members that a command needs and may have; how many of 36 commands of a seed it is; what
-    it does; and whether its node must be up. Where its line says no more than ok: what explain says
-    of that line, and what a picture has beside it.
+    it does; and whether its node must be up. Then what its line counts behind ok, in this order, by
+    names. Where its line says nothing else: what explain says of it, and what a picture has for the
+    command and for these counts. A count is named there with its noun: {stored:message}.
     """
 
     needs: Tuple[str, ...]
@@ -18,8 +19,10 @@ class CommandRule(NamedTuple):
     often: int
     does: str
     wants_up: bool = False
+    counts: Tuple[str, ...] = ()
     done: str = ""
     drawn: str = ""
+    came: str = ""
 
 
 class Member(NamedTuple):
@@ -65,7 +68,9 @@ LIMITS: Dict[str, Limit] = {
 # The greatest number of each kind, before the ring and the quorum are known.
 NUMBERS = {"small": 255, "session": 31, "node": 254}
 
-# The seeds of tools/scripts name their scripts by the order of these rows, too.
+# The seeds of tools/scripts name their scripts by the order of these rows, too. This is the SHA-256
+# of the scripts of the seeds 1 to 20, as tools/scripts_test has them, one behind the other.
+SEEDED_SUM = "334890af0ad42211a474f68d7a971352205f058cb359ba1049988af1b42167e4"
 COMMANDS: Dict[str, CommandRule] = {
     "put": CommandRule(("key",), ("value", "valuehex", "context", "session", "w"), 8,
                        "writes a value"),
@@ -82,8 +87,10 @@ COMMANDS: Dict[str, CommandRule] = {
                          done="From now on node {node} {mode.does}.",
                          drawn="node {node} {mode.drawn}"),
     "deliver": CommandRule(("node",), (), 1,
-                           "has a node store the messages that it kept in mode delay", True),
-    "handoff": CommandRule(("node",), (), 3, "has a node hand over its hints to their homes", True),
+                           "has a node store the messages that it kept in mode delay", True,
+                           came="{stored:kept message} stored"),
+    "handoff": CommandRule(("node",), (), 3, "has a node hand over its hints to their homes", True,
+                           counts=("offers", "stored", "released")),
     "show": CommandRule(("node", "key"), (), 1,
                         "shows what a node holds of a key; it does so if it is down, too"),
 }

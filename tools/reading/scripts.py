@@ -2,7 +2,7 @@
 import json
 from typing import Any, Callable, Dict, List, NamedTuple, Optional
 
-from .texts import shown
+from .texts import Count, shown
 from .rules import AT_NODE, COMMANDS, MEMBERS, MODES, NUMBERS, OF_KEY, OF_VALUE, Mode
 
 MAX_RAW = 200
@@ -24,10 +24,11 @@ class Command(NamedTuple):
     node: int = 0
     mode: str = ""
 
-    def told(self, text: str) -> str:
-        """Returns the text with this command's node and mode in it; an unknown mode is its name."""
+    def told(self, text: str, counts: Dict[str, int]) -> str:
+        """Returns the text with the command's node, mode and counts; an unknown mode is its name."""
         mode = MODES.get(self.mode) or Mode(self.mode, self.mode, True, False, True, 0)
-        return text.format(node=self.node, mode=mode)
+        numbers = {name: Count(count) for name, count in counts.items()}
+        return text.format(node=self.node, mode=mode, **numbers)
 
     def __str__(self) -> str:
         """Returns the command as the script has it, in words."""

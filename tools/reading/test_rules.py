@@ -26,6 +26,7 @@ HEAD = {"n": 1, "r": 1, "w": 1, "derived": {"nodes": 1, "per_node": 1}}
 END = "end held 0 acked 0 gets 0 steps 0\n"
 GIVEN = {"key": "a", "node": 0, "mode": "none"}
 SEED, SEEDED = 1, 1000
+EACH = "examples/scripts/each_member_of_a_script.json"
 Check = Tuple[str, object, object]
 PLAIN = "benches/plain/src/*.rs"
 READERS = ["crates/dy_script/src/*.rt", "crates/dy_modes/src/*.rt"]
@@ -160,6 +161,8 @@ def rule_checks() -> Iterator[Check]:
     told = [it for it in lines if isinstance(it, COMMAND_FORMS) and not isinstance(it, Refused)]
     yield "the commands that no scene has done", words - {it.word for it in told}, set()
     scripts = [read_script(scene.script.read_bytes()) for scene in scenes()]
+    each = read_script((TOP / EACH).read_bytes())
+    yield f"the commands that {EACH} lacks", words - {it.word for it in each.commands if it}, set()
     set_modes = {it.mode for script in scripts for it in script.commands if it and it.mode}
     yield "the modes that no scene sets", modes - set_modes, set()
     client = module_of("clients/python/meldakwi.py")

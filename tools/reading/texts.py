@@ -37,6 +37,13 @@ def counted(count: int, noun: str) -> str:
     return f"{count:,} {noun}{'' if count == 1 else 's'}"
 
 
+class Count(int):
+    """A count that a text has with the noun behind its colon: {stored:message}."""
+
+    def __format__(self, noun: str) -> str:
+        return counted(int(self), noun) if noun else f"{int(self):,}"
+
+
 def named(noun: str, numbers: Sequence[int]) -> str:
     """Returns the noun with these numbers behind it: home 0, homes 1 and 2."""
     return f"{noun}{'' if len(numbers) == 1 else 's'} {listed(numbers)}"

@@ -7,12 +7,14 @@ from typing import Any, List
 
 from meldakwi import Answer, Ended, Got, Passed, Place, Put, Refused, Shown, Store
 
-from reading.rules import MAX_KEY_BYTES, MAX_VALUE_BYTES, MODES
-from serving.checks import TOKENS, Test
+from reading.rules import COMMANDS, MAX_KEY_BYTES, MAX_VALUE_BYTES, MODES
+from serving.checks import TOKENS, TOP, Test
 
 STORED = [Answer(0, 0, "stored"), Answer(1, 1, "stored"), Answer(2, 2, "stored")]
 FIRST_TWO = [Place(0, 0), Place(1, 1)]
 THREADS, TURNS = 8, 20
+# What commands are given that need it, or the value that they may have.
+GIVEN = {"key": "a", "node": 3, "mode": "none", "value": "x"}
 TEXTS = ["ключ", "é" * (MAX_KEY_BYTES // 2), "😀", "\0", "\"\\/\n\r\t\b\f", "\u2028\x7f",
          "a" * MAX_KEY_BYTES, " "]
 VALUES = [b"", b"\xff\0\n\r", bytes(range(256)), b"\xff" * MAX_VALUE_BYTES, b"none", b"n0:1=78"]
@@ -104,6 +106,24 @@ def test_words(test: Test) -> None:
                   [Answer(1, 1, "stored"), Answer(0, 0, "stored")])
     with store_of(test, program=["env", test.program]) as store:
         test.same("a program of two words", store.get("a").values, [])
+
+
+def test_each_command(test: Test) -> None:
+    page = (TOP / "clients/python/README.md").read_text(encoding="utf-8")
+    with store_of(test) as store:
+        for word, rule in COMMANDS.items():
+            names = [*rule.needs, *({"value"} & {*rule.may})]
+            found = getattr(store, word)(**{name: GIVEN[name] for name in names})
+            fields = getattr(found, "_fields", ())
+            told = page.partition(f"| `{type(found).__name__}`: ")[2].partition(" |\n")[0]
+            lacking = [name for name in fields if f"`{name}`" not in told]
+            test.same(f"what the page says not of a {word}", lacking, [])
+            if rule.counts:
+                test.same(f"what a {word} counts", fields, rule.counts)
+                line = store.call(word, **{name: GIVEN[name] for name in names})
+                again = getattr(store, word)(**{name: GIVEN[name] for name in names})
+                counts = [str(count) for count in again]
+                test.same(f"the counts of a {word}", counts, [line[it] for it in rule.counts])
 
 
 def test_texts(test: Test) -> None:
@@ -243,5 +263,5 @@ def test_what_is_carried(test: Test) -> None:
         test.raises("a get after it", Ended, lambda: store.get("a"), error=told)
 
 
-PARTS = [test_puts_and_gets, test_outages, test_modes, test_words, test_texts, test_threads,
-         test_steps, test_closing, test_renewal, test_what_is_carried]
+PARTS = [test_puts_and_gets, test_outages, test_modes, test_words, test_each_command, test_texts,
+         test_threads, test_steps, test_closing, test_renewal, test_what_is_carried]

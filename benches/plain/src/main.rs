@@ -2,6 +2,7 @@
 mod book;
 mod calls;
 mod cluster;
+mod commands;
 mod contexts;
 mod faults;
 mod json;
