@@ -192,9 +192,11 @@ impl<J: Naming> Book<J> {
         Ok(settled)
     }
 
-    // The audit of the book with these sessions, but for its history.
-    fn audit(&self, sessions: &[SessionShare<J>]) -> Result<Audit, Fault>
+    /// What the book lists now, with these sessions: the audit of an open book, whose history is
+    /// empty.
+    pub fn audit(&self, sessions: &[SessionShare<J>]) -> Result<Audit, Fault>
         ensures ok { IfOk result (λ audit. TellsWith self.now sessions.now audit) }
+        ensures none { IfOk result (λ audit. audit.history.trail.items ≡ []) }
         ensures memory { IsOkUnless result Fault.OutOfMemory }
     {
         let held = self.held()?;

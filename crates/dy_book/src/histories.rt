@@ -22,7 +22,9 @@ pub struct History {
 
 impl History {
     // No step.
-    pub(crate) fn new(alloc: Global) -> History {
+    pub(crate) fn new(alloc: Global) -> History
+        ensures { result.trail.items ≡ [] }
+    {
         History {
             trail: Vec::new(alloc),
             keys: BTreeMap::new(alloc),

@@ -7,7 +7,8 @@ use Rattle.dy_core.specs.Worlds.{layout_of}
 use Rattle.dy_core.specs.Logs.{IsLegal}
 use Rattle.dy_shares.specs.Shares.{NodePart, SessionPart, steps_of}
 use Rattle.dy_shares.specs.Codes.{node_part_code}
-use Rattle.dy_book.specs.Audits.{IsAuditOf}
+use Rattle.dy_book.specs.Audits.{IsAuditOf, TellsWith}
+use Rattle.dy_book.specs.declared.audits.Audit.{Audit}
 use Rattle.dy_book.specs.Books.{BookParts, book_code}
 use Rattle.dy_book.specs.contracts.options.Options as options
 use Rattle.dy_book.specs.declared.options.Options.{Options}
@@ -51,6 +52,14 @@ pub record IsEndOf (ring : Tokens) (n r : ℕ) (c : AtRest) (tellings : List Ses
   pub rests_are : closed.rests.items ≡ c.rests
   pub together : GoTogether ring n c.parts c.rests
   pub options_are : closed.options ≡ c.book.options
+
+-- the audit is of a cluster that is open: at some moment the log was legal, and the audit told what
+-- the book had then, with these sessions
+pub record IsOpenAudit (ring : Tokens) (n : ℕ) (tellings : List SessionPart) (a : Audit)
+    : Type 0 where
+  pub book : BookParts
+  pub legal : IsLegal (layout_of ring n) (steps_of book.log)
+  pub tells : TellsWith book tellings a
 
 -- a cluster of this ring ended so
 abbrev pub IsClosed : Tokens → ℕ → ℕ → List SessionPart → Closed → Type 0

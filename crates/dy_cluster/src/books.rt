@@ -1,13 +1,14 @@
-// The book of a cluster that opens.
+// The book of a cluster: how it opens, and what it lists.
 ghost use Rattle.std.specs.Prelude.{◌≡◌, length, IfOk, IsOkUnless};
+ghost use Rattle.dy_cluster.specs.Ends.{IsOpenAudit};
 ghost use Rattle.dy_cluster.specs.Firsts.{AreFirstFrom};
 ghost use Rattle.dy_cluster.specs.Named.{NamesBook};
 
 use crate::openings::Opened;
-use dy_book::{Book, Options};
+use dy_book::{Audit, Book, Options};
 use dy_dots::Fault;
 use dy_ring::Ring;
-use dy_shares::{Naming, NodeShare};
+use dy_shares::{Naming, NodeShare, SessionShare};
 use std::alloc::Global;
 
 // A book that was just opened, the shares of its nodes, and what it was opened with.
@@ -43,4 +44,17 @@ pub(crate) fn open_book<J: Naming>(alloc: Global, opened: Opened) -> Result<Open
         }),
         Err(fault) => Err(fault),
     }
+}
+
+// What the book lists now, with these sessions.
+pub(crate) fn audit_of<J: Naming>(
+    book: &Book<J>,
+    sessions: &[SessionShare<J>],
+) -> Result<Audit, Fault>
+    ensures ok { IfOk result (IsOpenAudit J.ring J.n sessions.now) }
+    ensures memory { IsOkUnless result Fault.OutOfMemory }
+{
+    // Brings the clause that the log is legal.
+    book.log_is_legal();
+    book.audit(sessions)
 }

@@ -4,15 +4,15 @@ ghost use Rattle.dy_dots.specs.declared.nodes.TheConstants.{MAX_NODES};
 ghost use Rattle.dy_shares.specs.Shares.{IsMissing, SessionPart};
 ghost use Rattle.dy_book.specs.Limits.{IsQuorum};
 ghost use Rattle.dy_transport.specs.Told.{nothing_told};
-ghost use Rattle.dy_cluster.specs.Ends.{IsClosed};
+ghost use Rattle.dy_cluster.specs.Ends.{IsClosed, IsOpenAudit};
 ghost use Rattle.dy_cluster.specs.Named.{NamesBook};
 ghost use Rattle.dy_cluster.specs.Stores.{TellsStores};
 
-use crate::books::{OpenBook, open_book};
+use crate::books::{OpenBook, audit_of, open_book};
 use crate::locks::{lock_all, rejoin_all, retire_all};
 use crate::openings::Opened;
 use crate::restings::{Closed, ClusterRefused, Resting, check_options};
-use dy_book::{Book, Options};
+use dy_book::{Audit, Book, Options};
 use dy_dots::{Fault, MAX_NODES};
 use dy_node::{Node, Rest};
 use dy_ring::Ring;
@@ -95,6 +95,16 @@ impl<J: Naming> Cluster<J> {
     /// How many steps the book's log has. May wait for a lock.
     pub fn steps(&self, rt: &impl Wait) -> usize {
         self.book.lock(rt).steps()
+    }
+
+    /// What the book lists now, with these sessions, in an audit without a history. The cluster
+    /// stays open. May wait for a lock.
+    pub fn audit(&self, rt: &impl Wait, sessions: &[SessionShare<J>]) -> Result<Audit, Fault>
+        ensures ok { IfOk result (IsOpenAudit J.ring J.n sessions.now) }
+        ensures memory { IsOkUnless result Fault.OutOfMemory }
+    {
+        let open = self.book.lock(rt);
+        audit_of(&open, sessions)
     }
 
     /// Opens a session, adds it to the end of the list, and gives its index there. May wait for a
