@@ -2,7 +2,7 @@
 use Rattle.std.specs.Prelude.{◌≡◌, ℕ, ◌+◌, Bool, false, List, [], None, Result, length}
 use Rattle.dy_dots.specs.declared.faults.Fault.{Fault}
 use Rattle.dy_dots.specs.declared.faults.Fault.TheVariants.{Down}
-use Rattle.dy_script.specs.Orders.{CommandParts, WriteParts, written, puts, deletes, gets}
+use Rattle.dy_script.specs.Orders.{CommandParts, WriteParts, puts, deletes, gets}
 use Rattle.dy_script.specs.Orders.{downs, ups, sets_mode, delivers, hands_off, shows}
 use Rattle.dy_shares.specs.Shares.{SessionPart}
 use Rattle.dy_cluster.specs.Named.{IsNodeOf}
@@ -56,15 +56,15 @@ IsApart before after = (after.numbers ≡ before.numbers) × (after.tellings ≡
 
 -- what a put did, where it names its own number of homes or goes by this one
 abbrev pub DoesPut : Setting → ℕ → WriteParts → List ℕ → Outcome → Seated → Seated → Type 0
-DoesPut s w (written key context session own) value outcome before after =
-    (judged : Result Given Fault) × IsPutJudged key context value judged
-    × IsWrite s session (given_or w own) word.Put judged outcome before after
+DoesPut s w write value outcome before after =
+    (judged : Result Given Fault) × IsPutJudged write.key write.context value judged
+    × IsWrite s write.session (given_or w write.w) word.Put judged outcome before after
 
 -- what a delete did
 abbrev pub DoesDelete : Setting → ℕ → WriteParts → Outcome → Seated → Seated → Type 0
-DoesDelete s w (written key context session own) outcome before after =
-    (judged : Result Given Fault) × IsDeleteJudged key context judged
-    × IsWrite s session (given_or w own) word.Delete judged outcome before after
+DoesDelete s w write outcome before after =
+    (judged : Result Given Fault) × IsDeleteJudged write.key write.context judged
+    × IsWrite s write.session (given_or w write.w) word.Delete judged outcome before after
 
 -- what a command did to a node, which is down where the ring has no such node
 abbrev pub DoesAt : Setting → Word → ℕ → Outcome → Seated → Seated → Type 0

@@ -18,9 +18,12 @@ use Rattle.dy_script.specs.declared.scripts.TheConstants.{MAX_SCRIPT_SESSIONS}
 use Rattle.dy_script.specs.Members.{◌>>=◌, need, allow_only, as_whole}
 use Rattle.dy_script.specs.Members.{text, optional_text, optional_small}
 
--- what a put and a delete say beside the value: key, context, session, w
-pub data WriteParts : Type 0 where
-  written : List ℕ → Option (List ℕ) → ℕ → Option ℕ → WriteParts
+-- what a put and a delete say beside the value
+pub record WriteParts : Type 0 where
+  pub key : List ℕ
+  pub context : Option (List ℕ)
+  pub session : ℕ
+  pub w : Option ℕ
 
 -- a command, its texts as their bytes
 pub data CommandParts : Type 0 where
@@ -35,7 +38,12 @@ pub data CommandParts : Type 0 where
   shows : ℕ → List ℕ → CommandParts
 
 abbrev pub write_parts : Write → WriteParts
-write_parts x = written (string_bytes x.key) (option_map string_bytes x.context) x.session x.w
+write_parts x = record {
+  key = string_bytes x.key;
+  context = option_map string_bytes x.context;
+  session = x.session;
+  w = x.w;
+}
 
 abbrev pub command_parts : Command → CommandParts
 command_parts (command.Put write value) = puts (write_parts write) value.items
@@ -99,7 +107,7 @@ write_of k d = do
   w ← optional_small k (codes "w") d
   context ← optional_text k (codes "context") d
   key ← text k (codes "key") d
-  Ok (written key context session w)
+  Ok (record { key = key; context = context; session = session; w = w })
 
 -- the members of a put
 unfoldable pub put_names : List (List ℕ)

@@ -7,8 +7,7 @@ use Rattle.dy_shares.specs.Trails.{AreKept}
 use Rattle.dy_shares.specs.declared.entries.Entry.{Entry}
 use Rattle.dy_shares.specs.declared.kept_steps.KeptStep.{KeptStep}
 use Rattle.dy_shares.specs.declared.step_numbers.StepNumbers.{StepNumbers}
-use Rattle.dy_script.specs.Orders.{CommandParts, WriteParts, written, puts, deletes, gets}
-use Rattle.dy_script.specs.Orders.{downs, ups, sets_mode, delivers, hands_off, shows}
+use Rattle.dy_script.specs.Orders.{CommandParts, puts, deletes, gets}
 use Rattle.dy_commands.specs.Commands.{none_seated, seated}
 use Rattle.dy_commands.specs.Seats.{Seated, seat_of}
 use Rattle.dy_lines.specs.StepLines.{StepSessions, step_lines}
@@ -76,18 +75,9 @@ IsBelow with_steps number before after text =
     AreBelowIf with_steps (told_by (session_at number before.sessions)) before.read number after
     text
 
--- the session of a put or a delete
-abbrev pub writer_of : WriteParts → ℕ
-writer_of (written key context session own) = session
-
 -- the session of a command, which is 0 where it names none
 abbrev pub session_in : CommandParts → ℕ
-session_in (puts write value) = writer_of write
-session_in (deletes write) = writer_of write
+session_in (puts write value) = write.session
+session_in (deletes write) = write.session
 session_in (gets key session) = session
-session_in (downs node) = 0
-session_in (ups node) = 0
-session_in (sets_mode node mode) = 0
-session_in (delivers node) = 0
-session_in (hands_off node) = 0
-session_in (shows node key) = 0
+session_in other = 0

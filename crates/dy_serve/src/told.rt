@@ -26,12 +26,7 @@ pub(crate) fn session_of(command: &Command) -> u8
         Command::Put { write, .. } => write.session,
         Command::Delete { write } => write.session,
         Command::Get { session, .. } => *session,
-        Command::Down { .. } => 0,
-        Command::Up { .. } => 0,
-        Command::SetMode { .. } => 0,
-        Command::Deliver { .. } => 0,
-        Command::Handoff { .. } => 0,
-        Command::Show { .. } => 0,
+        _ => 0,
     }
 }
 
