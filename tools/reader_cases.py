@@ -204,3 +204,15 @@ MANY: List[Tuple[str, str, int, str]] = [
 
 # How many commands a script has.
 COUNTS: List[Tuple[int, str]] = [(100_000, TAKEN), (100_001, SCRIPT)]
+
+# What the reader refuses and no schema can: how a number is spelt, a text that comes twice, how
+# many bytes a text has, and a node past the ring.
+BEYOND = {
+    r',"n":1.0', r',"n":1e2', r',"n":1E0', r',"n":-0', r',"n":-0.0', r',"n":0e0',
+    r',"limits":{"steps":2.0}',
+    r'"do":"put","key":"a","value":"","session":1.0',
+    r'"do":"up","node":0.0', r'"do":"deliver","node":-0',
+    r'"do":"down","node":1', r'"do":"show","node":1,"key":"a"',
+    r'"do":"fault","node":1,"mode":"mute"',
+    r'"do":"get","key":"\ud83d"', r'"do":"get","key":"\ude00"', r'"do":"get","key":"\ude00\ud83d"',
+}

@@ -4,7 +4,7 @@ scenes and the sources of both programs know each command, member, mode, number 
 import inspect
 import json
 import re
-from typing import Any, Dict, Iterator, Tuple
+from typing import Any, Dict, Iterator, Set, Tuple
 
 from explaining.refusals import read_meanings
 from explaining.tellings import tell
@@ -73,6 +73,15 @@ def text_in(files: str) -> str:
 def row_of(page: str, *cells: str) -> bool:
     """Tells whether the page has a row of a table that begins with these cells."""
     return f"\n| {' | '.join(cells)} |" in page
+
+
+def members_in(script: bytes) -> Set[str]:
+    """Returns the names of the members that a script's commands have, none where it is no script."""
+    try:
+        commands = json.loads(script).get("run", [])
+    except (AttributeError, ValueError):
+        return set()
+    return {name for it in commands if isinstance(it, dict) for name in it}
 
 
 def is_replayed(line: str) -> bool:
@@ -163,6 +172,10 @@ def rule_checks() -> Iterator[Check]:
     scripts = [read_script(scene.script.read_bytes()) for scene in scenes()]
     each = read_script((TOP / EACH).read_bytes())
     yield f"the commands that {EACH} lacks", words - {it.word for it in each.commands if it}, set()
+    given = {it for scene in scenes() for it in members_in(scene.script.read_bytes())}
+    yield "the members that no scene has", set(MEMBERS) - given, set()
+    drawn = {it for command in seeded for it in command}
+    yield "the members that no seed has", set(MEMBERS) - drawn, set()
     set_modes = {it.mode for script in scripts for it in script.commands if it and it.mode}
     yield "the modes that no scene sets", modes - set_modes, set()
     client = module_of("clients/python/meldakwi.py")
