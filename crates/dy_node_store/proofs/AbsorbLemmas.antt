@@ -7,8 +7,10 @@ use Rattle.std.specs.List.{Contains}
 use Rattle.std.specs.BTreeMap.{is_at}
 use Rattle.std.specs.Map.{lookup}
 use Rattle.std.specs.FinMap as maps
+use Rattle.std.specs.FinSet as set
+use Rattle.std.proofs.lemmas.Bool.{true≢false}
 use Rattle.dy_dots.specs.Dots.{DotNumbers, same_dot}
-use Rattle.dy_siblings.specs.Siblings.{Siblings, merge, without}
+use Rattle.dy_siblings.specs.Siblings.{IsFollower, Siblings, merge, without}
 use Rattle.dy_siblings.specs.Versions.{VersionParts}
 use Rattle.dy_siblings.proofs.Members.{not_in_nil}
 use Rattle.dy_node_store.specs.Rows.{Rows, with_versions, without_dots, IsRowOf}
@@ -28,6 +30,18 @@ pub found_row : (es : List (List ℕ × Siblings)) (k key : List ℕ) (row : Sib
     k ≡ key → lookup (is_at (slice_cmp nat_cmp k)) es ≡ Some row → IsRowOf key row
 found_row es k key row rows same there = subst (λ j. IsRowOf j row) same
     (subst (λ o. IfSome o (IsRowOf k)) there (IsRowOf-lookup es k rows))
+
+first_of_both : {X : Type 0} (x y : X) → x ∷ [] ≡ y ∷ [] → x ≡ y
+first_of_both x y is = cc
+
+-- a row that follows another is not the same
+pub follower_differs : (kept row : Siblings) (v : VersionParts) →
+    IsFollower kept.versions row.versions v → kept ≡ row → ⊥
+follower_differs kept row v f same =
+    let is : f.earlier ≡ v =
+    first_of_both f.earlier v (sym f.before ∙ ap (λ (r : Siblings). r.versions) same ∙ f.alone) in
+    let back : v ≡ f.earlier = sym is in
+    true≢false (sym f.follows ∙ (λ i. set.contains (back i).past (is i).dot) ∙ f.not_back)
 
 -- an empty row adds nothing where none is kept
 pub empty_adds : (row : Siblings) (kept : Option Siblings) → kept ≡ None → row.versions ≡ [] →

@@ -175,8 +175,9 @@ impl RowMap {
     }
 }
 
-// Merges the row into the first, where they differ, and a version is left. One version that comes
-// beside those that are there is put in among them, and no other is copied.
+// Merges the row into the first, where they differ, and a version is left. One version that follows
+// the one that is there takes its place. One that comes beside those that are there is put in among
+// them. No other is copied then.
 fn merge_into(alloc: Global, kept: &mut Row, row: &Row) -> Result<Placed, Fault>
     requires of_key { IsRowOf row.now.key kept.old }
     requires agree { AreOneByDot (kept.old.versions ++ row.now.versions) }
@@ -187,6 +188,13 @@ fn merge_into(alloc: Global, kept: &mut Row, row: &Row) -> Result<Placed, Fault>
     ensures spared { kept.old ≡ row.now → IsOk result }
     ensures memory { IsOkUnless result Fault.OutOfMemory }
 {
+    // Most puts have the context of a get.
+    if let Some(version) = kept.follower(row) {
+        let copy = version.try_clone(alloc)?;
+        let follower = Row::of(alloc, copy)?;
+        let before = mem::replace(kept, follower);
+        return Ok(Placed::Over(before));
+    }
     if kept.is_same(row) {
         return Ok(Placed::Nothing);
     }

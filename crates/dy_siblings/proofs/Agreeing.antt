@@ -1,5 +1,5 @@
 -- When versions are the same, and when lists of them agree.
-use Rattle.std.proofs.Common.{◌≡◌, ℕ, Bool, true, false, ◌&&◌, not, List, ◌++◌, Option, Some, None, refl, sym, ap, ◌∙◌, ⊎_elim}
+use Rattle.std.proofs.Common.{◌≡◌, ℕ, Bool, true, false, ◌&&◌, not, List, ◌++◌, Option, Some, None, refl, sym, ap, ◌∙◌, subst, ⊎_elim}
 use Rattle.std.specs.Prelude.{nat_eq}
 use Rattle.std.specs.List.{list_any, Contains}
 use Rattle.std.specs.Cmp.Lexicographic.{pointwise}
@@ -7,7 +7,12 @@ use Rattle.std.specs.FinSet as set
 use Rattle.std.proofs.lemmas.Bool.{and_parts, and_from, true≢false, not-true, not_from_false, cases_Bool}
 use Rattle.std.proofs.lemmas.List.Elements.{Contains-append_left, Contains-append_right, Contains-append_cases}
 use Rattle.dy_dots.specs.Dots.{DotSet, same_dot}
-use Rattle.dy_dots.proofs.Sets.{dot_total, same_dots}
+use Rattle.std.specs.Bool.{Decides}
+use Rattle.std.proofs.lemmas.Bool.Decides.{same_from_decides}
+use Rattle.dy_dots.specs.Runs.{AreRunsOf, set_of}
+use Rattle.dy_dots.specs.declared.runs.Run.{Run}
+use Rattle.dy_dots.proofs.Sets.{dot_total, same_dots, set_of_is}
+use Rattle.dy_dots.proofs.Unique.{same_runs}
 use Rattle.dy_siblings.specs.Versions.{VersionParts}
 use Rattle.dy_siblings.specs.inside.Conflicts.{same_value, same_rest, same_version, do_conflict}
 use Rattle.dy_siblings.specs.Siblings.{AreOneByDot, Rise}
@@ -38,6 +43,19 @@ both_ways false false f g = refl
 one_set : (s t : DotSet) → set.is_subset s t ≡ true → set.is_subset t s ≡ true → s ≡ t
 one_set s t p q =
     same_dots s t (λ d. both_ways (set.contains s d) (set.contains t d) (set.is_subset-contains dot_total s t p d) (set.is_subset-contains dot_total t s q d))
+
+-- two sets are one where their runs are, and where each is part of the other
+pub one_by_runs : (s t : DotSet) (xs ys : List Run) → AreRunsOf xs s → AreRunsOf ys t → (b : Bool) →
+    Decides b (xs ≡ ys) → b ≡ (set.is_subset s t && set.is_subset t s)
+one_by_runs s t xs ys of_s of_t b decides =
+    same_from_decides b (set.is_subset s t && set.is_subset t s) decides (
+      (λ e. let both = and_parts (set.is_subset s t) (set.is_subset t s) e in
+          same_runs 0 0 xs ys of_s.apart of_t.apart (λ q.
+          sym (of_s.members q) ∙ ap (λ u. set.contains u q) (one_set s t both.0 both.1) ∙ of_t.members q)),
+      (λ same. let one : s ≡ t = sym (set_of_is xs s of_s.members) ∙ ap set_of same ∙ set_of_is ys t of_t.members in
+          subst (λ u. (set.is_subset s u && set.is_subset u s) ≡ true) one
+          (and_from (set.is_subset s s) (set.is_subset s s) (subset_self s) (subset_self s))),
+    )
 
 pub same_version_is : (u v : VersionParts) → same_version u v ≡ true → u ≡ v
 same_version_is u v e =

@@ -56,6 +56,14 @@ pub record IsLone (a b : List VersionParts) (v : VersionParts) : Type 0 where
 abbrev pub IsBeside : List VersionParts → List VersionParts → VersionParts → Type 0
 IsBeside a b v = IsLone a b v × (list_any (λ u. precedes u v || precedes v u) a ≡ false)
 
+-- b is v alone, and a is one version that v follows, and that does not follow v
+pub record IsFollower (a b : List VersionParts) (v : VersionParts) : Type 0 where
+  pub alone : b ≡ v ∷ []
+  pub earlier : VersionParts
+  pub before : a ≡ earlier ∷ []
+  pub follows : precedes earlier v ≡ true
+  pub not_back : precedes v earlier ≡ false
+
 -- the union of the versions' histories
 abbrev pub context_of : List VersionParts → DotSet
 context_of [] = set.empty

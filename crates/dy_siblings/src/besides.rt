@@ -2,7 +2,7 @@
 ghost use Rattle.std.specs.Prelude.{◌≡◌, ◌↔◌, ◌||◌, IfSome, IfNone, true, false};
 ghost use Rattle.std.specs.List.{Contains, list_any};
 ghost use Rattle.dy_dots.specs.Dots.{IsDotBefore};
-ghost use Rattle.dy_siblings.specs.Siblings.{IsBeside, IsLone, Rise};
+ghost use Rattle.dy_siblings.specs.Siblings.{IsBeside, IsFollower, IsLone, Rise};
 ghost use Rattle.dy_siblings.specs.Versions.{VersionParts, precedes};
 ghost use Rattle.dy_siblings.specs.inside.Lists.{FollowNothing};
 ghost use Rattle.dy_siblings.specs.inside.Merging.{IsPlaceOf};
@@ -114,16 +114,17 @@ fn is_related(versions: &[Version], may_follow: bool, version: &Version) -> bool
     follows_one(version, versions) || (may_follow && is_followed(version, versions))
 }
 
-// Whether each list is one version, and that of the second follows that of the first: most puts
-// have the context of a get.
-fn is_overtaken(a: &[Version], b: &[Version]) -> bool
-    ensures { result ≡ true → (v : VersionParts) → IsBeside a.now b.now v → ⊥ }
+/// The version of the second list, where each list is one version, and that of the second follows
+/// that of the first.
+pub(crate) fn follower<'a>(a: &[Version], b: &'a [Version]) -> Option<&'a Version>
+    ensures some { IfSome result (λ v. IsFollower a.now b.now v.now) }
+    ensures none { IfNone result ((v : VersionParts) → IsFollower a.now b.now v → ⊥) }
 {
-    match (a.split_first(), b.split_first()) {
-        (Some((mine, rest)), Some((theirs, others))) if rest.is_empty() && others.is_empty() => {
-            mine.precedes(theirs)
-        }
-        _ => false,
+    let (mine, theirs) = (merging::only(a)?, merging::only(b)?);
+    if mine.precedes(theirs) && !theirs.precedes(mine) {
+        Some(theirs)
+    } else {
+        None
     }
 }
 
@@ -141,9 +142,6 @@ pub(crate) fn beside<'a>(
     ensures place { IfSome result (λ p. IsPlaceOf a.now p.1.now.dot p.0) }
     ensures none { IfNone result ((v : VersionParts) → IsBeside a.now b.now v → ⊥) }
 {
-    if is_overtaken(a, b) {
-        return None;
-    }
     let (at, version) = last_or_lone(a, b)?;
     if is_related(a, may_follow, version) {
         return None;

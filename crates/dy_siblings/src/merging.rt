@@ -7,6 +7,7 @@ ghost use Rattle.dy_siblings.specs.inside.Merging.{do_lists_conflict, AreAmong, 
 ghost use Rattle.dy_siblings.specs.inside.Merging.{IsNextVersion, IsUnionOutside};
 ghost use Rattle.dy_siblings.specs.inside.Merging.{with_dots, with_histories};
 ghost use Rattle.dy_siblings.specs.Siblings.{AreOneByDot, Rise, is_past, present_values};
+ghost use Rattle.dy_siblings.specs.Versions.{VersionParts};
 
 use crate::lists::Versions;
 use crate::pasts;
@@ -97,7 +98,8 @@ pub(crate) fn lists_conflict(a: &[Version], b: &[Version]) -> bool
 
 /// The version of a list that has no other.
 pub(crate) fn only(versions: &[Version]) -> Option<&Version>
-    ensures { IfSome result (λ version. versions.now ≡ version.now ∷ []) }
+    ensures some { IfSome result (λ version. versions.now ≡ version.now ∷ []) }
+    ensures none { IfNone result ((v : VersionParts) → versions.now ≡ v ∷ [] → ⊥) }
 {
     match versions.split_first() {
         Some((version, rest)) if rest.is_empty() => Some(version),

@@ -38,7 +38,7 @@ impl Model for Row {
 impl Row {
     ghost use Rattle.dy_siblings.specs.Siblings.{AreOneByDot, IsSameRow, IsSiblingSet, covers};
     ghost use Rattle.dy_siblings.specs.Siblings.{merge, context_of, own_dots, without};
-    ghost use Rattle.dy_siblings.specs.Siblings.{IsBeside, present_values};
+    ghost use Rattle.dy_siblings.specs.Siblings.{IsBeside, IsFollower, present_values};
     ghost use Rattle.dy_siblings.specs.Versions.{VersionParts};
 
     /// The row of the key that has no version. Takes no memory.
@@ -173,6 +173,30 @@ impl Row {
         Ok(())
     }
 
+    /// The other row's version, where each row has one, and it follows this one's: then the merge
+    /// of both is that version alone. Takes no memory.
+    pub fn follower<'a>(&self, other: &'a Row) -> Option<&'a Version>
+        ensures some { IfSome result (λ v.
+            IsFollower self.now.versions other.now.versions v.now) }
+        ensures none { IfNone result
+            ((v : VersionParts) → IsFollower self.now.versions other.now.versions v → ⊥) }
+        ensures merge { IfSome result (λ v.
+            IsSameRow (v.now ∷ []) (merge self.now.versions other.now.versions)) }
+        ensures key { IfSome result (λ v. v.now.key ≡ other.now.key) }
+    {
+        let version = besides::follower(self.versions.as_slice(), other.versions.as_slice())?;
+        Some(version)
+    }
+
+    /// Puts the version, which is one of the row's key, in place of all others. Takes no memory.
+    pub fn put_alone(&mut self, version: Version)
+        requires { version.key ≡ self.old.key }
+        ensures { self.new ≡ record { key = self.old.key; versions = version ∷ [] } }
+    {
+        self.may_follow = !version.past().is_empty();
+        self.versions = Versions::Few(Some(version));
+    }
+
     /// Where the other row has one version more than this one, side by side with all of this one's:
     /// puts it in, which makes the merge of both, and gives its place and its dot, whose removal
     /// takes it back.
@@ -248,6 +272,12 @@ impl Row {
         ensures valid { IfOk result (λ row. IsSiblingSet row.key row.versions) }
         ensures memory { IsOkUnless result Fault.OutOfMemory }
     {
+        // Most rows have one version, whose key is the row's.
+        if let Versions::Few(Some(version)) = &self.versions {
+            let copy = version.try_clone(alloc)?;
+            let row = Row::of(alloc, copy)?;
+            return Ok(row);
+        }
         Ok(Row {
             key: self.key.try_clone(alloc)?,
             versions: merging::copied(alloc, self.versions.as_slice())?,

@@ -157,25 +157,13 @@ impl Version {
         self.has_past_of(other) && self.parts.value == other.parts.value
     }
 
-    // Whether the other follows the same dots. Two that follow none are the most.
+    // Whether the other follows the same dots. A set has one list of runs.
     fn has_past_of(&self, other: &Version) -> bool
         ensures { result ≡ (set.is_subset self.now.past other.now.past
             && set.is_subset other.now.past self.now.past) }
     {
-        if self.parts.past.is_empty() && other.parts.past.is_empty() {
-            return true;
-        }
-        self.follows_what(other)
-    }
-
-    // The same, dot by dot.
-    #[inline(never)]
-    fn follows_what(&self, other: &Version) -> bool
-        ensures { result ≡ (set.is_subset self.now.past other.now.past
-            && set.is_subset other.now.past self.now.past) }
-    {
         let (past, others) = (&self.parts.past, &other.parts.past);
-        others.includes(past) && past.includes(others)
+        past.runs() == others.runs()
     }
 
     // Whether the other has its dot, and is not the same.

@@ -1,5 +1,5 @@
 -- The first word that differs decides.
-use Rattle.std.proofs.Common.{◌∙◌, sym}
+use Rattle.std.proofs.Common.{◌∙◌}
 use Rattle.dy_siblings.proofs.Words.{by_first}
 use Rattle.dy_siblings.proofs.fronts.order.Goals as goal
 

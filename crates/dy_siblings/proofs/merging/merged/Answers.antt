@@ -15,8 +15,8 @@ returns-clause-ok c =
 pub returns-in-Some-clause-ok : goal.returns-in-Some-clause-ok
 returns-in-Some-clause-ok c =
     subst (λ w. IsMerge c.args.a.now c.args.b.now (w ∷ [])) (sym c.in_ok-try_clone.ensures.value)
-    (subst (λ x. IsMerge x c.args.b.now (c.in-Some.version.now ∷ [])) (sym c.in-Some-Some.ensures)
-    (subst (λ y. IsMerge (c.in-Some-Some.mine.now ∷ []) y (c.in-Some.version.now ∷ [])) (sym c.in-Some-Some.ensures') c.in-Some.ensures))
+    (subst (λ x. IsMerge x c.args.b.now (c.in-Some.version.now ∷ [])) (sym c.in-Some-Some.ensures.some)
+    (subst (λ y. IsMerge (c.in-Some-Some.mine.now ∷ []) y (c.in-Some.version.now ∷ [])) (sym c.in-Some-Some.ensures'.some) c.in-Some.ensures))
 
 -- where the dots of the first are among those of the second, the second stays
 pub returns-then-are_among-clause-ok : goal.returns-then-are_among-clause-ok

@@ -1,5 +1,5 @@
 -- With zeros behind them, as many bytes are equal as they are.
-use Rattle.std.proofs.Common.{◌∙◌, length, sym, subst}
+use Rattle.std.proofs.Common.{◌∙◌, sym, subst}
 use Rattle.dy_siblings.specs.inside.Leads.{AreFilled, IsKeyOf, IsLong}
 use Rattle.std.specs.Arc.{arc_value}
 use Rattle.dy_siblings.proofs.Words.{same_bytes}

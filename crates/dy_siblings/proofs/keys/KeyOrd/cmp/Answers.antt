@@ -1,5 +1,5 @@
 -- Short keys are ordered by their numbers.
-use Rattle.std.proofs.Common.{◌<◌, ◌∙◌, ap, inl, nat_cmp, length, arith}
+use Rattle.std.proofs.Common.{◌<◌, ◌∙◌, inl, nat_cmp, length, arith}
 use Rattle.dy_siblings.specs.inside.Leads.{lead_from}
 use Rattle.dy_siblings.proofs.Leads.{number_is, ordered}
 use Rattle.dy_siblings.proofs.keys.KeyOrd.cmp.Goals as goal
