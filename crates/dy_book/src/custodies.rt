@@ -14,7 +14,7 @@ ghost use Rattle.dy_book.specs.Books.{DotsRise};
 use crate::dots::Dots;
 use dy_core::{Holding, Place, Placed, Ranked};
 use dy_dots::{Dot, Fault, NodeId};
-use dy_siblings::{Key, Row};
+use dy_siblings::{Key, Row, Version};
 use std::alloc::Global;
 use std::cmp::Ordering;
 use std::marker::Model;
@@ -60,7 +60,7 @@ impl Placed for Custody {
 
 impl Custody {
     ghost use Rattle.dy_siblings.specs.Siblings.{without};
-    ghost use Rattle.dy_book.specs.inside.Lists.{taken_out};
+    ghost use Rattle.dy_book.specs.inside.Lists.{held_alone, taken_out};
 
     // The custody of the row at the place.
     pub(crate) fn new(
@@ -157,6 +157,15 @@ impl Custody {
         let merged = self.row.merged(alloc, row)?;
         let custody = Custody::new(alloc, self.holder, self.home, merged)?;
         Ok(custody)
+    }
+
+    // The version is held alone, in the place of all that is held. Takes no memory.
+    pub(crate) fn put_alone(&mut self, version: Version)
+        requires { version.key ≡ self.old.row.key }
+        ensures { self.new ≡ held_alone version self.old }
+    {
+        self.dots.put_alone(version.dot());
+        self.row.put_alone(version);
     }
 
     // The version of the dot is no longer held. Takes no memory.

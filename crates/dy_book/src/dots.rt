@@ -1,5 +1,5 @@
 // The dots of a row, as a slice that can be lent.
-ghost use Rattle.std.specs.Prelude.{◌≡◌, ◌≤◌, insert, length, map, not, IfOk, OnOk, OnErr};
+ghost use Rattle.std.specs.Prelude.{◌≡◌, ◌≤◌, ◌∷◌, [], insert, length, map, not, IfOk, OnOk, OnErr};
 ghost use Rattle.std.specs.Prelude.{IsOkUnless};
 ghost use Rattle.std.specs.List.{filter};
 ghost use Rattle.dy_dots.specs.Dots.{same_dot};
@@ -78,6 +78,13 @@ impl Dots {
             None => self.more.insert(at, dot)?,
         }
         Ok(())
+    }
+
+    // The dot is the only one. Takes no memory.
+    pub(crate) fn put_alone(&mut self, dot: Dot)
+        ensures { self.new ≡ dot ∷ [] }
+    {
+        self.one = Some(dot);
     }
 
     // Takes the dot out, where it is there.

@@ -100,6 +100,13 @@ fn hold_more<J: Naming>(
         NodeStays ledger.old.log ledger.new.log node }
     ensures sessions { (session : ℕ) → SessionStays ledger.old.log ledger.new.log session }
 {
+    // Most puts have the context of a get.
+    if let Some(version) = held.row().follower(row) {
+        let copy = version.try_clone(alloc)?;
+        ledger.node_steps(share, steps)?;
+        held.put_alone(copy);
+        return Ok(());
+    }
     if let Some(dot) = held.put_beside(alloc, row)? {
         if let Err(fault) = ledger.node_steps(share, steps) {
             held.take_out(dot);

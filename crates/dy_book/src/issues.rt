@@ -44,30 +44,34 @@ fn issue_in<J: Naming>(
     part: &mut KeyPart,
     share: &mut NodeShare<J>,
     home: NodeId,
-    version: Version,
-    row: &Row,
-    steps: &[StepRef<'_>],
+    version: &Version,
 ) -> Result<(), Fault>
     requires legal { IsLegal (layout_of J.ring J.n) (steps_of ledger.old.log) }
-    requires part { IsPart (world_after (steps_of ledger.old.log)) version.key (Some part.old) }
-    requires may_hold { IsTrue (may_hold (homes_of J.ring J.n version.key) share.old.node home) }
-    requires next { IsNext (world_after (steps_of ledger.old.log)) share.old.node version }
-    requires room { (world_after (steps_of ledger.old.log)).counters share.old.node version.key
-        < MAX_COUNTER }
-    requires row { row.now ≡ row_alone version }
-    requires steps { steps.now ≡ issue_steps share.old.node home version }
-    ensures log { OnOk result (ledger.new ≡ with_entries ledger.old (map untold steps.now)) }
-    ensures share { OnOk result (share.new ≡ with_steps share.old steps.now) }
+    requires part { IsPart (world_after (steps_of ledger.old.log)) version.now.key
+        (Some part.old) }
+    requires may_hold { IsTrue
+        (may_hold (homes_of J.ring J.n version.now.key) share.old.node home) }
+    requires next { IsNext (world_after (steps_of ledger.old.log)) share.old.node version.now }
+    requires room { (world_after (steps_of ledger.old.log)).counters share.old.node
+        version.now.key < MAX_COUNTER }
+    ensures log { OnOk result (ledger.new ≡ with_entries ledger.old
+        (map untold (issue_steps share.old.node home version.now))) }
+    ensures share { OnOk result
+        (share.new ≡ with_steps share.old (issue_steps share.old.node home version.now)) }
     ensures err { OnErr result ((ledger.new ≡ ledger.old) × (share.new ≡ share.old)) }
     ensures memory { IsOkUnless result Fault.OutOfMemory }
-    ensures part { IsPart (world_after (steps_of ledger.new.log)) version.key (Some part.new) }
+    ensures part { IsPart (world_after (steps_of ledger.new.log)) version.now.key
+        (Some part.new) }
     ensures nodes { (node : ℕ) → node ≢ share.old.node →
         NodeStays ledger.old.log ledger.new.log node }
     ensures sessions { (session : ℕ) → SessionStays ledger.old.log ledger.new.log session }
 {
     let node = share.node();
-    part.add(alloc, version)?;
-    if let Err(fault) = hold_at(alloc, ledger, &mut part.places, share, home, row, steps) {
+    let row = Row::of(alloc, version.try_clone(alloc)?)?;
+    let copy = version.try_clone(alloc)?;
+    let steps = steps_of_issue(node, home, version, &row);
+    part.add(alloc, copy)?;
+    if let Err(fault) = hold_at(alloc, ledger, &mut part.places, share, home, &row, &steps) {
         part.remove_last(node);
         return Err(fault);
     }
@@ -108,10 +112,7 @@ fn issue_alone<J: Naming>(
 {
     let node = share.node();
     let key = version.key().try_clone(alloc)?;
-    let row = Row::of(alloc, version.try_clone(alloc)?)?;
-    let copy = version.try_clone(alloc)?;
-    let steps = steps_of_issue(node, home, version, &row);
-    issue_in(alloc, ledger, part, share, home, copy, &row, &steps)?;
+    issue_in(alloc, ledger, part, share, home, version)?;
     let place = Place { holder: node, home };
     Ok(ledger.receipt(key, version.dot(), place))
 }

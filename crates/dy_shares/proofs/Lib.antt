@@ -15,3 +15,4 @@ pub mod Scenes
 pub mod Whole
 pub mod Mergeable
 pub mod Readings
+pub mod Alone

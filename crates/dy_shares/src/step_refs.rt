@@ -1,11 +1,13 @@
 ghost use Rattle.std.specs.Prelude.{◌≡◌, IfOk, IsOkUnless};
 ghost use Rattle.dy_core.specs.declared.steps.Step.TheVariants.{Issue, Hold, Release, Fetch, Ack};
+ghost use Rattle.dy_dots.specs.Dots.{IsDot};
+ghost use Rattle.dy_dots.specs.Runs.{single};
 ghost use Rattle.dy_shares.specs.Trails.{Keeps};
 
 use crate::kept_steps::KeptStep;
 use crate::said::Said;
 use dy_core::Place;
-use dy_dots::{Dot, Fault};
+use dy_dots::{Dot, Fault, Run};
 use dy_siblings::{Key, Row, Version};
 use std::alloc::Global;
 use std::marker::Model;
@@ -28,14 +30,30 @@ impl<'a> Model for StepRef<'a> {
     ghost view = { λ s. step_said s.said };
 }
 
+// The run that has this dot alone.
+fn run_of(dot: Dot) -> Run
+    ensures value { result ≡ single dot }
+    ensures valid { IsDot dot }
+{
+    Run {
+        node: dot.node(),
+        first: dot.counter(),
+        last: dot.counter(),
+    }
+}
+
 // The hold of the row in the form that is kept.
 fn keep_hold(alloc: Global, place: Place, row: &Row) -> Result<KeptStep, Fault>
     ensures ok { IfOk result (λ kept. Keeps kept (Hold place row.now)) }
     ensures memory { IsOkUnless result Fault.OutOfMemory }
 {
     // Each version of a row is of its key.
-    let _versions = row.versions();
+    let versions = row.versions();
     let key = row.key().try_clone(alloc)?;
+    if let [version] = versions {
+        let run = run_of(version.dot());
+        return Ok(KeptStep::Held { place, run, key });
+    }
     let dots = row.dots(alloc)?;
     if let [run] = dots.runs() {
         return Ok(KeptStep::Held {
@@ -124,9 +142,9 @@ impl<'a> StepRef<'a> {
             Said::Acked { key, dot, w } => {
                 let key = key.try_clone(alloc)?;
                 Ok(KeptStep::Acked {
+                    key,
                     w: *w,
                     dot: *dot,
-                    key,
                 })
             }
         }

@@ -73,6 +73,14 @@ taken_out d h = record {
   row = record { key = h.row.key; versions = without h.row.versions d };
 }
 
+-- the holding with the version in the place of all others
+abbrev pub held_alone : Version → Holding → Holding
+held_alone v h = record {
+  holder = h.holder;
+  home = h.home;
+  row = record { key = h.row.key; versions = v ∷ [] };
+}
+
 -- the merge with the row is put in its place in the list
 pub record IsHeldAt (hs : List Holding) (holder home : ℕ) (row : Siblings) (new : List Holding)
     : Type 0 where
