@@ -247,36 +247,33 @@ module _ {J : Type 0} where
       ]
 
   pub added_more : (key : List ℕ) (dot : Dot) (replies more : List (Reply J)) (r : Reply J)
-      (own x : ReceiptParts) (xs now : List ReceiptParts) → xs ≡ own ∷ receipts_read key dot replies
+      (x : ReceiptParts) (own xs now : List ReceiptParts)
+      → xs ≡ own ++ receipts_read key dot replies
       → receipt_read key dot r.node r.home r.answer.value ≡ x ∷ [] → now ≡ xs ++ x ∷ [] →
-      more ≡ replies ++ r ∷ [] → now ≡ own ∷ receipts_read key dot more
-  added_more key dot replies more r own x xs now e f n m = rw (
-    n,
-    e,
-    m,
-    receipts_push key dot
-        replies r,
-    f,
-  ) refl
+      more ≡ replies ++ r ∷ [] → now ≡ own ++ receipts_read key dot more
+  added_more key dot replies more r x own xs now e f n m =
+      rw (n, e, m, receipts_push key dot replies r, f)
+      (append_assoc own (receipts_read key dot replies) (x ∷ []))
 
   pub added_same : (key : List ℕ) (dot : Dot) (replies more : List (Reply J)) (r : Reply J)
-      (own : ReceiptParts) (xs : List ReceiptParts) → xs ≡ own ∷ receipts_read key dot replies
-      → receipt_read key dot r.node r.home r.answer.value ≡ [] → more ≡ replies ++ r ∷ [] → xs ≡ own
-      ∷ receipts_read key dot more
+      (own xs : List ReceiptParts) → xs ≡ own ++ receipts_read key dot replies
+      → receipt_read key dot r.node r.home r.answer.value ≡ [] → more ≡ replies ++ r ∷ [] →
+      xs ≡ own ++ receipts_read key dot more
   added_same key dot replies more r own xs e f m = rw (e, m, receipts_push key dot replies r, f)
-      (ap (λ ys. own ∷ ys) (sym (append-nil (receipts_read key dot replies))))
+      (ap (λ ys. own ++ ys) (sym (append-nil (receipts_read key dot replies))))
 
-  pub count_more : (replies more : List (Reply J)) (r : Reply J) (xs now : List ReceiptParts)
-      (x : ReceiptParts) → length xs ≤ 1 + length replies → now ≡ xs ++ x ∷ [] → more ≡ replies ++ r
-      ∷ [] → length now ≤ 1 + length more
-  count_more replies more r xs now x le n m =
+  pub count_more : (first : ℕ) (replies more : List (Reply J)) (r : Reply J)
+      (xs now : List ReceiptParts) (x : ReceiptParts) → length xs ≤ first + length replies →
+      now ≡ xs ++ x ∷ [] → more ≡ replies ++ r ∷ [] → length now ≤ first + length more
+  count_more first replies more r xs now x le n m =
       let a : length now ≡ length xs + 1 = ap length n ∙ length-append xs (x ∷ []) in
       let b : length more ≡ length replies + 1 = ap length m ∙ length-append replies (r ∷ []) in
       omega arith
 
-  pub count_same : (replies more : List (Reply J)) (r : Reply J) (xs : List ReceiptParts) →
-      length xs ≤ 1 + length replies → more ≡ replies ++ r ∷ [] → length xs ≤ 1 + length more
-  count_same replies more r xs le m = let b : length more ≡ length replies + 1 = ap length m
+  pub count_same : (first : ℕ) (replies more : List (Reply J)) (r : Reply J)
+      (xs : List ReceiptParts) → length xs ≤ first + length replies → more ≡ replies ++ r ∷ [] →
+      length xs ≤ first + length more
+  count_same first replies more r xs le m = let b : length more ≡ length replies + 1 = ap length m
       ∙ length-append replies (r ∷ []) in omega arith
 
   -- all receipts of a put are of its key and dot

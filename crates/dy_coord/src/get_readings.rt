@@ -14,6 +14,7 @@ ghost use Rattle.dy_coord.specs.Gets.{StopsSoon, seen_in, seens_of};
 ghost use Rattle.dy_coord.specs.inside.GetParts.{Collects};
 ghost use Rattle.dy_coord.specs.inside.Reads.{MayRead};
 
+use crate::get_tasks::GetTask;
 use dy_core::Place;
 use dy_dots::NodeId;
 use dy_node::Answer;
@@ -85,45 +86,48 @@ fn read_rows<J: Naming, T: Transport<J>, R: Wait>(
     }
 }
 
-/// Asks the homes, and reads until enough of them have answered with a row.
-pub(crate) fn gather<J: Naming, T: Transport<J>, R: Wait>(
-    rt: &R,
-    transport: &mut T,
-    list: &Preference,
-    key: &Key,
-    since: &Since<J>,
-    coordinator: NodeId,
-    own: Seen<J>,
-    gathering: &mut Gathering<J>,
-    answers: &mut AnswerVec,
-)
-    requires valid { IsPreferred list.now }
-    requires fresh_asks { (T.told transport.old).asks ≡ [] }
-    requires fresh_replies { (T.told transport.old).replies ≡ [] }
-    requires room { MAX_NODES ≤ (T.told transport.old).room }
-    requires own { IsSeenAt coordinator (home_for (homes_in list.now) coordinator)
-        key.now since.now own }
-    requires none { gathering.old.seens ≡ [] }
-    requires r { 1 ≤ gathering.old.r }
-    requires no_answers { answers.old.items ≡ [] }
-    requires answers_room { 2 * length list.now.nodes ≤ answers.old.capacity }
-    requires gathering_room { 2 * length list.now.nodes ≤ gathering.old.room }
-    ensures collects { Collects list.now key.now gathering.old.r since.now coordinator own
-        (T.told transport.new) gathering.new.seens answers.new.items }
-    ensures tries { (T.told transport.new).tries ≡ (T.told transport.old).tries }
-    ensures room { (T.told transport.new).room ≡ (T.told transport.old).room }
-    ensures r { gathering.new.r ≡ gathering.old.r }
-{
-    let held = list.home_for(coordinator);
-    answers.push_reserved(AnswerRead {
-        place: Place {
-            holder: coordinator,
-            home: held,
-        },
-        kind: AnswerKind::Rows,
-    });
-    gathering.add(own);
-    ask_homes(rt, transport, &Request::Fetch { key, since }, held, list);
-    let mut assign = Assign::new(list, coordinator);
-    read_rows(rt, transport, key, since, &mut assign, gathering, answers);
+impl<J: Naming> GetTask<'_, J> {
+    /// Asks the homes, and reads until enough of them have answered with a row.
+    pub(crate) fn gather<T: Transport<J>, R: Wait>(
+        &self,
+        rt: &R,
+        transport: &mut T,
+        list: &Preference,
+        coordinator: NodeId,
+        own: Seen<J>,
+        gathering: &mut Gathering<J>,
+        answers: &mut AnswerVec,
+    )
+        requires valid { IsPreferred list.now }
+        requires fresh_asks { (T.told transport.old).asks ≡ [] }
+        requires fresh_replies { (T.told transport.old).replies ≡ [] }
+        requires room { MAX_NODES ≤ (T.told transport.old).room }
+        requires own { IsSeenAt coordinator (home_for (homes_in list.now) coordinator)
+            self.now.key.now self.now.since own }
+        requires none { gathering.old.seens ≡ [] }
+        requires r { 1 ≤ gathering.old.r }
+        requires no_answers { answers.old.items ≡ [] }
+        requires answers_room { 2 * length list.now.nodes ≤ answers.old.capacity }
+        requires gathering_room { 2 * length list.now.nodes ≤ gathering.old.room }
+        ensures collects { Collects list.now self.now.key.now gathering.old.r self.now.since
+            coordinator own (T.told transport.new) gathering.new.seens answers.new.items }
+        ensures tries { (T.told transport.new).tries ≡ (T.told transport.old).tries }
+        ensures room { (T.told transport.new).room ≡ (T.told transport.old).room }
+        ensures r { gathering.new.r ≡ gathering.old.r }
+    {
+        let key = self.key;
+        let since = &self.since;
+        let held = list.home_for(coordinator);
+        answers.push_reserved(AnswerRead {
+            place: Place {
+                holder: coordinator,
+                home: held,
+            },
+            kind: AnswerKind::Rows,
+        });
+        gathering.add(own);
+        ask_homes(rt, transport, &Request::Fetch { key, since }, held, list);
+        let mut assign = Assign::new(list, coordinator);
+        read_rows(rt, transport, key, since, &mut assign, gathering, answers);
+    }
 }

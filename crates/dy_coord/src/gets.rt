@@ -11,7 +11,7 @@ ghost use Rattle.dy_coord.specs.Gets.{IsGetRefused, IsGot};
 use crate::get_dones::GetDone;
 use crate::get_endings::finish;
 use crate::get_faults::GetFault;
-use crate::get_readings::gather;
+use crate::get_tasks::GetTask;
 use crate::put_reads::most_answers;
 use dy_dots::Fault;
 use dy_preference::Preference;
@@ -72,19 +72,10 @@ pub fn get<J: Naming, T: Transport<J>, R: Wait>(
         Err(fault) => return Err(GetFault::without_answers(alloc, fault)),
     };
     let since = session.since();
-    match look_somewhere(rt, transport, list, key, &since) {
+    let task = GetTask { key, since };
+    match look_somewhere(rt, transport, list, key, &task.since) {
         Somewhere::At(c, own) => {
-            gather(
-                rt,
-                transport,
-                list,
-                key,
-                &since,
-                c,
-                own,
-                &mut gathering,
-                &mut answers,
-            );
+            task.gather(rt, transport, list, c, own, &mut gathering, &mut answers);
             if !gathering.is_ready() {
                 return Err(GetFault {
                     fault: Fault::NotEnough,

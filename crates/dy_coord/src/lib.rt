@@ -5,6 +5,7 @@ mod get_dones;
 mod get_endings;
 mod get_faults;
 mod get_readings;
+mod get_tasks;
 mod gets;
 pub mod laws;
 mod put_reads;

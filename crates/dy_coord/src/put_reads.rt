@@ -1,10 +1,8 @@
-ghost use Rattle.std.specs.Prelude.{◌≡◌, ◌≤◌, ◌+◌, ◌*◌, ◌++◌, [], ◌∷◌, ℕ, IsTrue, length, map};
-ghost use Rattle.std.specs.Prelude.{nat_eq};
-ghost use Rattle.std.specs.List.{All, IsDistinct};
+ghost use Rattle.std.specs.Prelude.{◌≡◌, ◌≤◌, ◌+◌, ◌*◌, ◌++◌, ℕ, IsTrue, length, map};
+ghost use Rattle.std.specs.List.{All};
 ghost use Rattle.dy_dots.specs.Dots.{same_dot};
 ghost use Rattle.dy_siblings.specs.Siblings.{has_dot};
 ghost use Rattle.dy_preference.specs.Preferences.{IsPreferred};
-ghost use Rattle.dy_shares.specs.Shares.{receipt_parts};
 ghost use Rattle.dy_transport.specs.Snapshots.{snapshot_of};
 ghost use Rattle.dy_transport.specs.Told.{Told};
 ghost use Rattle.dy_transport.specs.declared.asked.What.TheVariants as what;
@@ -12,10 +10,10 @@ ghost use Rattle.dy_quorum.specs.Tallies.{DoAgree};
 ghost use Rattle.dy_reads.specs.Rules.{HasRead, IsReadOut, MayStandIn, as_read, nodes_asked};
 ghost use Rattle.dy_reads.specs.declared.requests.Request.TheVariants as request;
 ghost use Rattle.dy_coord.specs.Puts.{receipts_read};
-ghost use Rattle.dy_coord.specs.inside.PutReads.{last_of, receipt_at};
+ghost use Rattle.dy_coord.specs.inside.PutReads.{HasOwnReceipt, last_of, receipt_at};
 ghost use Rattle.dy_coord.specs.inside.Reads.{MayRead};
 
-use dy_dots::{Dot, NodeId};
+use dy_dots::Dot;
 use dy_node::Answer;
 use dy_preference::{Assign, Preference};
 use dy_quorum::Tally;
@@ -70,8 +68,6 @@ pub(crate) fn read_put<J: Naming, T: Transport<J>, R: Wait>(
     transport: &mut T,
     row: &Row,
     dot: Dot,
-    coordinator: NodeId,
-    held: NodeId,
     assign: &mut Assign<'_>,
     tally: &mut Tally<J>,
     answers: &mut AnswerVec,
@@ -80,30 +76,26 @@ pub(crate) fn read_put<J: Naming, T: Transport<J>, R: Wait>(
         answers.old.capacity tally.old.room }
     requires dot { IsTrue (has_dot row.now.versions dot) }
     requires one_key { All (λ v. v.key ≡ row.now.key) row.now.versions }
-    requires own { tally.old.added ≡ receipt_parts row.now.key dot coordinator held ∷ [] }
+    requires own { HasOwnReceipt row.now.key dot tally.old.added
+        (nodes_asked (T.told transport.old).asks ++ assign.old) }
     requires agree { DoAgree tally.old.added }
     requires whats { All (λ a. a.what ≡ what.Store (snapshot_of row.now))
         (T.told transport.old).asks }
     requires may_ask { MayStandIn {J = J} J.ring J.n (request.Store row)
         (T.told transport.old).asks assign.old }
-    requires apart { IsDistinct nat_eq
-        (coordinator ∷ nodes_asked (T.told transport.old).asks ++ assign.old) }
     ensures reading { HasRead (what.Store (snapshot_of row.now))
         (T.told transport.old).asks assign.old
         (T.told transport.new).asks (T.told transport.new).replies assign.new }
     ensures tries { (T.told transport.new).tries ≡ (T.told transport.old).tries }
     ensures room { (T.told transport.new).room ≡ (T.told transport.old).room }
     ensures agree { DoAgree tally.new.added }
-    ensures added { tally.new.added ≡ receipt_parts row.now.key dot coordinator held
-        ∷ receipts_read row.now.key dot (T.told transport.new).replies }
+    ensures added { tally.new.added
+        ≡ tally.old.added ++ receipts_read row.now.key dot (T.told transport.new).replies }
     ensures w { tally.new.w ≡ tally.old.w }
     ensures answers { answers.new.items
         ≡ answers.old.items ++ map as_read (T.told transport.new).replies }
     ensures out { IsReadOut (T.told transport.new) }
 {
-    // The coordinator and its home, of which the first receipt in the tally is. They are for the
-    // contract alone.
-    let _ = (coordinator, held);
     let request = Request::Store(row);
     'reading: for _ in rt.forever() {
         let Some((_, answer)) = read_next(rt, transport, &request, assign, answers) else {

@@ -25,8 +25,8 @@ use dy_node::Begun;
 use dy_preference::{Assign, Preference};
 use dy_quorum::Tally;
 use dy_reads::{Request, Somewhere, ask_homes, begin_somewhere};
-use dy_shares::{Naming, Receipt, SessionShare};
-use dy_siblings::{Key, Row, Value};
+use dy_shares::{Naming, SessionShare};
+use dy_siblings::{Key, Value};
 use dy_transport::{AnswerKind, AnswerRead, AnswerVec, Transport};
 use std::alloc::Global;
 use std::sync::Wait;
@@ -47,15 +47,13 @@ fn prepare<J: Naming>(
     Ok((answers, tally))
 }
 
-// Asks the homes, and reads every answer.
+// Asks the homes to hold the row that was begun, and reads every answer.
 fn spread<J: Naming, T: Transport<J>, R: Wait>(
     rt: &R,
     transport: &mut T,
     list: &Preference,
     coordinator: NodeId,
-    row: &Row,
-    dot: Dot,
-    own: Receipt<J>,
+    begun: Begun<J>,
     tally: &mut Tally<J>,
     answers: &mut AnswerVec,
 )
@@ -63,21 +61,22 @@ fn spread<J: Naming, T: Transport<J>, R: Wait>(
     requires fresh_replies { (T.told transport.old).replies ≡ [] }
     requires room { MAX_NODES ≤ (T.told transport.old).room }
     requires valid { IsPreferred list.now }
-    requires nodes { list.now.nodes ≡ preference_of J.ring row.now.key }
+    requires nodes { list.now.nodes ≡ preference_of J.ring begun.row.key }
     requires homes { list.now.n ≡ J.n }
-    requires dot { IsTrue (has_dot row.now.versions dot) }
-    requires own { own
-        ≡ receipt_parts row.now.key dot coordinator (home_for (homes_in list.now) coordinator) }
+    requires dot { IsTrue (has_dot begun.row.versions begun.dot) }
+    requires own { begun.receipt ≡ receipt_parts begun.row.key begun.dot coordinator
+        (home_for (homes_in list.now) coordinator) }
     requires none { tally.old.added ≡ [] }
     requires no_answers { answers.old.items ≡ [] }
     requires answers_room { 2 * length list.now.nodes ≤ answers.old.capacity }
     requires tally_room { 2 * length list.now.nodes ≤ tally.old.room }
-    ensures spreads { Spreads list.now row.now dot coordinator
+    ensures spreads { Spreads list.now begun.row begun.dot coordinator
         (T.told transport.new) tally.new.added answers.new.items }
     ensures tries { (T.told transport.new).tries ≡ (T.told transport.old).tries }
     ensures room { (T.told transport.new).room ≡ (T.told transport.old).room }
     ensures w { tally.new.w ≡ tally.old.w }
 {
+    let Begun { dot, row, receipt } = begun;
     // Brings the clause that each version of a row is of its key.
     let _versions = row.versions();
     let held = list.home_for(coordinator);
@@ -88,75 +87,63 @@ fn spread<J: Naming, T: Transport<J>, R: Wait>(
         },
         kind: AnswerKind::Stored,
     });
-    tally.add(own);
-    ask_homes(rt, transport, &Request::Store(row), held, list);
+    tally.add(receipt);
+    ask_homes(rt, transport, &Request::Store(&row), held, list);
     let mut assign = Assign::new(list, coordinator);
-    read_put(
-        rt,
-        transport,
-        row,
-        dot,
-        coordinator,
-        held,
-        &mut assign,
-        tally,
-        answers,
-    );
-}
-
-// Decides, after every answer was read.
-fn conclude<J: Naming, T: Transport<J>, R: Wait>(
-    rt: &R,
-    alloc: Global,
-    transport: &mut T,
-    key: &Key,
-    dot: Dot,
-    w: u8,
-    tally: Tally<J>,
-    answers: AnswerVec,
-    session: &mut SessionShare<J>,
-) -> Result<PutDone<J>, PutFault>
-    requires room { length (T.told transport.old).tries
-        < (T.told transport.old).room + SPARE_TRIES }
-    requires some { 1 ≤ w }
-    requires few { w ≤ J.n }
-    requires w { tally.w ≡ w }
-    requires of_one { AreOf key.now dot tally.added }
-    ensures told { T.told transport.new
-        ≡ with_tries (T.told transport.old) (T.told transport.new).tries }
-    ensures ends { EndsAfter {J = J} key.now dot w tally.added answers.items
-        (T.told transport.old).tries (T.told transport.new).tries session.old session.new result }
-{
-    // The receipts have copies of the key. The key is here for the contract alone.
-    let _ = key;
-    if !tally.ready() {
-        return Err(PutFault {
-            fault: Fault::NotEnough,
-            dot: Some(dot),
-            answers,
-        });
-    }
-    let receipts = tally.into_receipts();
-    match transport.record(rt, session, w, &receipts) {
-        Ok(()) => {
-            // The ack is the last step in the session's list.
-            let last = session.since().at();
-            Ok(PutDone {
-                dot,
-                at: last,
-                spent: receipts,
-                answers,
-            })
-        }
-        Err(fault) => Err(PutFault {
-            fault,
-            dot: Some(dot),
-            answers: AnswerVec::new(alloc),
-        }),
-    }
+    read_put(rt, transport, &row, dot, &mut assign, tally, answers);
 }
 
 impl PutTask<'_> {
+    // Decides, after every answer was read.
+    fn conclude<J: Naming, T: Transport<J>, R: Wait>(
+        &self,
+        rt: &R,
+        alloc: Global,
+        transport: &mut T,
+        dot: Dot,
+        tally: Tally<J>,
+        answers: AnswerVec,
+        session: &mut SessionShare<J>,
+    ) -> Result<PutDone<J>, PutFault>
+        requires room { length (T.told transport.old).tries
+            < (T.told transport.old).room + SPARE_TRIES }
+        requires some { 1 ≤ self.now.w }
+        requires few { self.now.w ≤ J.n }
+        requires w { tally.w ≡ self.now.w }
+        requires of_one { AreOf self.now.key.now dot tally.added }
+        ensures told { T.told transport.new
+            ≡ with_tries (T.told transport.old) (T.told transport.new).tries }
+        ensures ends { EndsAfter {J = J} self.now.key.now dot self.now.w tally.added
+            answers.items (T.told transport.old).tries (T.told transport.new).tries
+            session.old session.new result }
+    {
+        if !tally.ready() {
+            return Err(PutFault {
+                fault: Fault::NotEnough,
+                dot: Some(dot),
+                answers,
+            });
+        }
+        let receipts = tally.into_receipts();
+        match transport.record(rt, session, self.w, &receipts) {
+            Ok(()) => {
+                // The ack is the last step in the session's list.
+                let last = session.since().at();
+                Ok(PutDone {
+                    dot,
+                    at: last,
+                    spent: receipts,
+                    answers,
+                })
+            }
+            Err(fault) => Err(PutFault {
+                fault,
+                dot: Some(dot),
+                answers: AnswerVec::new(alloc),
+            }),
+        }
+    }
+
     // A put whose w is from 1 to n.
     fn put_in_range<J: Naming, T: Transport<J>, R: Wait>(
         &self,
@@ -177,27 +164,15 @@ impl PutTask<'_> {
             (T.told transport.new) result }
         ensures room { (T.told transport.new).room ≡ (T.told transport.old).room }
     {
-        let w = self.w;
-        let key = self.key;
-        let (mut answers, mut tally) = match prepare(alloc, list, w) {
+        let (mut answers, mut tally) = match prepare(alloc, list, self.w) {
             Ok(made) => made,
             Err(fault) => return Err(PutFault::early(alloc, fault)),
         };
-        match begin_somewhere(rt, transport, list, key, self.context, &self.value) {
+        match begin_somewhere(rt, transport, list, self.key, self.context, &self.value) {
             Somewhere::At(c, begun) => {
-                let Begun { dot, row, receipt } = begun;
-                spread(
-                    rt,
-                    transport,
-                    list,
-                    c,
-                    &row,
-                    dot,
-                    receipt,
-                    &mut tally,
-                    &mut answers,
-                );
-                conclude(rt, alloc, transport, key, dot, w, tally, answers, session)
+                let dot = begun.dot;
+                spread(rt, transport, list, c, begun, &mut tally, &mut answers);
+                self.conclude(rt, alloc, transport, dot, tally, answers, session)
             }
             Somewhere::NoNode => Err(PutFault::early(alloc, Fault::NoNode)),
             Somewhere::Refused(fault) => Err(PutFault::early(alloc, fault)),

@@ -48,23 +48,25 @@ fn copied(alloc: Global, value: &Option<Value>) -> Result<Option<Value>, Fault>
     }
 }
 
-// Begins a put at this node, which has this number.
+// Begins a put at this node, which is the holder, for the home.
 fn begin_by<J: Naming>(
     held: &mut Node<J>,
     book: &mut Book<J>,
-    node: NodeId,
-    home: NodeId,
+    place: Place,
     key: &Key,
     context: &Context,
     value: Option<Value>,
 ) -> Result<Begun<J>, Fault>
-    requires number { held.old.part.node ≡ node }
-    requires may_hold { IsTrue (may_hold (homes_of J.ring J.n key.now) node home) }
-    ensures begun { IfOk result (λ b.
-        IsBegun (layout_of J.ring J.n) node home key.now context.now value b) }
-    ensures log { OnOk result (book.new ≡ with_untold book.old (issue_steps node home
+    requires number { held.old.part.node ≡ place.holder }
+    requires may_hold { IsTrue
+        (may_hold (homes_of J.ring J.n key.now) place.holder place.home) }
+    ensures begun { IfOk result (λ b. IsBegun (layout_of J.ring J.n) place.holder place.home
+        key.now context.now value b) }
+    ensures log { OnOk result (book.new ≡ with_untold book.old
+        (issue_steps place.holder place.home
         (version_begun book.old held.old key.now context.now value))) }
-    ensures row { IfOk result (λ b. b.row.versions ≡ versions_at held.new.rooms home key.now) }
+    ensures row { IfOk result (λ b.
+        b.row.versions ≡ versions_at held.new.rooms place.home key.now) }
     ensures err { OnErr result ((held.new ≡ held.old) × (book.new ≡ book.old)) }
     ensures cause { BeginRefused book.old held.old key.now context.now (result_err result) }
     ensures refused { IfErr result IsOfBegin }
@@ -72,7 +74,7 @@ fn begin_by<J: Naming>(
     // Bring the clauses that the book's log is legal, and that the node keeps what it says.
     held.agree(book);
     book.log_is_legal();
-    held.begin(book, home, key, context, value)
+    held.begin(book, place.home, key, context, value)
 }
 
 // The hints of this node, which has this number.
@@ -147,13 +149,12 @@ impl<'a, J: Naming> Reach<'a, J> {
             key.now context.now value.now b) }
         ensures refused { IfErr result IsOfBegin }
     {
-        let Place { holder, home } = place;
         let copy = copied(self.alloc, value)?;
-        let Some(mut held) = self.lock_node(rt, holder) else {
+        let Some(mut held) = self.lock_node(rt, place.holder) else {
             return Err(Fault::Down);
         };
         let mut open = lock_soon(rt, self.book);
-        begin_by(&mut held, &mut open, holder, home, key, context, copy)
+        begin_by(&mut held, &mut open, place, key, context, copy)
     }
 
     // Fetches at the holder for the home, under the node's lock and the book's.

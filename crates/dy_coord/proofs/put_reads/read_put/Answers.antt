@@ -1,6 +1,7 @@
 -- A put reads on: each receipt that comes fits those there, and what the loop keeps is kept field
 -- by field, by one lemma a field.
-use Rattle.std.proofs.Common.{rules, ◌++◌, ◌∷◌, ℕ, List, nat_eq, arith, sym, ◌∙◌, refl, ap, subst}
+use Rattle.std.proofs.Common.{rules, ◌≡◌, ◌++◌, ◌∷◌, ℕ, List, length, nat_eq, arith, sym, ◌∙◌, refl}
+use Rattle.std.proofs.Common.{ap, subst}
 use Rattle.std.specs.List.{IsDistinct}
 use Rattle.dy_shares.specs.Shares.{ReceiptParts, receipt_parts}
 use Rattle.dy_transport.specs.Snapshots.{snapshot_of}
@@ -51,6 +52,7 @@ add-requires-clause-room g c =
     let room = c.requires.room.pieces in
     let same = inv.tally_room in
     let count = inv.count in
+    let one : length c.args.tally.now.added ≡ 1 = ap length c.requires.own.added_are in
     let q = c.in-Some-read_next.ensures.some.1 in
     let within = q.within in
     omega arith
@@ -65,15 +67,17 @@ add-requires-clause-fits g c =
     let q = some.1 in
     let took = took_some told.asks row c.args.dot some.0 _ _ _ _ _ i.whats c.requires.one_key
     c.requires.dot q.answers c.receipt_in.ensures c.in-Some-receipt_in.is in
-    let P : List ℕ → Type 0 = λ ns. IsDistinct nat_eq (c.args.coordinator ∷ ns) in
-    let apart : IsDistinct nat_eq (c.args.coordinator ∷ nodes_asked told.asks ++ c.reading.assign) =
-    subst P (sym i.whom) c.requires.apart in
+    let own = c.requires.own in
+    let came = receipts_read row.key c.args.dot told.replies in
+    let P : List ℕ → Type 0 = λ ns. IsDistinct nat_eq (own.holder ∷ ns) in
+    let apart : IsDistinct nat_eq (own.holder ∷ nodes_asked told.asks ++ c.reading.assign) =
+    subst P (sym i.whom) own.apart in
     let Q : List ReceiptParts → Type 0 = λ xs. FitsAll xs c.in-Some-receipt_in.receipt in
-    let R : ReceiptParts → Type 0 = λ x. FitsAll (receipt_parts row.key c.args.dot
-    c.args.coordinator c.args.held ∷ receipts_read row.key c.args.dot told.replies) x in
-    subst Q (sym inv.added) (subst R (sym took.0) (fits_reply row.key c.args.dot c.args.held
-    c.args.coordinator told.asks c.reading.assign told.replies some.0 _ _ _ apart i.known
-    q.answers))
+    let R : ReceiptParts → Type 0 = λ x. FitsAll (receipt_parts row.key c.args.dot own.holder
+    own.home ∷ came) x in
+    let added = inv.added ∙ ap (λ (xs : List ReceiptParts). xs ++ came) own.added_are in
+    subst Q (sym added) (subst R (sym took.0) (fits_reply row.key c.args.dot own.home own.holder
+    told.asks c.reading.assign told.replies some.0 _ _ _ apart i.known q.answers))
 
 pub reading-preserved-in-Some-receipt_in : goal.reading-preserved-in-Some-receipt_in
 reading-preserved-in-Some-receipt_in g c =
@@ -99,7 +103,7 @@ reading-preserved-in-Some-receipt_in g c =
       added = added_more row.key c.args.dot told.replies new.replies r _ _ _ _ inv.added took.1 now
           q.replies;
       agree = c.add.ensures.agree;
-      count = count_more told.replies new.replies r _ _ _ inv.count now q.replies;
+      count = count_more _ told.replies new.replies r _ _ _ inv.count now q.replies;
       w = ap (λ t. t.w) c.add.ensures.value ∙ inv.w;
       tally_room = ap (λ t. t.room) c.add.ensures.value ∙ inv.tally_room;
       answers = listed_more _ _ _ told.replies new.replies r _ c.in-Some-read_next.ensures.listed
@@ -131,7 +135,7 @@ reading-preserved g c =
       tries = q.tries ∙ inv.tries;
       added = added_same row.key c.args.dot told.replies new.replies r _ _ inv.added none q.replies;
       agree = inv.agree;
-      count = count_same told.replies new.replies r _ inv.count q.replies;
+      count = count_same _ told.replies new.replies r _ inv.count q.replies;
       w = inv.w;
       tally_room = inv.tally_room;
       answers = listed_more _ _ _ told.replies new.replies r _ c.in-Some-read_next.ensures.listed

@@ -1,5 +1,4 @@
-use Rattle.std.proofs.Common.{◌≡◌, ◌≤◌, ◌+◌, ◌++◌, ◌∷◌, length, map}
-use Rattle.dy_shares.specs.Shares.{receipt_parts}
+use Rattle.std.proofs.Common.{◌≡◌, ◌≤◌, ◌+◌, ◌++◌, length, map}
 use Rattle.dy_transport.specs.Snapshots.{snapshot_of}
 use Rattle.dy_transport.specs.declared.asked.What.TheVariants.{Store}
 use Rattle.dy_quorum.specs.Tallies.{DoAgree}
@@ -18,10 +17,10 @@ invariant-reading g l =
       may_ask : MayStandIn g.J.Naming.ring g.J.Naming.n l.request told.asks l.assign;
       room : told.room ≡ start.room;
       tries : told.tries ≡ start.tries;
-      added : l.tally.added ≡ receipt_parts l.row.key l.dot l.fn.coordinator l.fn.held ∷
-          receipts_read l.row.key l.dot told.replies;
+      added : l.tally.added ≡ l.initial.tally.added
+          ++ receipts_read l.row.key l.dot told.replies;
       agree : DoAgree l.tally.added;
-      count : length l.tally.added ≤ 1 + length told.replies;
+      count : length l.tally.added ≤ length l.initial.tally.added + length told.replies;
       w : l.tally.w ≡ l.initial.tally.w;
       tally_room : l.tally.room ≡ l.initial.tally.room;
       answers : l.answers.items ≡ l.initial.answers.items ++ map as_read told.replies;

@@ -2,7 +2,9 @@
 -- for one row; so a put reads until nothing is left, by the rule.
 use Rattle.std.proofs.Common.{◌≡◌, ◌++◌, ◌∷◌, ℕ, List, length, nat_eq, arith, sym, ◌∙◌, refl, ap, length-append}
 use Rattle.std.proofs.Common.{subst}
+use Rattle.std.specs.Borrow.{Bor}
 use Rattle.std.specs.List.{All, IsDistinct}
+use Rattle.dy_siblings.specs.Siblings.{Siblings}
 use Rattle.dy_preference.specs.Preferences.{home_for, stand_ins_of}
 use Rattle.dy_transport.specs.Snapshots.{snapshot_of}
 use Rattle.dy_transport.specs.declared.asked.Asked.{Asked}
@@ -14,6 +16,10 @@ use Rattle.dy_reads.proofs.Lists.{few_asked, apart_asked, all_home_whats, all_us
 use Rattle.dy_reads.proofs.Allowed.{homes_may, stand_ins_may}
 use Rattle.dy_coord.proofs.puts.spread.Goals as goal
 
+-- the row, lent; no clause reads where it lies
+abbrev lent : Siblings → Bor Siblings
+lent row = record { ref_ptr = (0, 0); now = row }
+
 pub ask_homes-requires-clause-room : goal.ask_homes-requires-clause-room
 ask_homes-requires-clause-room g c =
     let few = c.requires.valid.few in
@@ -23,12 +29,12 @@ ask_homes-requires-clause-room g c =
 
 pub ask_homes-requires-clause-may_ask : goal.ask_homes-requires-clause-may_ask
 ask_homes-requires-clause-may_ask g c =
-    homes_may {J = g.row.J.Denot} g.J.Naming.ring g.J.Naming.n (request.Store c.args.row)
+    homes_may {J = g.row.J.Denot} g.J.Naming.ring g.J.Naming.n (request.Store (lent c.args.begun.row))
     c.args.list.now (c.requires.nodes, c.requires.homes)
 
 pub read_put-requires-clause-room : goal.read_put-requires-clause-room
 read_put-requires-clause-room g c =
-    let asked = few_asked c.args.list.now (Store (snapshot_of c.args.row.now)) c.args.coordinator
+    let asked = few_asked c.args.list.now (Store (snapshot_of c.args.begun.row)) c.args.coordinator
     c.requires.valid in
     let few = c.requires.valid.few in
     let room = c.requires.room in
@@ -63,11 +69,11 @@ read_put-requires-clause-room g c =
 
 pub read_put-requires-clause-whats : goal.read_put-requires-clause-whats
 read_put-requires-clause-whats g c =
-    let P : List Asked → Type 0 = λ xs. All (λ a. a.what ≡ Store (snapshot_of c.args.row.now)) xs in
+    let P : List Asked → Type 0 = λ xs. All (λ a. a.what ≡ Store (snapshot_of c.args.begun.row)) xs in
     let is : (g.T.Transport.told c.ask_homes.new.transport).asks ≡ home_asks
-    (Store (snapshot_of c.args.row.now)) c.home_for-held.result (homes_in c.args.list.now) =
+    (Store (snapshot_of c.args.begun.row)) c.home_for-held.result (homes_in c.args.list.now) =
     c.ask_homes.ensures.asks ∙ rw c.requires.fresh_asks refl in
-    subst P (sym is) (all_home_whats (Store (snapshot_of c.args.row.now)) c.home_for-held.result
+    subst P (sym is) (all_home_whats (Store (snapshot_of c.args.begun.row)) c.home_for-held.result
     (homes_in c.args.list.now))
 
 pub read_put-requires-clause-may_ask : goal.read_put-requires-clause-may_ask
@@ -75,30 +81,36 @@ read_put-requires-clause-may_ask g c =
     let list = c.args.list.now in
     let co = c.args.coordinator in
     let P : List Asked → Type 0 = λ xs. MayStandIn {J = g.row.J.Denot} g.J.Naming.ring g.J.Naming.n
-    (request.Store c.args.row) xs (stand_ins_of list.nodes list.n co) in
+    (request.Store (lent c.args.begun.row)) xs (stand_ins_of list.nodes list.n co) in
     let Q : List ℕ → Type 0 = λ ss. MayStandIn {J = g.row.J.Denot} g.J.Naming.ring g.J.Naming.n
-    (request.Store c.args.row) (g.T.Transport.told c.ask_homes.new.transport).asks ss in
+    (request.Store (lent c.args.begun.row)) (g.T.Transport.told c.ask_homes.new.transport).asks ss in
     let is : (g.T.Transport.told c.ask_homes.new.transport).asks ≡ home_asks
-    (Store (snapshot_of c.args.row.now)) c.home_for-held.result (homes_in list) =
+    (Store (snapshot_of c.args.begun.row)) c.home_for-held.result (homes_in list) =
     c.ask_homes.ensures.asks ∙ rw c.requires.fresh_asks refl in
     subst Q (sym c.new-assign.ensures.value) (subst P (sym is)
-    (stand_ins_may {J = g.row.J.Denot} g.J.Naming.ring g.J.Naming.n (request.Store c.args.row)
-    (Store (snapshot_of c.args.row.now)) c.home_for-held.result co list c.requires.valid
+    (stand_ins_may {J = g.row.J.Denot} g.J.Naming.ring g.J.Naming.n (request.Store (lent c.args.begun.row))
+    (Store (snapshot_of c.args.begun.row)) c.home_for-held.result co list c.requires.valid
     (c.requires.nodes, c.requires.homes)))
 
-pub read_put-requires-clause-apart : goal.read_put-requires-clause-apart
-read_put-requires-clause-apart g c =
+-- the coordinator's receipt alone is counted, and it is asked nothing
+pub read_put-requires-clause-own : goal.read_put-requires-clause-own
+read_put-requires-clause-own g c =
     let list = c.args.list.now in
     let co = c.args.coordinator in
     let is : (g.T.Transport.told c.ask_homes.new.transport).asks ≡ home_asks
-    (Store (snapshot_of c.args.row.now)) (home_for (homes_in list) co) (homes_in list) =
+    (Store (snapshot_of c.args.begun.row)) (home_for (homes_in list) co) (homes_in list) =
     c.ask_homes.ensures.asks ∙ rw (c.requires.fresh_asks, c.home_for-held.ensures.value) refl in
     let P : List Asked → Type 0 = λ xs. IsDistinct nat_eq (co ∷ nodes_asked xs ++ stand_ins_of
     list.nodes list.n co) in
     let Q : List ℕ → Type 0 = λ ss. IsDistinct nat_eq (co ∷ nodes_asked (g.T.Transport.told
     c.ask_homes.new.transport).asks ++ ss) in
-    subst Q (sym c.new-assign.ensures.value) (subst P (sym is) (apart_asked list
-    (Store (snapshot_of c.args.row.now)) co c.requires.valid))
+    record {
+      holder = co;
+      home = home_for (homes_in list) co;
+      added_are = rw (c.add.ensures.value, c.requires.none, c.requires.own) refl;
+      apart = subst Q (sym c.new-assign.ensures.value) (subst P (sym is) (apart_asked list
+          (Store (snapshot_of c.args.begun.row)) co c.requires.valid));
+    }
 
 pub returns-clause-spreads : goal.returns-clause-spreads
 returns-clause-spreads g c =
@@ -106,19 +118,20 @@ returns-clause-spreads g c =
     let list = c.args.list.now in
     let co = c.args.coordinator in
     let is : (g.T.Transport.told c.ask_homes.new.transport).asks ≡ home_asks
-    (Store (snapshot_of c.args.row.now)) (home_for (homes_in list) co) (homes_in list) =
+    (Store (snapshot_of c.args.begun.row)) (home_for (homes_in list) co) (homes_in list) =
     c.ask_homes.ensures.asks ∙ rw (c.requires.fresh_asks, c.home_for-held.ensures.value) refl in
     let reading = rw (is, c.new-assign.ensures.value) at c.read_put.ensures.reading in
     let out = c.read_put.ensures.out in
     record {
       asks = ap (λ p. p.0) reading.so_far;
       out = out;
-      used = all_used list (Store (snapshot_of c.args.row.now)) co told c.read_put.new.assign
+      used = all_used list (Store (snapshot_of c.args.begun.row)) co told c.read_put.new.assign
           reading
           out.1;
       known = reading.known;
       agree = c.read_put.ensures.agree;
-      added_are = rw c.home_for-held.ensures.value at c.read_put.ensures.added;
+      added_are = c.read_put.ensures.added
+          ∙ rw (c.add.ensures.value, c.requires.none, c.requires.own) refl;
       answers_are = c.read_put.ensures.answers ∙ rw (
         c.push_reserved.ensures.items,
         c.requires.no_answers,

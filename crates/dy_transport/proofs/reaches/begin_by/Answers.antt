@@ -21,10 +21,10 @@ returns-clause-begun g c =
     (subst (λ (n : NodeState). HoldsAs (world_of c.args.book.now) n) (sym c.agree.ensures.node)
     c.agree.ensures.holds) in
     subst (λ n. IfOk c.begin.result
-    (λ b. IsBegun layout n c.args.home key c.args.context.now c.args.value b))
+    (λ b. IsBegun layout n c.args.place.home key c.args.context.now c.args.value b))
     (ap (λ (n : NodeState). n.part.node) c.agree.ensures.node ∙ c.requires.number)
-    (begun_fits layout held.part.node c.args.home key c.args.context.now c.args.value
-    (steps_of book.log) _ _ c.begin.result c.log_is_legal.ensures refl (holds c.args.home key)
+    (begun_fits layout held.part.node c.args.place.home key c.args.context.now c.args.value
+    (steps_of book.log) _ _ c.begin.result c.log_is_legal.ensures refl (holds c.args.place.home key)
     c.begin.ensures.follows c.begin.ensures.dot c.begin.ensures.key c.begin.ensures.row
     c.begin.ensures.in_row c.begin.ensures.receipt)
 
@@ -34,13 +34,13 @@ returns-clause-log g c =
     let made = c.begin.new.book in
     let key = c.args.key.now in
     let context = c.args.context.now in
-    subst (λ (b : BookParts). OnOk c.begin.result (made ≡ with_untold b (issue_steps c.args.node
-    c.args.home (version_begun b c.args.held.now key context c.args.value)))) c.agree.ensures.book
+    subst (λ (b : BookParts). OnOk c.begin.result (made ≡ with_untold b (issue_steps c.args.place.holder
+    c.args.place.home (version_begun b c.args.held.now key context c.args.value)))) c.agree.ensures.book
     (subst (λ (n : NodeState). OnOk c.begin.result (made ≡ with_untold c.agree.new.book
-    (issue_steps c.args.node c.args.home
+    (issue_steps c.args.place.holder c.args.place.home
     (version_begun c.agree.new.book n key context c.args.value)))) c.agree.ensures.node
     (subst (λ (n : ℕ). OnOk c.begin.result (made ≡ with_untold c.agree.new.book (issue_steps n
-    c.args.home (version_begun c.agree.new.book c.agree.new.self key context c.args.value))))
+    c.args.place.home (version_begun c.agree.new.book c.agree.new.self key context c.args.value))))
     (ap (λ (n : NodeState). n.part.node) c.agree.ensures.node ∙ c.requires.number)
     c.begin.ensures.log))
 

@@ -15,7 +15,7 @@ use Rattle.dy_reads.proofs.Lists.{few_asked, all_home_whats, all_used, held_is_h
 use Rattle.dy_coord.specs.Gets.{seens_of}
 use Rattle.dy_coord.proofs.ForHomes.{home_asks_for}
 use Rattle.dy_coord.proofs.Getting.{IsLaterOf, seens_fit}
-use Rattle.dy_coord.proofs.get_readings.gather.Goals as goal
+use Rattle.dy_coord.proofs.get_tasks.GetTask.gather.Goals as goal
 
 pub ask_homes-requires-clause-room : goal.ask_homes-requires-clause-room
 ask_homes-requires-clause-room g c =
@@ -27,7 +27,7 @@ ask_homes-requires-clause-room g c =
 
 pub read_rows-requires-clause-room : goal.read_rows-requires-clause-room
 read_rows-requires-clause-room g c =
-    let what = Fetch (snapshot_of c.args.key.now) c.args.since.now in
+    let what = Fetch (snapshot_of c.args.self.now.key.now) c.args.self.now.since in
     let asked = few_asked c.args.list.now what c.args.coordinator c.requires.valid in
     let p = c.requires.valid in
     let few : length c.args.list.now.nodes ≤ 32 = p.few in
@@ -63,7 +63,7 @@ read_rows-requires-clause-room g c =
 
 pub read_rows-requires-clause-whats : goal.read_rows-requires-clause-whats
 read_rows-requires-clause-whats g c =
-    let what = Fetch (snapshot_of c.args.key.now) c.args.since.now in
+    let what = Fetch (snapshot_of c.args.self.now.key.now) c.args.self.now.since in
     let list = c.args.list.now in
     let P : List Asked → Type 0 = λ xs. All (λ a. a.what ≡ what) xs in
     let is : (g.T.Transport.told c.ask_homes.new.transport).asks
@@ -74,8 +74,8 @@ read_rows-requires-clause-whats g c =
 pub returns-clause-collects : goal.returns-clause-collects
 returns-clause-collects g c =
     let told = g.T.Transport.told c.read_rows.new.transport in
-    let key = c.args.key.now in
-    let since = c.args.since.now in
+    let key = c.args.self.now.key.now in
+    let since = c.args.self.now.since in
     let what = Fetch (snapshot_of key) since in
     let list = c.args.list.now in
     let co = c.args.coordinator in
