@@ -143,7 +143,7 @@ CALLS = {
                           ("handoff",), {"fewer"}),
     "Book::ack": Call(f"{BOOK}::ack", (f"{CLUSTER}::put_listed", f"{CLUSTER}::put_kept"), PUTS,
                       {"after"}),
-    "Book::close": Call(f"{BOOK}::close", ("dy_cluster::restings::Resting::close",
+    "Book::close": Call(f"{BOOK}::close", ("dy_cluster::resting::Resting::close",
                                            f"{CLUSTER}::close"), (), {"ended"}),
     "Cluster::open": Call(f"{CLUSTER}::open", (), (), {"ended"}),
     # It opens a session, which takes no memory itself: neither does Cluster::session.

@@ -9,7 +9,7 @@ use Rattle.dy_book.specs.Limits.{AreLimits, IsQuorum}
 use Rattle.dy_book.specs.declared.options.Options.{Options}
 use Rattle.dy_clients.specs.Runs.{EndsRun}
 use Rattle.dy_clients.specs.Tellings.{ClientSaying}
-use Rattle.dy_clients.specs.declared.clients_dones.ClientsDone.{ClientsDone}
+use Rattle.dy_clients.specs.declared.clients_done.ClientsDone.{ClientsDone}
 
 module _ {T : Type 0} where
   -- a refusal is for one fault

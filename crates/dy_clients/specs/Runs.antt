@@ -10,7 +10,7 @@ use Rattle.dy_cluster.specs.Ends.{IsClosed}
 use Rattle.dy_cluster.specs.Stores.{TellsStores}
 use Rattle.dy_clients.specs.Refusals.{IsRunRefusal}
 use Rattle.dy_clients.specs.Tellings.{AreAnswered, ClientSaying, as_answered}
-use Rattle.dy_clients.specs.declared.clients_dones.ClientsDone.{ClientsDone}
+use Rattle.dy_clients.specs.declared.clients_done.ClientsDone.{ClientsDone}
 
 -- a cluster of this ring and these options was closed with the session of each of so many clients;
 -- of each client's answer and session it is said so

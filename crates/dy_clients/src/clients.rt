@@ -6,7 +6,7 @@ ghost use Rattle.dy_clients.specs.Runs.{EndsRun};
 ghost use Rattle.dy_clients.specs.Tellings.{ClientSaying};
 
 use crate::accesses::Access;
-use crate::clients_dones::ClientsDone;
+use crate::clients_done::ClientsDone;
 use crate::operators::Nobody;
 use crate::staffing::run_opened;
 use dy_book::Options;

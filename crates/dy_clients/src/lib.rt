@@ -3,7 +3,7 @@
 
 mod accesses;
 mod clients;
-mod clients_dones;
+mod clients_done;
 mod crews;
 mod lone_clients;
 mod operators;
@@ -12,7 +12,7 @@ mod staffing;
 
 pub use accesses::Access;
 pub use clients::{Client, with_clients};
-pub use clients_dones::ClientsDone;
+pub use clients_done::ClientsDone;
 pub use lone_clients::{LoneClient, with_client};
 pub use operators::{Controls, Operator, Staff, with_operator};
 pub use staffing::with_workers;

@@ -3,7 +3,7 @@ ghost use Rattle.dy_cluster.specs.Settings.{setting};
 ghost use Rattle.dy_clients.specs.Runs.{EndsRun};
 
 use crate::clients::Client;
-use crate::clients_dones::ClientsDone;
+use crate::clients_done::ClientsDone;
 use crate::staffing::run_opened;
 use dy_book::Options;
 use dy_cluster::Cluster;

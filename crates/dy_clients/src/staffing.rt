@@ -12,7 +12,7 @@ ghost use Rattle.dy_clients.specs.Runs.{EndsRun, HaveRun};
 ghost use Rattle.dy_clients.specs.Tellings.{AreAnswered, SaysToo, as_answered};
 
 use crate::clients::Client;
-use crate::clients_dones::ClientsDone;
+use crate::clients_done::ClientsDone;
 use crate::crews::{Crew, mail_for};
 use crate::operators::{Nobody, Operator};
 use crate::seats::{Seat, Telling, rise_all, seat_all};

@@ -7,7 +7,7 @@ mod crossings;
 #[cfg(test)]
 mod early;
 #[cfg(test)]
-mod fulls;
+mod full_mailboxes;
 #[cfg(test)]
 mod growths;
 #[cfg(test)]
@@ -15,7 +15,7 @@ mod held_puts;
 #[cfg(test)]
 mod holds;
 #[cfg(test)]
-mod lates;
+mod late_answers;
 #[cfg(test)]
 mod signals;
 #[cfg(test)]

@@ -27,7 +27,7 @@ use Rattle.dy_book.specs.Books.{world_of}
 use Rattle.dy_cluster.specs.Carrying.{IsAmong}
 use Rattle.dy_cluster.specs.Ends.{AtRest, IsEndOf}
 use Rattle.dy_cluster.specs.PresentValues.{ArePresent, versions_held}
-use Rattle.dy_cluster.specs.declared.restings.Closed.{Closed}
+use Rattle.dy_cluster.specs.declared.resting.Closed.{Closed}
 use Rattle.dy_cluster.specs.declared.values.PresentValue.{PresentValue}
 use Rattle.dy_cluster.proofs.Gathered.{filter_map_in}
 use Rattle.dy_cluster.proofs.Stored.{held_made, stands_listed}

@@ -34,7 +34,7 @@ use Rattle.dy_quorum.specs.Gatherings.{answer_place, first_answers}
 use Rattle.dy_transport.specs.Told.{Told}
 use Rattle.dy_coord.specs.Gets.{IsGot}
 use Rattle.dy_coord.specs.Sure.{IsSureOf, ack_of, get_of}
-use Rattle.dy_coord.specs.declared.get_dones.GetDone.{GetDone}
+use Rattle.dy_coord.specs.declared.get_done.GetDone.{GetDone}
 use Rattle.dy_coord.specs.declared.put_results.PutDone.{PutDone}
 use Rattle.dy_coord.proofs.Getting.{all_firsts}
 use Rattle.dy_reads.specs.Lists.{homes_in}
@@ -42,7 +42,7 @@ use Rattle.dy_cluster.specs.Ends.{AtRest, IsClosed, IsEndOf}
 use Rattle.dy_cluster.specs.Guarantees.{GivesNothingDeleted, IsRead, NeverGoesBack}
 use Rattle.dy_cluster.specs.Guarantees.{ReadsOwnWrites, ReadsWritesOf}
 use Rattle.dy_cluster.specs.Lists.{list_of}
-use Rattle.dy_cluster.specs.declared.restings.Closed.{Closed}
+use Rattle.dy_cluster.specs.declared.resting.Closed.{Closed}
 
 -- a version that a get shows is in the row of one of its answers
 answer_with : (answers : List Answer) (v : Version) → Contains (rows_of answers) v →

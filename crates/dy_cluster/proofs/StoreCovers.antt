@@ -27,7 +27,7 @@ use Rattle.dy_node.specs.Stored.{Shows, versions_at}
 use Rattle.dy_node.proofs.Worldly.{matches_world}
 use Rattle.dy_cluster.specs.Ends.{AtRest, GoesWith, IsEndOf}
 use Rattle.dy_cluster.specs.Stores.{AreCovering, IsKept, KeepsCover, TellsStores}
-use Rattle.dy_cluster.specs.declared.restings.Closed.{Closed}
+use Rattle.dy_cluster.specs.declared.resting.Closed.{Closed}
 
 -- of two lists that go together: what goes with an item of the first
 pub record Other {A B : Type 0} (R : A → B → Type 0) (ys : List B) (x : A) : Type 0 where

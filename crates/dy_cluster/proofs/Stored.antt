@@ -18,7 +18,7 @@ use Rattle.dy_book.specs.Audits.{account_of}
 use Rattle.dy_book.specs.Books.{world_of}
 use Rattle.dy_cluster.specs.Ends.{AtRest, IsEndOf}
 use Rattle.dy_cluster.specs.PresentValues.{KeepsVersion, versions_held}
-use Rattle.dy_cluster.specs.declared.restings.Closed.{Closed}
+use Rattle.dy_cluster.specs.declared.resting.Closed.{Closed}
 use Rattle.dy_cluster.proofs.Gathered.{flat_map_from, flat_map_in}
 use Rattle.dy_cluster.proofs.StoreCovers.{same_rows, share_of, store_of}
 

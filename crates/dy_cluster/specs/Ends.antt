@@ -14,7 +14,7 @@ use Rattle.dy_book.specs.contracts.options.Options as options
 use Rattle.dy_book.specs.declared.options.Options.{Options}
 use Rattle.dy_node.specs.Nodes.{AreDeferred, RestState, rest_code}
 use Rattle.dy_node.specs.Stored.{Shows}
-use Rattle.dy_cluster.specs.declared.restings.Closed.{Closed}
+use Rattle.dy_cluster.specs.declared.resting.Closed.{Closed}
 
 -- what a cluster at rest is seen as: its options, its book, its nodes' shares, and what the nodes
 -- keep

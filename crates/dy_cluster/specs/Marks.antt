@@ -7,7 +7,7 @@ use Rattle.dy_shares.specs.Trails.{AreKept}
 use Rattle.dy_shares.specs.declared.entries.Entry.{Entry}
 use Rattle.dy_shares.specs.declared.kept_steps.KeptStep.{KeptStep}
 use Rattle.dy_cluster.specs.Ends.{AtRest, IsEndOf}
-use Rattle.dy_cluster.specs.declared.restings.Closed.{Closed}
+use Rattle.dy_cluster.specs.declared.resting.Closed.{Closed}
 
 -- the beginning of a log that was read, where one was
 abbrev pub log_of : Option (List Entry) → List Entry

@@ -12,7 +12,7 @@ use Rattle.dy_shares.specs.Shares.{SessionPart}
 use Rattle.dy_book.specs.Audits.{IsTold, ListsAck, TellsHeld}
 use Rattle.dy_node.specs.Nodes.{RestState}
 use Rattle.dy_node.specs.Stored.{versions_at}
-use Rattle.dy_cluster.specs.declared.restings.Closed.{Closed}
+use Rattle.dy_cluster.specs.declared.resting.Closed.{Closed}
 
 -- one of these nodes is the holder, and keeps the dot's version of the key for the home
 abbrev pub IsKept : List RestState → ℕ → ℕ → List ℕ → Dot → Type 0

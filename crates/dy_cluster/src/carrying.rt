@@ -6,7 +6,7 @@ ghost use Rattle.dy_cluster.specs.Carrying.{AreCarried, EndsBehindNothing, IsCar
 ghost use Rattle.dy_cluster.specs.Carrying.{IsCarriedOver, StopsCarrying};
 
 use crate::connections::Connection;
-use crate::restings::Closed;
+use crate::resting::Closed;
 use crate::values::PresentValue;
 use dy_coord::{PutDone, PutFault};
 use dy_dots::{Context, Fault};

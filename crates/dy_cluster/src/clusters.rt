@@ -11,7 +11,7 @@ ghost use Rattle.dy_cluster.specs.Stores.{TellsStores};
 use crate::books::{OpenBook, audit_of, open_book};
 use crate::locks::{lock_all, rejoin_all, retire_all};
 use crate::openings::Opened;
-use crate::restings::{Closed, ClusterRefused, Resting, check_options};
+use crate::resting::{Closed, ClusterRefused, Resting, check_options};
 use dy_book::{Audit, Book, Options};
 use dy_dots::{Fault, MAX_NODES};
 use dy_node::{Node, Rest};

@@ -12,7 +12,7 @@ ghost use Rattle.dy_cluster.specs.Stores.{TellsStores};
 use crate::clusters::Cluster;
 use crate::open_clusters::OpenCluster;
 use crate::openings::Opened;
-use crate::restings::Closed;
+use crate::resting::Closed;
 use dy_book::Options;
 use dy_dots::Fault;
 use dy_ring::Ring;

@@ -17,7 +17,7 @@ ghost use Rattle.dy_book.specs.Audits.{IsTold, TellsHeld};
 ghost use Rattle.dy_transport.specs.Told.{Told};
 ghost use Rattle.dy_coord.specs.Gets.{IsGot};
 ghost use Rattle.dy_coord.specs.Sure.{IsSureOf, ack_of, get_of};
-ghost use Rattle.dy_coord.specs.declared.get_dones.GetDone.{GetDone};
+ghost use Rattle.dy_coord.specs.declared.get_done.GetDone.{GetDone};
 ghost use Rattle.dy_coord.specs.declared.put_results.PutDone.{PutDone};
 ghost use Rattle.dy_cluster.specs.Carrying.{IsAmong};
 ghost use Rattle.dy_cluster.specs.Ends.{AtRest, IsClosed, IsEndOf};
@@ -26,7 +26,7 @@ ghost use Rattle.dy_cluster.specs.Guarantees.{ReadsOwnWrites, ReadsWritesOf};
 ghost use Rattle.dy_cluster.specs.Lists.{list_of};
 ghost use Rattle.dy_cluster.specs.PresentValues.{ArePresent, KeepsVersion, versions_held};
 ghost use Rattle.dy_cluster.specs.Stores.{AreCovering, IsKept, TellsAcks};
-ghost use Rattle.dy_cluster.specs.declared.restings.Closed.{Closed};
+ghost use Rattle.dy_cluster.specs.declared.resting.Closed.{Closed};
 ghost use Rattle.dy_cluster.specs.declared.values.PresentValue.{PresentValue as PresentParts};
 
 use dy_shares::Naming;

@@ -22,7 +22,7 @@ mod outages;
 mod pasts;
 mod posting;
 mod put_calls;
-mod restings;
+mod resting;
 mod step_copies;
 mod values;
 
@@ -41,7 +41,7 @@ pub use marks::Mark;
 pub use mending_gets::MendingGet;
 pub use open_clusters::OpenCluster;
 pub use openings::Opened;
-pub use restings::{Closed, ClusterRefused, Resting};
+pub use resting::{Closed, ClusterRefused, Resting};
 pub use values::PresentValue;
 
 // Types that a client needs besides, so that an embedding program names no other library for them.

@@ -14,7 +14,7 @@ use crate::clusters::Cluster;
 use crate::marks::Mark;
 use crate::open_clusters::OpenCluster;
 use crate::openings::Opened;
-use crate::restings::{Closed, check_options};
+use crate::resting::{Closed, check_options};
 use dy_book::Options;
 use dy_dots::Fault;
 use dy_ring::Ring;

@@ -5,7 +5,7 @@ ghost use Rattle.dy_cluster.specs.inside.Pasts.{values_in};
 ghost use Rattle.dy_book.specs.inside.Lists.{IsInOrder};
 
 use crate::pasts::{Pasts, pasts_of};
-use crate::restings::Closed;
+use crate::resting::Closed;
 use dy_core::Holding;
 use dy_dots::{Dot, Fault};
 use dy_siblings::{Key, Row, Value};

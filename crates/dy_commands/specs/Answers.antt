@@ -17,7 +17,7 @@ use Rattle.dy_transport.specs.Told.{Told, nothing_told}
 use Rattle.dy_reads.specs.Lists.{homes_in}
 use Rattle.dy_coord.specs.Gets.{IsGetRefused, IsGot}
 use Rattle.dy_coord.specs.PutEnds.{PutEnds}
-use Rattle.dy_coord.specs.declared.get_dones.GetDone.{GetDone}
+use Rattle.dy_coord.specs.declared.get_done.GetDone.{GetDone}
 use Rattle.dy_coord.specs.declared.get_faults.GetFault.{GetFault}
 use Rattle.dy_coord.specs.declared.put_results.PutDone.{PutDone}
 use Rattle.dy_coord.specs.declared.put_results.PutFault.{PutFault}

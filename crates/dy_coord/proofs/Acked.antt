@@ -113,30 +113,30 @@ module _ {J : Type 0} where
   refused_of list w key context value before after told result (inr (same, asks, replies, why)) =
       on_err (after ≡ before) result same
 
-  ends_unlisted : (key : List ℕ) (dot : Dot) (w : ℕ) (added : List ReceiptParts)
+  ends_without_answers : (key : List ℕ) (dot : Dot) (w : ℕ) (added : List ReceiptParts)
       (answers : List AnswerRead) (begins tries : List (Try J)) (before after : SessionPart)
       (result : Result (PutDone J) PutFault)
       → EndsAfter key dot w added answers begins tries before after result
       → IfErr result IsUnlisted
-  ends_unlisted key dot w added answers begins tries before after result
+  ends_without_answers key dot w added answers begins tries before after result
       (inl (spent, last, ok)) =
       subst (λ r. IfErr r IsUnlisted) (sym ok.result_is) tt
-  ends_unlisted key dot w added answers begins tries before after result
+  ends_without_answers key dot w added answers begins tries before after result
       (inr (inl (same, (e, is, dot_is, none, why)))) =
       subst (λ r. IfErr r IsUnlisted) (sym is) (λ _. none)
-  ends_unlisted key dot w added answers begins tries before after result
+  ends_without_answers key dot w added answers begins tries before after result
       (inr (inr (can, last, same, (e, is, dot_is, listed, want)))) =
       subst (λ r. IfErr r IsUnlisted) (sym is) (λ other. absurd (other want))
 
-  pub unlisted_of : (list : Preferred) (w : ℕ) (key : List ℕ) (context : DotSet)
+  pub no_answers_of : (list : Preferred) (w : ℕ) (key : List ℕ) (context : DotSet)
       (value : Option (List ℕ)) (before after : SessionPart) (told : Told J)
       (result : Result (PutDone J) PutFault)
       → PutRuns list w key context value before after told result
       → IfErr result IsUnlisted
-  unlisted_of list w key context value before after told result (inl (c, begun, put)) =
-      ends_unlisted key begun.dot w put.added put.answers put.begins told.tries before after
+  no_answers_of list w key context value before after told result (inl (c, begun, put)) =
+      ends_without_answers key begun.dot w put.added put.answers put.begins told.tries before after
       result
       put.ends
-  unlisted_of list w key context value before after told result
+  no_answers_of list w key context value before after told result
       (inr (same, asks, replies, (e, is, dot_is, none, why))) =
       subst (λ r. IfErr r IsUnlisted) (sym is) (λ _. none)

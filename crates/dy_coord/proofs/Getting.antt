@@ -30,7 +30,7 @@ use Rattle.dy_reads.specs.Rules.{IsReplyTo}
 use Rattle.dy_reads.specs.Tries.{TriesAt, look_try}
 use Rattle.dy_coord.specs.Gets.{StopsSoon, seen_in, seens_of, Gathers, IsGot, IsGetRefused}
 use Rattle.dy_coord.specs.inside.GetParts.{Collects, Finishes}
-use Rattle.dy_coord.specs.declared.get_dones.GetDone.{GetDone}
+use Rattle.dy_coord.specs.declared.get_done.GetDone.{GetDone}
 use Rattle.dy_coord.specs.declared.get_faults.GetFault.{GetFault}
 
 -- of the key, and after so many steps
@@ -195,16 +195,16 @@ module _ {J : Type 0} where
         answers = answers;
         fault = memory;
         gathers = gathers;
-        unlisted = none;
+        no_answers = none;
         enough = enough;
       }))
 
   -- what lists no answers lists none but for want of homes
-  pub unlisted : (result : Result (GetDone J) GetFault) →
+  pub no_answers : (result : Result (GetDone J) GetFault) →
       IfErr result (λ e. e.answers.items ≡ []) →
       IfErr result (λ e. e.fault ≢ NotEnough → e.answers.items ≡ [])
-  unlisted (Ok done) none = tt
-  unlisted (Err e) none = λ _. none
+  no_answers (Ok done) none = tt
+  no_answers (Err e) none = λ _. none
 
   pub gathered : (list : Preferred) (key : List ℕ) (r since c : ℕ) (own : SeenParts)
       (told : Told J) (seens : List SeenParts) (answers : List AnswerRead) →

@@ -19,7 +19,7 @@ use Rattle.dy_transport.specs.declared.replies.Reply.{Reply}
 use Rattle.dy_reads.specs.Lists.{homes_in}
 use Rattle.dy_reads.specs.Rules.{AllUsed, AsksByRule, IsReadOut, IsReplyTo, as_read}
 use Rattle.dy_reads.specs.Tries.{TriesRefused, TriesAt, downs, look_try}
-use Rattle.dy_coord.specs.declared.get_dones.GetDone.{GetDone}
+use Rattle.dy_coord.specs.declared.get_done.GetDone.{GetDone}
 use Rattle.dy_coord.specs.declared.get_faults.GetFault.{GetFault}
 
 -- how the answer of the coordinator itself is listed
@@ -100,7 +100,7 @@ module _ {J : Type 0} where
     pub answers : List AnswerRead
     pub fault : e.fault ≡ OutOfMemory
     pub gathers : Gathers list key r since coordinator own told seens answers
-    pub unlisted : e.answers.items ≡ []
+    pub no_answers : e.answers.items ≡ []
     pub enough : length (first_answers seens) ≡ r
 
   -- a get that asked nobody: no memory before the first try, each node down, or a node refused

@@ -3,7 +3,7 @@ use Rattle.std.specs.Prelude.{◌≡◌, ◌<◌, ◌≤◌, ◌+◌, List, ℕ,
 use Rattle.std.specs.List.{All}
 use Rattle.dy_shares.specs.Shares.{AckTold, GetTold, own_homes}
 use Rattle.dy_quorum.specs.Gatherings.{first_answers}
-use Rattle.dy_coord.specs.declared.get_dones.GetDone.{GetDone}
+use Rattle.dy_coord.specs.declared.get_done.GetDone.{GetDone}
 use Rattle.dy_coord.specs.declared.put_results.PutDone.{PutDone}
 
 module _ {J : Type 0} where

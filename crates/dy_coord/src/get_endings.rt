@@ -7,7 +7,7 @@ ghost use Rattle.dy_shares.specs.Shares.{since_of, with_get};
 ghost use Rattle.dy_quorum.specs.Gatherings.{answer_homes, first_answers};
 ghost use Rattle.dy_coord.specs.inside.GetParts.{Finishes};
 
-use crate::get_dones::GetDone;
+use crate::get_done::GetDone;
 use crate::get_faults::GetFault;
 use dy_dots::{Context, Fault};
 use dy_quorum::{Gathering, merge_all};
@@ -87,7 +87,7 @@ pub(crate) fn finish<J: Naming>(
         with_get session.old (since_of session.old) (first_answers gathering.seens)) }
     ensures err { OnErr result (session.new ≡ session.old) }
     ensures memory { IfErr result (λ e. e.fault ≡ Fault.OutOfMemory) }
-    ensures unlisted { IfErr result (λ e. e.answers.items ≡ []) }
+    ensures no_answers { IfErr result (λ e. e.answers.items ≡ []) }
 {
     let since = session.since().at();
     match tell(alloc, &gathering, session) {

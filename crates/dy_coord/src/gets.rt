@@ -8,7 +8,7 @@ ghost use Rattle.dy_transport.specs.Told.{Told};
 ghost use Rattle.dy_coord.specs.Calls.{IsFresh};
 ghost use Rattle.dy_coord.specs.Gets.{IsGetRefused, IsGot};
 
-use crate::get_dones::GetDone;
+use crate::get_done::GetDone;
 use crate::get_endings::finish;
 use crate::get_faults::GetFault;
 use crate::get_tasks::GetTask;
@@ -65,7 +65,7 @@ pub fn get<J: Naming, T: Transport<J>, R: Wait>(
     ensures room { (T.told transport.new).room ≡ (T.told transport.old).room }
     ensures refused { IfErr result (λ e.
         IsGetRefused list.now key.now J.r (since_of session.old) (T.told transport.new) e) }
-    ensures unlisted { IfErr result (λ e. e.fault ≢ NotEnough → e.answers.items ≡ []) }
+    ensures no_answers { IfErr result (λ e. e.fault ≢ NotEnough → e.answers.items ≡ []) }
 {
     let (mut answers, mut gathering) = match prepare(alloc, list, r) {
         Ok(made) => made,

@@ -22,7 +22,7 @@ ghost use Rattle.dy_coord.specs.Following.{IsNamed, IsUnnamed};
 ghost use Rattle.dy_coord.specs.Puts.{AreStoredFor};
 ghost use Rattle.dy_coord.specs.PutEnds.{IsPut};
 ghost use Rattle.dy_coord.specs.Gets.{IsGot};
-ghost use Rattle.dy_coord.specs.declared.get_dones.GetDone.{GetDone};
+ghost use Rattle.dy_coord.specs.declared.get_done.GetDone.{GetDone};
 ghost use Rattle.dy_coord.specs.declared.put_results.PutDone.{PutDone};
 ghost use Rattle.dy_coord.specs.declared.put_results.PutFault.{PutFault};
 

@@ -1,7 +1,7 @@
 //! Puts and gets, over any transport.
 #![tactic(auto)]
 
-mod get_dones;
+mod get_done;
 mod get_endings;
 mod get_faults;
 mod get_readings;
@@ -13,7 +13,7 @@ mod put_results;
 mod put_tasks;
 mod puts;
 
-pub use get_dones::GetDone;
+pub use get_done::GetDone;
 pub use get_faults::GetFault;
 pub use gets::get;
 pub use put_results::{PutDone, PutFault};

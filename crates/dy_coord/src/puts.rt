@@ -202,7 +202,7 @@ pub fn put<J: Naming, T: Transport<J>, R: Wait>(
         session.old session.new (T.told transport.old) (T.told transport.new) result }
     ensures ok { IfOk result (IsPutDone session.old session.new key.now w) }
     ensures err { OnErr result (session.new ≡ session.old) }
-    ensures unlisted { IfErr result (λ e. e.fault ≢ NotEnough → e.answers.items ≡ []) }
+    ensures no_answers { IfErr result (λ e. e.fault ≢ NotEnough → e.answers.items ≡ []) }
     ensures room { (T.told transport.new).room ≡ (T.told transport.old).room }
 {
     if w < 1 {

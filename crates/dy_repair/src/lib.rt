@@ -2,7 +2,7 @@
 #![tactic(auto)]
 
 mod repairs;
-mod stales;
+mod staleness;
 
 pub use repairs::repair;
-pub use stales::{are_current, stale};
+pub use staleness::{are_current, stale};

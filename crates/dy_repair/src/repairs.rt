@@ -9,7 +9,7 @@ ghost use Rattle.dy_reads.specs.Rules.{IsReadOut};
 ghost use Rattle.dy_repair.specs.Repairs.{IsRepaired, homes_once, store_asks};
 ghost use Rattle.dy_repair.specs.inside.Noting.{with_home};
 
-use crate::stales::stale;
+use crate::staleness::stale;
 use dy_dots::{Fault, NodeId};
 use dy_node::Ask;
 use dy_preference::Preference;

@@ -11,7 +11,7 @@ use Rattle.dy_shares.specs.Shares.{SessionPart, steps_of}
 use Rattle.dy_shares.specs.Trails.{AreKept}
 use Rattle.dy_shares.specs.declared.kept_steps.KeptStep.{KeptStep}
 use Rattle.dy_cluster.specs.Ends.{AtRest, IsEndOf}
-use Rattle.dy_cluster.specs.declared.restings.Closed.{Closed}
+use Rattle.dy_cluster.specs.declared.resting.Closed.{Closed}
 use Rattle.dy_replay.specs.Replays.{Agrees, IsMade, count_made, log_of}
 use Rattle.dy_replay.proofs.Counting.{counted_from}
 

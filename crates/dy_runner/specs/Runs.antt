@@ -11,7 +11,7 @@ use Rattle.dy_script.specs.Reading.{ScriptParts}
 use Rattle.dy_shares.specs.Shares.{SessionPart}
 use Rattle.dy_cluster.specs.Ends.{IsClosed}
 use Rattle.dy_cluster.specs.Settings.{Setting, setting}
-use Rattle.dy_cluster.specs.declared.restings.Closed.{Closed}
+use Rattle.dy_cluster.specs.declared.resting.Closed.{Closed}
 use Rattle.dy_lines.specs.Clusters.{cluster_lines}
 use Rattle.dy_lines.specs.Outcomes.{command_text}
 use Rattle.dy_lines.specs.Texts.{line}

@@ -7,7 +7,7 @@ use Rattle.std.proofs.lemmas.List.Elements.{All-append, All-cons, All-nil}
 use Rattle.std.specs.Prelude.{Result, Err, IfOk}
 use Rattle.std.specs.Io.KnownBytes.{Appends, Consumes}
 use Rattle.dy_cluster.specs.Settings.{Setting}
-use Rattle.dy_cluster.specs.declared.restings.Closed.{Closed}
+use Rattle.dy_cluster.specs.declared.resting.Closed.{Closed}
 use Rattle.dy_lines.specs.declared.stops.Stopped.{Stopped}
 use Rattle.dy_script.specs.Reading.{ScriptParts}
 use Rattle.dy_script.specs.Requests.{renews}

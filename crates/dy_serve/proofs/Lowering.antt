@@ -13,7 +13,7 @@ use Rattle.dy_book.specs.Audits.{IsHistoryOf}
 use Rattle.dy_book.specs.declared.audits.Audit.{Audit}
 use Rattle.dy_cluster.specs.Marks.{IsMoved}
 use Rattle.dy_cluster.specs.Settings.{Setting}
-use Rattle.dy_cluster.specs.declared.restings.Closed.{Closed}
+use Rattle.dy_cluster.specs.declared.resting.Closed.{Closed}
 use Rattle.dy_cluster.proofs.Marking.{kept_behind, kept_many, parts_of}
 use Rattle.dy_lines.specs.Outcomes.{command_text}
 use Rattle.dy_lines.specs.Served.{renewed_text}

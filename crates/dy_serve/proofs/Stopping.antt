@@ -15,7 +15,7 @@ use Rattle.dy_book.specs.Limits.{AreLimits, IsQuorum}
 use Rattle.dy_book.specs.declared.options.Options.{Options}
 use Rattle.dy_cluster.specs.Refusals.{IsOpenRefusal}
 use Rattle.dy_cluster.specs.Settings.{Setting, setting}
-use Rattle.dy_cluster.specs.declared.restings.Closed.{Closed}
+use Rattle.dy_cluster.specs.declared.resting.Closed.{Closed}
 use Rattle.dy_lines.specs.Stops.{IsStoppedFor}
 use Rattle.dy_lines.specs.declared.stops.Stopped.{Stopped}
 use Rattle.dy_lines.specs.declared.stops.Stopped.TheVariants.{Refused}

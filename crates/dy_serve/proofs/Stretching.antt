@@ -12,7 +12,7 @@ use Rattle.dy_ring.specs.Rings.{Tokens}
 use Rattle.dy_book.specs.Limits.{AreLimits, IsQuorum}
 use Rattle.dy_book.specs.declared.options.Options.{Options}
 use Rattle.dy_cluster.specs.Settings.{setting}
-use Rattle.dy_cluster.specs.declared.restings.Closed.{Closed}
+use Rattle.dy_cluster.specs.declared.resting.Closed.{Closed}
 use Rattle.dy_lines.specs.Served.{renewed_text}
 use Rattle.dy_lines.specs.Texts.{line}
 use Rattle.dy_script.specs.Reading.{ScriptParts, node_count}

@@ -8,7 +8,7 @@ use Rattle.dy_transport.specs.Told.{Told}
 use Rattle.dy_cluster.specs.Carrying.{IsCarriedOver}
 use Rattle.dy_cluster.specs.Settings.{Setting}
 use Rattle.dy_cluster.specs.Tellings.{IsUntold}
-use Rattle.dy_cluster.specs.declared.restings.Closed.{Closed}
+use Rattle.dy_cluster.specs.declared.resting.Closed.{Closed}
 use Rattle.dy_lines.specs.Outcomes.{command_text}
 use Rattle.dy_lines.specs.Served.{refused_text, renewed_text}
 use Rattle.dy_lines.specs.Texts.{line}

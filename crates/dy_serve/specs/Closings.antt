@@ -8,7 +8,7 @@ use Rattle.dy_book.specs.Audits.{IsHistoryOf}
 use Rattle.dy_book.specs.declared.audits.Audit.{Audit}
 use Rattle.dy_cluster.specs.Ends.{IsClosed}
 use Rattle.dy_cluster.specs.Settings.{Setting}
-use Rattle.dy_cluster.specs.declared.restings.Closed.{Closed}
+use Rattle.dy_cluster.specs.declared.resting.Closed.{Closed}
 use Rattle.dy_script.specs.Reading.{ScriptParts}
 use Rattle.dy_plans.specs.AuditLines.{audit_lines}
 use Rattle.dy_plans.specs.Openings.{options_for}

@@ -11,7 +11,7 @@ use Rattle.dy_cluster.specs.Carrying.{StopsCarrying}
 use Rattle.dy_cluster.specs.Settings.{Setting}
 use Rattle.dy_cluster.specs.Tellings.{IsUntold}
 use Rattle.dy_cluster.specs.declared.carrying.CarryFault.{CarryFault}
-use Rattle.dy_cluster.specs.declared.restings.Closed.{Closed}
+use Rattle.dy_cluster.specs.declared.resting.Closed.{Closed}
 use Rattle.dy_script.specs.Reading.{ScriptParts}
 use Rattle.dy_script.specs.Requests.{renews}
 use Rattle.dy_plans.specs.RingLines.{IsLaidOut}

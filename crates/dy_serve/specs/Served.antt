@@ -4,7 +4,7 @@ use Rattle.std.specs.declared.marker.Brand.{Brand}
 use Rattle.dy_ring.specs.Rings.{Tokens}
 use Rattle.dy_book.specs.Limits.{AreLimits, IsQuorum}
 use Rattle.dy_cluster.specs.Settings.{setting}
-use Rattle.dy_cluster.specs.declared.restings.Closed.{Closed}
+use Rattle.dy_cluster.specs.declared.resting.Closed.{Closed}
 use Rattle.dy_lines.specs.Clusters.{cluster_lines}
 use Rattle.dy_script.specs.Reading.{ScriptParts, node_count}
 use Rattle.dy_plans.specs.Openings.{options_for}

@@ -6,7 +6,7 @@ ghost use Rattle.dy_shares.specs.Merged.{IsMergeOf};
 
 use crate::chronicles::Front;
 use crate::names::Naming;
-use crate::seens::Seen;
+use crate::seen::Seen;
 use dy_dots::Fault;
 use dy_siblings::{Key, Row};
 use std::alloc::Global;

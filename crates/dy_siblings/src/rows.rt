@@ -6,7 +6,7 @@ use crate::keys::Key;
 use crate::lists::Versions;
 use crate::values::Value;
 use crate::versions::Version;
-use crate::{besides, merging};
+use crate::{lone_versions, merging};
 use dy_dots::{Context, Dot, Fault};
 use std::alloc::Global;
 use std::marker::Model;
@@ -72,7 +72,7 @@ impl Row {
         requires { IsSiblingSet key versions.items }
         ensures { result ≡ record { key = key; versions = versions.items } }
     {
-        let may_follow = besides::follow_any(versions.as_slice());
+        let may_follow = lone_versions::follow_any(versions.as_slice());
         Row {
             key,
             versions: Versions::of(versions),
@@ -184,7 +184,7 @@ impl Row {
             IsSameRow (v.now ∷ []) (merge self.now.versions other.now.versions)) }
         ensures key { IfSome result (λ v. v.now.key ≡ other.now.key) }
     {
-        let version = besides::follower(self.versions.as_slice(), other.versions.as_slice())?;
+        let version = lone_versions::follower(self.versions.as_slice(), other.versions.as_slice())?;
         Some(version)
     }
 
@@ -222,7 +222,7 @@ impl Row {
         ensures memory { IsOkUnless result Fault.OutOfMemory }
     {
         let own = self.versions.as_slice();
-        match besides::beside(own, self.may_follow, other.versions.as_slice()) {
+        match lone_versions::beside(own, self.may_follow, other.versions.as_slice()) {
             Some((at, version)) => {
                 let copy = version.try_clone(alloc)?;
                 self.versions.insert(alloc, at, copy)?;

@@ -10,7 +10,7 @@ use Rattle.dy_transport.specs.Told.{Told}
 use Rattle.dy_coord.specs.Gets.{IsGetRefused, IsGot}
 use Rattle.dy_coord.specs.PutDones.{IsPutDone}
 use Rattle.dy_coord.specs.PutEnds.{PutEnds}
-use Rattle.dy_coord.specs.declared.get_dones.GetDone.{GetDone}
+use Rattle.dy_coord.specs.declared.get_done.GetDone.{GetDone}
 use Rattle.dy_coord.specs.declared.get_faults.GetFault.{GetFault}
 use Rattle.dy_coord.specs.declared.put_results.PutDone.{PutDone}
 use Rattle.dy_coord.specs.declared.put_results.PutFault.{PutFault}

@@ -12,7 +12,7 @@ use Rattle.dy_transport.specs.declared.kinds.AnswerRead.{AnswerRead}
 use Rattle.dy_reads.specs.Lists.{homes_in}
 use Rattle.dy_reads.specs.Rules.{AllUsed, AsksByRule, IsReadOut, IsReplyTo, as_read}
 use Rattle.dy_coord.specs.Gets.{StopsSoon, own_read, seens_of}
-use Rattle.dy_coord.specs.declared.get_dones.GetDone.{GetDone}
+use Rattle.dy_coord.specs.declared.get_done.GetDone.{GetDone}
 
 module _ {J : Type 0} where
   -- what is given is made of these rows and answers, after so many steps

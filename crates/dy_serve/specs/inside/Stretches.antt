@@ -3,7 +3,7 @@ use Rattle.std.specs.Prelude.{◌≡◌, ◌+◌, ◌++◌, ◌∷◌, [], List,
 use Rattle.std.specs.Prelude.{All, IsTrue, Option, None, Some, length, ◌≢◌}
 use Rattle.std.specs.Io.KnownBytes.{Appends, Consumes}
 use Rattle.dy_cluster.specs.Settings.{Setting}
-use Rattle.dy_cluster.specs.declared.restings.Closed.{Closed}
+use Rattle.dy_cluster.specs.declared.resting.Closed.{Closed}
 use Rattle.dy_lines.specs.Served.{renewed_text}
 use Rattle.dy_lines.specs.Texts.{line}
 use Rattle.dy_script.specs.Reading.{ScriptParts, node_count}

@@ -4,7 +4,7 @@ use Rattle.dy_core.specs.Logs.{Answer as SeenParts}
 use Rattle.dy_shares.specs.Shares.{since_of}
 use Rattle.dy_quorum.specs.Gatherings.{first_answers}
 use Rattle.dy_transport.specs.declared.kinds.AnswerRead.{AnswerRead}
-use Rattle.dy_coord.proofs.Getting.{are_used, gathered, got, lacking, unlisted}
+use Rattle.dy_coord.proofs.Getting.{are_used, gathered, got, lacking, no_answers}
 use Rattle.dy_coord.proofs.gets.get.Goals as goal
 
 pub returns-else-not-is_ready-clause-ok : goal.returns-else-not-is_ready-clause-ok
@@ -44,7 +44,7 @@ returns-else-not-is_ready-clause-refused g c =
     (gathered list key g.J.Naming.r since c.in-At.c c.in-At.own told seens answers
     (rw (c.gather.ensures.tries, ← c.since-since.ensures) c.in-At.ensures.tries)
     (rw (← c.since-since.ensures) c.in-At.ensures.seen) x)
-    count c.finish.ensures.memory c.finish.ensures.unlisted
+    count c.finish.ensures.memory c.finish.ensures.no_answers
 
 pub finish-requires-clause-count : goal.finish-requires-clause-count
 finish-requires-clause-count g c =
@@ -107,8 +107,8 @@ returns-in-Refused-clause-refused g c =
     }))
 
 -- r homes answered, and nothing is listed
-pub returns-else-not-is_ready-clause-unlisted : goal.returns-else-not-is_ready-clause-unlisted
-returns-else-not-is_ready-clause-unlisted g c = unlisted c.finish.result c.finish.ensures.unlisted
+pub returns-else-not-is_ready-clause-no_answers : goal.returns-else-not-is_ready-clause-no_answers
+returns-else-not-is_ready-clause-no_answers g c = no_answers c.finish.result c.finish.ensures.no_answers
 
-pub returns-then-not-is_ready-clause-unlisted : goal.returns-then-not-is_ready-clause-unlisted
-returns-then-not-is_ready-clause-unlisted g c = λ other. absurd (other refl)
+pub returns-then-not-is_ready-clause-no_answers : goal.returns-then-not-is_ready-clause-no_answers
+returns-then-not-is_ready-clause-no_answers g c = λ other. absurd (other refl)

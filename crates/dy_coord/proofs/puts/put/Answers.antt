@@ -1,5 +1,5 @@
 use Rattle.std.proofs.Common.{refl, arith, inl, inr}
-use Rattle.dy_coord.proofs.Acked.{acked_of, refused_of, unlisted_of}
+use Rattle.dy_coord.proofs.Acked.{acked_of, refused_of, no_answers_of}
 use Rattle.dy_coord.proofs.puts.put.Goals as goal
 
 -- no home was named
@@ -51,8 +51,8 @@ returns-clause-err g c =
     c.put_in_range.result c.put_in_range.ensures.runs
 
 -- and but for want of homes it lists no answers
-pub returns-clause-unlisted : goal.returns-clause-unlisted
-returns-clause-unlisted g c =
-    unlisted_of c.args.list.now c.args.w c.args.key.now c.args.context.now c.args.value
+pub returns-clause-no_answers : goal.returns-clause-no_answers
+returns-clause-no_answers g c =
+    no_answers_of c.args.list.now c.args.w c.args.key.now c.args.context.now c.args.value
     c.args.session.now c.put_in_range.new.session (g.T.Transport.told c.put_in_range.new.transport)
     c.put_in_range.result c.put_in_range.ensures.runs

@@ -4,7 +4,7 @@ use Rattle.dy_ring.specs.Rings.{Tokens}
 use Rattle.dy_book.specs.declared.options.Options.{Options}
 use Rattle.dy_cluster.specs.Settings.{setting}
 use Rattle.dy_clients.specs.Runs.{HaveRun}
-use Rattle.dy_clients.specs.declared.clients_dones.ClientsDone.{ClientsDone}
+use Rattle.dy_clients.specs.declared.clients_done.ClientsDone.{ClientsDone}
 use Rattle.dy_storm.specs.Seeds.{generator_of}
 use Rattle.dy_storm.specs.Turns.{AreTurns}
 use Rattle.dy_plans.specs.declared.storms.Storm.{Storm}

@@ -3,7 +3,7 @@ use Rattle.std.specs.Prelude.{IsTrue}
 use Rattle.dy_ring.specs.Rings.{Tokens}
 use Rattle.dy_transport.specs.Told.{Told}
 use Rattle.dy_reads.specs.Lists.{homes_in}
-use Rattle.dy_coord.specs.declared.get_dones.GetDone.{GetDone}
+use Rattle.dy_coord.specs.declared.get_done.GetDone.{GetDone}
 use Rattle.dy_repair.specs.Stales.{AreCurrent}
 use Rattle.dy_cluster.specs.Connections.{IsMended}
 use Rattle.dy_cluster.specs.Lists.{list_of}

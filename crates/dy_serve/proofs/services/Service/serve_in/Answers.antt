@@ -4,7 +4,7 @@ use Rattle.std.specs.Option.{option_copied}
 use Rattle.std.proofs.KnownBytes.{Appends-nil, Appends-trans}
 use Rattle.dy_script.specs.Reading.{node_count, script_parts}
 use Rattle.dy_cluster.specs.Settings.{setting}
-use Rattle.dy_cluster.specs.declared.restings.Closed.{Closed}
+use Rattle.dy_cluster.specs.declared.resting.Closed.{Closed}
 use Rattle.dy_serve.specs.Below.{standing}
 use Rattle.dy_serve.specs.inside.Shortages.{StopsBeginning, StopsLines, StopsServing}
 use Rattle.dy_serve.proofs.Stopping.{begun_count, passed_on}
