@@ -13,7 +13,7 @@ use dy_shares::Naming;
 use std::alloc::Global;
 use std::sync::{Mutex, Wait};
 use std::thread;
-use std::thread::Threads;
+use std::thread::{Scope, Threads};
 
 // Who runs over a cluster: so many clients, with a gate workers too, and with an operator that one.
 #[derive(Drop)]
@@ -88,18 +88,9 @@ where
                     (C.told (setting J J.ring J.n J.r cluster.now.options) self.now.client.now)
                     S.told }
             {
-                let mut started = 0usize;
-                for inbox in inboxes {
-                    let worker = scope.spawn(move || cluster.serve(rt, inbox, gate));
-                    started = started.saturating_add(usize::from(worker.is_ok()));
-                }
-                let mut is_staffed = are_all(started, cluster.nodes());
-                if is_staffed {
-                    if let Some(operator) = self.operator {
-                        let run = scope.spawn(move || operate(rt, alloc, cluster, operator, post));
-                        is_staffed = run.is_ok();
-                    }
-                }
+                let started = start_workers(scope, rt, cluster, gate, inboxes);
+                let is_staffed = are_all(started, cluster.nodes())
+                    && start_operator(scope, rt, alloc, cluster, self.operator, post);
                 if is_staffed {
                     self.run_beside(cluster, posts, seats);
                 }
@@ -146,6 +137,39 @@ where
             },
         )
     }
+}
+
+// Starts a worker for each inbox, in a thread of its own. Gives how many were started.
+fn start_workers<'s, J: Naming + Send + Sync, G: Gate + Sync, R: Threads + Wait + Sync, E>(
+    scope: &Scope<'s, E>,
+    rt: &'s R,
+    cluster: &'s Cluster<J>,
+    gate: &'s G,
+    inboxes: Vec<Inbox<J>>,
+) -> usize {
+    let mut started = 0usize;
+    for inbox in inboxes {
+        let worker = scope.spawn(move || cluster.serve(rt, inbox, gate));
+        started = started.saturating_add(usize::from(worker.is_ok()));
+    }
+    started
+}
+
+// Starts the operator in a thread of its own, if there is one. Gives whether all that there is was
+// started.
+fn start_operator<'s, J: Naming + Send + Sync, O: Operator + Sync, R: Threads + Wait + Sync, E>(
+    scope: &Scope<'s, E>,
+    rt: &'s R,
+    alloc: Global,
+    cluster: &'s Cluster<J>,
+    operator: Option<&'s O>,
+    post: Post<J>,
+) -> bool {
+    let Some(operator) = operator else {
+        return true;
+    };
+    let thread = scope.spawn(move || operate(rt, alloc, cluster, operator, post));
+    thread.is_ok()
 }
 
 // Whether as many threads were started as there are nodes.
