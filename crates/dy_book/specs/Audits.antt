@@ -53,6 +53,20 @@ AreTold [] (s ∷ ss) = ⊥
 AreTold (n ∷ ns) [] = ⊥
 AreTold (n ∷ ns) (s ∷ ss) = AreNumbersOf n s × AreTold ns ss
 
+-- but for its history, the audit tells what the book has, and what these sessions were told
+pub record TellsNow (b : BookParts) (tellings : List SessionPart) (a : Audit) : Type 0 where
+  pub held : ListsHoldings (world_of b) a.held.items
+  pub acked : ListsCovered (world_of b) a.acked.items
+  pub acks : a.acks ≡ count_acks tellings
+  pub gets : a.gets ≡ count_gets tellings
+  pub steps : a.steps ≡ length b.log
+  pub settled : ListsSettled (world_of b) a.settled.items
+  pub told : AreTold a.told.items tellings
+
+-- the history has no step
+abbrev pub HasNoStep : History → Type 0
+HasNoStep h = h.trail.items ≡ []
+
 -- the audit tells what the book has, each step of its log, and what these sessions were told
 pub record Tells (b : BookParts) (tellings : List SessionPart) (a : Audit) : Type 0 where
   pub held : ListsHoldings (world_of b) a.held.items
@@ -63,11 +77,6 @@ pub record Tells (b : BookParts) (tellings : List SessionPart) (a : Audit) : Typ
   pub settled : ListsSettled (world_of b) a.settled.items
   pub history : IsHistoryOf a.history (steps_of b.log)
   pub told : AreTold a.told.items tellings
-
--- with the history of the book's log the audit tells what the book has
-abbrev pub TellsWith : BookParts → List SessionPart → Audit → Type 0
-TellsWith b tellings a =
-    (h : History) → IsHistoryOf h (steps_of b.log) → Tells b tellings (record a { history = h })
 
 -- the list has a holding at this place with a version of this dot
 pub record TellsHeld (held : List Holding) (holder home : ℕ) (key : List ℕ) (d : Dot) : Type 0 where

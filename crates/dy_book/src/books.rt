@@ -8,7 +8,7 @@ ghost use Rattle.dy_core.specs.Logs.{IsAnswer, IsLegal};
 ghost use Rattle.dy_core.specs.Covers.{AcksAreCovered};
 ghost use Rattle.dy_shares.specs.declared.ledgers.TheConstants.{MAX_SESSIONS};
 ghost use Rattle.dy_shares.specs.Shares.{BelongsTo, HasAll, IsMissing, IsReceipt};
-ghost use Rattle.dy_shares.specs.Shares.{first_parts, first_session, steps_of};
+ghost use Rattle.dy_shares.specs.Shares.{SessionBelongsTo, first_parts, first_session, steps_of};
 ghost use Rattle.dy_book.specs.Limits.{AreLimits, IsQuorum};
 ghost use Rattle.dy_book.specs.Books.{with_session, world_of};
 ghost use Rattle.dy_book.specs.inside.Indexes.{IsPart};
@@ -110,6 +110,15 @@ impl<J: Naming> Book<J> {
         ensures legal { IsLegal (layout_of J.ring J.n) (steps_of self.old.log) }
     {
         self.ledger.agree(share);
+    }
+
+    /// The share lent is the session's part of the log. Takes no memory.
+    pub fn agree_session(&mut self, share: &mut SessionShare<J>)
+        ensures book { self.new ≡ self.old }
+        ensures share { share.new ≡ share.old }
+        ensures belongs { SessionBelongsTo self.old.log J.r share.old }
+    {
+        self.ledger.agree_session(share);
     }
 
     /// The receipt holds as the log stands now, whatever came between. Takes no memory.

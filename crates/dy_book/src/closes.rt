@@ -7,8 +7,8 @@ ghost use Rattle.std.specs.BTreeMap.{IsOrdered};
 ghost use Rattle.dy_core.specs.Orders.{key_cmp};
 ghost use Rattle.dy_core.specs.Listings.{ListsAcks, ListsCovers, ListsHoldings, ListsSettled};
 ghost use Rattle.dy_shares.specs.Shares.{IsMissing};
-ghost use Rattle.dy_book.specs.Audits.{AreTold, IsAuditOf, ListsCovered, TellsWith, count_acks};
-ghost use Rattle.dy_book.specs.Audits.{count_gets};
+ghost use Rattle.dy_book.specs.Audits.{AreTold, HasNoStep, IsAuditOf, ListsCovered, TellsNow};
+ghost use Rattle.dy_book.specs.Audits.{count_acks, count_gets};
 ghost use Rattle.dy_book.specs.Books.{world_of};
 
 use crate::audits::{AckedAt, Audit};
@@ -195,8 +195,8 @@ impl<J: Naming> Book<J> {
     /// What the book lists now, with these sessions: the audit of an open book, whose history is
     /// empty.
     pub fn audit(&self, sessions: &[SessionShare<J>]) -> Result<Audit, Fault>
-        ensures ok { IfOk result (λ audit. TellsWith self.now sessions.now audit) }
-        ensures none { IfOk result (λ audit. audit.history.trail.items ≡ []) }
+        ensures ok { IfOk result (TellsNow self.now sessions.now) }
+        ensures none { IfOk result (λ audit. HasNoStep audit.history) }
         ensures memory { IsOkUnless result Fault.OutOfMemory }
     {
         let held = self.held()?;
@@ -262,7 +262,7 @@ impl<J: Naming> Book<J> {
         nodes: Vec<NodeShare<J>>,
         sessions: Vec<SessionShare<J>>,
     ) -> Result<Audit, CloseRefused<J>>
-        requires tells { TellsWith self sessions.items audit }
+        requires tells { TellsNow self sessions.items audit }
         ensures exact { IfOk result
             (λ audit. IsAuditOf J.ring J.n J.r self nodes.items sessions.items audit) }
         ensures shares_missing { IfErr result (λ refused. (refused.fault ≡ Fault.SharesMissing)

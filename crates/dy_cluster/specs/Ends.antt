@@ -1,13 +1,13 @@
 -- What a cluster that has ended tells.
 use Rattle.std.specs.Prelude.{◌≡◌, ℕ, List, length, refl}
 use Rattle.std.specs.Coded.{Coded, coded×, coded_list, code_by}
-use Rattle.std.specs.List.{AllZip}
+use Rattle.std.specs.List.{All, AllZip}
 use Rattle.dy_ring.specs.Rings.{Tokens}
 use Rattle.dy_core.specs.Worlds.{layout_of}
 use Rattle.dy_core.specs.Logs.{IsLegal}
-use Rattle.dy_shares.specs.Shares.{NodePart, SessionPart, steps_of}
+use Rattle.dy_shares.specs.Shares.{NodePart, SessionBelongsTo, SessionPart, steps_of}
 use Rattle.dy_shares.specs.Codes.{node_part_code}
-use Rattle.dy_book.specs.Audits.{IsAuditOf, TellsWith}
+use Rattle.dy_book.specs.Audits.{IsAuditOf, TellsNow}
 use Rattle.dy_book.specs.declared.audits.Audit.{Audit}
 use Rattle.dy_book.specs.Books.{BookParts, book_code}
 use Rattle.dy_book.specs.contracts.options.Options as options
@@ -53,13 +53,14 @@ pub record IsEndOf (ring : Tokens) (n r : ℕ) (c : AtRest) (tellings : List Ses
   pub together : GoTogether ring n c.parts c.rests
   pub options_are : closed.options ≡ c.book.options
 
--- the audit is of a cluster that is open: at some moment the log was legal, and the audit told what
--- the book had then, with these sessions
-pub record IsOpenAudit (ring : Tokens) (n : ℕ) (tellings : List SessionPart) (a : Audit)
+-- the audit is of a cluster that is open: at some moment the log was legal, these sessions belonged
+-- to it, and the audit told what the book had then
+pub record IsOpenAudit (ring : Tokens) (n r : ℕ) (tellings : List SessionPart) (a : Audit)
     : Type 0 where
   pub book : BookParts
   pub legal : IsLegal (layout_of ring n) (steps_of book.log)
-  pub tells : TellsWith book tellings a
+  pub belong : All (SessionBelongsTo book.log r) tellings
+  pub tells : TellsNow book tellings a
 
 -- a cluster of this ring ended so
 abbrev pub IsClosed : Tokens → ℕ → ℕ → List SessionPart → Closed → Type 0

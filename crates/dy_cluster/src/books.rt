@@ -46,14 +46,19 @@ pub(crate) fn open_book<J: Naming>(alloc: Global, opened: Opened) -> Result<Open
     }
 }
 
-// What the book lists now, with these sessions.
+// What the book lists now, with these sessions, which belong to its log.
 pub(crate) fn audit_of<J: Naming>(
-    book: &Book<J>,
-    sessions: &[SessionShare<J>],
+    book: &mut Book<J>,
+    sessions: &mut [SessionShare<J>],
 ) -> Result<Audit, Fault>
-    ensures ok { IfOk result (IsOpenAudit J.ring J.n sessions.now) }
+    ensures ok { IfOk result (IsOpenAudit J.ring J.n J.r sessions.old) }
+    ensures book { book.new ≡ book.old }
+    ensures sessions { sessions.new ≡ sessions.old }
     ensures memory { IsOkUnless result Fault.OutOfMemory }
 {
+    for session in sessions.iter_mut() {
+        book.agree_session(session);
+    }
     // Brings the clause that the log is legal.
     book.log_is_legal();
     book.audit(sessions)

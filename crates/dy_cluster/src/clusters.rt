@@ -99,12 +99,13 @@ impl<J: Naming> Cluster<J> {
 
     /// What the book lists now, with these sessions, in an audit without a history. The cluster
     /// stays open. May wait for a lock.
-    pub fn audit(&self, rt: &impl Wait, sessions: &[SessionShare<J>]) -> Result<Audit, Fault>
-        ensures ok { IfOk result (IsOpenAudit J.ring J.n sessions.now) }
+    pub fn audit(&self, rt: &impl Wait, sessions: &mut [SessionShare<J>]) -> Result<Audit, Fault>
+        ensures ok { IfOk result (IsOpenAudit J.ring J.n J.r sessions.old) }
+        ensures sessions { sessions.new ≡ sessions.old }
         ensures memory { IsOkUnless result Fault.OutOfMemory }
     {
-        let open = self.book.lock(rt);
-        audit_of(&open, sessions)
+        let mut open = self.book.lock(rt);
+        audit_of(&mut open, sessions)
     }
 
     /// Opens a session, adds it to the end of the list, and gives its index there. May wait for a

@@ -13,14 +13,15 @@ ghost use Rattle.dy_core.specs.Logs.{Answer, AnswerAgain, rows_of, world_after};
 ghost use Rattle.dy_core.specs.Worlds.{IsSettled};
 ghost use Rattle.dy_core.specs.declared.acks.Acked.{Acked};
 ghost use Rattle.dy_shares.specs.Shares.{GetTold, IsAckSpent, IsOfHomes, SessionPart, steps_of};
-ghost use Rattle.dy_book.specs.Audits.{IsTold, TellsHeld};
+ghost use Rattle.dy_book.specs.Audits.{IsTold, ListsAck, TellsHeld};
+ghost use Rattle.dy_book.specs.declared.audits.Audit.{Audit};
 ghost use Rattle.dy_transport.specs.Told.{Told};
 ghost use Rattle.dy_coord.specs.Gets.{IsGot};
 ghost use Rattle.dy_coord.specs.Sure.{IsSureOf, ack_of, get_of};
 ghost use Rattle.dy_coord.specs.declared.get_done.GetDone.{GetDone};
 ghost use Rattle.dy_coord.specs.declared.put_results.PutDone.{PutDone};
 ghost use Rattle.dy_cluster.specs.Carrying.{IsAmong};
-ghost use Rattle.dy_cluster.specs.Ends.{AtRest, IsClosed, IsEndOf};
+ghost use Rattle.dy_cluster.specs.Ends.{AtRest, IsClosed, IsEndOf, IsOpenAudit};
 ghost use Rattle.dy_cluster.specs.Guarantees.{GivesNothingDeleted, IsRead, NeverGoesBack};
 ghost use Rattle.dy_cluster.specs.Guarantees.{ReadsOwnWrites, ReadsWritesOf};
 ghost use Rattle.dy_cluster.specs.Lists.{list_of};
@@ -30,6 +31,7 @@ ghost use Rattle.dy_cluster.specs.declared.resting.Closed.{Closed};
 ghost use Rattle.dy_cluster.specs.declared.values.PresentValue.{PresentValue as PresentParts};
 
 use dy_shares::Naming;
+use dy_shares::laws::told_acks_are_logged;
 
 /// Of a closed cluster. Its audit lists exactly the versions in the nodes' stores. For each put in
 /// a session's list the stores cover w distinct homes, on as many distinct nodes. They do so by its
@@ -50,6 +52,14 @@ pub fn audit_lists_what_was_told()
     ensures { (ring : Tokens) (n r : ℕ) (tellings : List SessionPart) (closed : Closed) →
         IsClosed ring n r tellings closed → TellsAcks tellings closed }
 {}
+
+/// Of an open cluster. Its audit lists as acknowledged each put that the lent sessions were told.
+pub fn open_audit_lists_what_was_told()
+    ensures { (ring : Tokens) (n r : ℕ) (tellings : List SessionPart) (audit : Audit) →
+        IsOpenAudit ring n r tellings audit → (x : Acked) → IsTold tellings x → ListsAck audit x }
+{
+    told_acks_are_logged();
+}
 
 /// Of a closed cluster. Its audit lists as held exactly the versions in the nodes' stores, as their
 /// own or as hints. Versions of a key with one dot are one version.

@@ -191,6 +191,13 @@ module _ (nodes sessions : ℕ) where
           Contains (world_after_step w e.step).acks x → Contains w.acks x ⊎ ToldOne at (e ∷ es) x
       now s own i = by_step e.step refl own i
 
+-- what a session was told, whose share belongs to the log, is acknowledged in it
+pub told_logged : (log : List Entry) (r : ℕ) (s : SessionPart) → SessionBelongsTo log r s →
+    (t : AckTold) → Contains s.acks t → (x : Acked) → IsAckOf t x →
+    Contains (world_after (steps_of log)).acks x
+told_logged log r s b t told x is =
+    told_is empty_world 1 s.session log x t (subst (λ ts. Contains ts t) b.acks_are told) is
+
 module _ (nodes r : ℕ) (a : Account) (parts : List NodePart) (tellings : List SessionPart)
     (all : AreAll nodes r a parts tellings) where
   pub held_from : (holder home : ℕ) (key : List ℕ) (d : Dot) →
@@ -247,5 +254,4 @@ module _ (nodes r : ℕ) (a : Account) (parts : List NodePart) (tellings : List 
       Contains (world_after (steps_of a.log)).acks x
   acked_in x f =
       let b = All-contains (λ q. SessionBelongsTo a.log r q) tellings f.0 all.sessions_belong f.1 in
-      told_is empty_world 1 f.0.session a.log x f.2.0
-      (subst (λ ts. Contains ts f.2.0) b.acks_are f.2.1) f.2.2
+      told_logged a.log r f.0 b f.2.0 f.2.1 x f.2.2

@@ -34,6 +34,13 @@ pub fn shares_say_all()
         ((t : AckTold) × Contains s.acks t × IsAckOf t x)) }
 {}
 
+/// What a session was told as acknowledged is acknowledged in the log that its share belongs to.
+pub fn told_acks_are_logged()
+    ensures { (log : List Entry) (r : ℕ) (s : SessionPart) → SessionBelongsTo log r s →
+        (t : AckTold) → Contains s.acks t → (x : Acked) → IsAckOf t x →
+        Contains (world_after (steps_of log)).acks x }
+{}
+
 /// A session reads its own writes: of a put that was acknowledged to it, each get that it was told
 /// later, of r homes themselves, answers the version or one that follows it, where r and the homes
 /// that took the put themselves are more than n; and so does a get of another session whose since

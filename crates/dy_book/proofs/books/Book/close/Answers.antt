@@ -2,7 +2,7 @@
 use Rattle.std.proofs.Common.{◌≡◌, refl, sym, ap, ◌∙◌, subst}
 use Rattle.dy_dots.specs.declared.faults.Fault.TheVariants.{OutOfMemory, SharesMissing}
 use Rattle.dy_shares.specs.Shares.{HasAll, IsMissing}
-use Rattle.dy_book.specs.Audits.{Tells}
+use Rattle.dy_book.specs.Audits.{TellsNow}
 use Rattle.dy_book.proofs.Ending.{not_both, faults_apart, if_first, if_refused}
 use Rattle.dy_book.proofs.books.Book.close.Goals as goal
 
@@ -61,7 +61,7 @@ returns-in-Ok-clause-missing g c =
 -- the audit tells of the sessions that were handed in
 pub end_with-requires : goal.end_with-requires
 end_with-requires g c = record {
-  tells = λ h is.
-      subst (λ ss. Tells c.args.self ss (record c.in-Ok.audit { history = h }))
-      c.as_slice-3.ensures.value (c.in-Ok.ensures.ok h is);
+  tells =
+      subst (λ ss. TellsNow c.args.self ss c.in-Ok.audit) c.as_slice-3.ensures.value
+      c.in-Ok.ensures.ok;
 }

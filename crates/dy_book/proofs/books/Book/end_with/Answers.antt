@@ -32,18 +32,27 @@ returns-in-Ok-clause-exact g c =
       index = subst (λ b. IsIndex (world_after (steps_of b.log)) c.self.inside.keys.entries)
           c.self.view_is c.self.invariant.index;
     } in
-    let tells = c.requires.tells history is in
+    let now = c.requires.tells in
     record {
       all = all;
-      tells = tells;
+      tells = record {
+        held = now.held;
+        acked = now.acked;
+        acks = now.acks;
+        gets = now.gets;
+        steps = now.steps;
+        settled = now.settled;
+        history = is;
+        told = now.told;
+      };
       held_shown = λ holder home key d.
           let told = told_as_held layout (steps_of c.args.self.log) legal c.args.audit.held.items
-          tells.held holder home key d in
+          now.held holder home key d in
           let shown = c.shares_say_all.ensures.held nodes r
           (account_of c.args.self) parts tellings all holder home key d in
           ((λ t. shown.0 (told.0 t)), (λ s. told.1 (shown.1 s)));
       acked_told = λ x.
-          let listed = tells.acked.acks.same x in
+          let listed = now.acked.acks.same x in
           let told = c.shares_say_all.ensures.acked nodes r
           (account_of c.args.self) parts tellings all x in
           ((λ t. told.0 (listed.0 t)), (λ s. listed.1 (told.1 s)));
