@@ -8,7 +8,7 @@ here=$(cd "$(dirname "$0")" && pwd)
 top=$(cd "$here/../.." && pwd)
 folder=${1:-$(mktemp -d)}
 mkdir -p "$folder/crates"
-needed="dy_dots dy_siblings dy_ring dy_preference dy_core dy_shares dy_book"
+needed="dy_dots dy_siblings dy_ring dy_preference dy_core dy_index dy_shares dy_book"
 rm -f "$folder/crates.txt"
 for crate in $needed; do
     rm -rf "$folder/crates/$crate"

@@ -20,7 +20,7 @@ mkdir "$folder/src"
 words=(check --crate-name refused src/lib.rt --jobs 1 --links refused=)
 words+=(--antt-project "$kit/rattle/logic/antt-project.json" --logic-built "$kit/logic_built")
 words+=(--extern "std=$kit/rlibs/std.rlib" -L "dependency=$kit/rlibs")
-for crate in dy_dots dy_siblings dy_ring dy_preference dy_core dy_shares dy_book; do
+for crate in dy_dots dy_siblings dy_ring dy_preference dy_core dy_index dy_shares dy_book; do
     library=$top/crates/$crate/out/rlib/$crate.rlib
     # (What stood here before that rt ci began is taken away by it, and what it makes is whole a moment later.)
     while [ -n "$behind" ] && kill -0 "$behind" 2>/dev/null; do

@@ -1,7 +1,7 @@
 -- What is so of a book by its type, after its log and its index have changed.
 use Rattle.std.proofs.Common.{◌≡◌, ℕ, suc, nat_eq, ◌+◌, ◌<◌, ◌≤◌, List, [], ◌∷◌, ◌++◌, map, cond}
-use Rattle.std.proofs.Common.{length, length-append, get_or, slice_get, take, ⊎_elim, true, false}
-use Rattle.std.proofs.Common.{Option, None, Some, IsTrue, refl, sym, ap, ◌∙◌, subst, arith}
+use Rattle.std.proofs.Common.{length, length-append, get_or, slice_get, take, ⊎_elim, true}
+use Rattle.std.proofs.Common.{Some, IsTrue, refl, sym, ap, ◌∙◌, subst, arith}
 use Rattle.std.specs.List.{All, Contains, IsDistinct}
 use Rattle.std.proofs.lemmas.List.Elements.{All-contains, Contains-append_cases}
 use Rattle.std.proofs.lemmas.List.{take_more}
@@ -16,7 +16,6 @@ use Rattle.dy_preference.specs.Preferences.{may_hold, homes_of}
 use Rattle.dy_core.specs.declared.steps.Step.{Step}
 use Rattle.dy_core.specs.declared.steps.Step.TheVariants.{Hold, Fetch, Ack}
 use Rattle.dy_core.proofs.Keeping.{all_from}
-use Rattle.std.specs.Option.{is_some}
 use Rattle.dy_ring.specs.Rings.{Tokens}
 use Rattle.dy_core.specs.Worlds.{Layout, World, AreMadeOf, empty_world, layout_of}
 use Rattle.dy_core.specs.Logs.{world_after, IsLegal}
@@ -31,17 +30,14 @@ use Rattle.dy_siblings.proofs.Members.{Mapped, map_from, not_in_nil, in_cases}
 use Rattle.dy_core.proofs.Receipts.{cover_from_receipts}
 use Rattle.dy_core.proofs.OverLogs.{legal_join, world_from-append, log_sound}
 use Rattle.dy_book.specs.declared.options.Options.{Options}
-use Rattle.dy_book.specs.declared.parts.KeyPart.{KeyPart}
+use Rattle.dy_index.specs.declared.parts.KeyPart.{KeyPart}
 use Rattle.dy_book.specs.Books.{AreOf, IsNext, issue_steps}
 use Rattle.dy_book.specs.inside.Kept.{IsBook}
-use Rattle.dy_book.specs.inside.Indexes.{IsIndex, IsPart, part_at}
-use Rattle.dy_book.proofs.Holding.{index_written, legal_grown, world_grown, issue_legal}
+use Rattle.dy_index.specs.Indexes.{IsIndex, IsPart, part_at}
+use Rattle.dy_index.proofs.Indexing.{index_written}
+use Rattle.dy_book.proofs.Holding.{legal_grown, world_grown, issue_legal}
 use Rattle.dy_book.proofs.Holding.{issue_index, issue_versions, issue_covers, hold_legal}
 use Rattle.dy_book.proofs.Holding.{hold_index, hold_versions, hold_covers}
-
-pub none_is : {X : Type 0} (o : Option X) → is_some o ≡ false → o ≡ None
-none_is None e = refl
-none_is (Some x) e = cc
 
 -- the receipts of a hold
 pub hold_receipts : (layout : Layout) (log : List Entry) → IsLegal layout (steps_of log) →

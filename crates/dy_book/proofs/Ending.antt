@@ -1,40 +1,28 @@
 -- What an audit's lists say of the world.
-use Rattle.std.proofs.Common.{◌≡◌, ℕ, ◌↔◌, List, [], ◌∷◌, ◌++◌, map, Option, refl, sym, ap}
-use Rattle.std.proofs.Common.{◌∙◌, subst, ◌⊎◌, inl, inr, ⊎_elim}
+use Rattle.std.proofs.Common.{◌≡◌, ℕ, ◌↔◌, List, [], ◌∷◌, ◌++◌, map, refl, sym, ap}
+use Rattle.std.proofs.Common.{◌∙◌, subst, ◌⊎◌, inl, inr, ⊎_elim, ◌+◌, ◌<◌, length, take, get_or, arith}
+use Rattle.std.proofs.lemmas.List.{take_more}
+use Rattle.std.proofs.lemmas.List.Sums.{sum_by-append}
 use Rattle.std.specs.Prelude.{Result, Ok, Err, IfErr}
-use Rattle.std.specs.List.{All, Contains}
-use Rattle.std.proofs.lemmas.Bool.{and_parts, and_from}
-use Rattle.dy_siblings.specs.Versions.{in_history}
-use Rattle.dy_siblings.specs.Siblings.{same_key, covers}
-use Rattle.dy_core.specs.Worlds.{World, empty_world, row_at}
-use Rattle.dy_core.specs.Covers.{covers_at}
+use Rattle.std.specs.List.{All, Contains, sum_by}
+use Rattle.dy_core.specs.Worlds.{World, empty_world}
 use Rattle.dy_core.specs.Steps.{world_after_step}
 use Rattle.dy_core.specs.Logs.{world_from, world_after}
-use Rattle.dy_core.specs.Listings.{ListsAcks, ListsCovers, is_covering, place_of}
-use Rattle.dy_core.specs.inside.Meanings.{row_in}
-use Rattle.dy_core.specs.Orders.{ack_cmp, place_cmp, gathered}
-use Rattle.dy_dots.specs.declared.dots.Dot.{Dot}
+use Rattle.dy_core.specs.Listings.{ListsAcks}
+use Rattle.dy_core.specs.Orders.{ack_cmp}
 use Rattle.dy_core.specs.declared.acks.Acked.{Acked}
-use Rattle.dy_core.specs.declared.places.Place.{Place}
-use Rattle.dy_core.specs.declared.holdings.Holding.{Holding}
 use Rattle.dy_core.specs.declared.steps.Step.{Step}
 use Rattle.dy_core.specs.declared.steps.Step.TheVariants.{Issue, Hold, Release, Fetch, Ack}
-use Rattle.dy_siblings.proofs.Members.{not_in_nil, in_head, in_tail, in_cases, any_gives}
-use Rattle.dy_siblings.proofs.SameKeys.{same_key_is, same_key_self}
-use Rattle.dy_core.proofs.Gathering.{gathered_from, gathered_has, gathered_sorted}
-use Rattle.dy_core.proofs.Held.{Spot, at_from, place_cmp_total, places_tie, row_in-of, row_in-from}
+use Rattle.dy_siblings.proofs.Members.{not_in_nil, in_head, in_tail, in_cases}
 use Rattle.dy_core.proofs.Held.{acks_tie}
-use Rattle.dy_core.proofs.Listed.{covers_same}
 use Rattle.dy_core.proofs.Keeping.{all_from}
 use Rattle.std.proofs.lemmas.List.Elements.{All-contains, Contains-append_cases}
-use Rattle.dy_book.specs.inside.Lists.{IsInOrder}
+use Rattle.dy_index.specs.Lists.{IsInOrder}
 use Rattle.dy_shares.specs.Shares.{acks_of, HasAll, IsMissing, NodePart, SessionPart}
 use Rattle.dy_shares.specs.Numbers.{AreNumbersOf}
 use Rattle.dy_shares.specs.declared.step_numbers.StepNumbers.{StepNumbers}
 use Rattle.dy_book.specs.Audits.{AreTold}
 use Rattle.dy_dots.specs.declared.faults.Fault.{Fault}
-use Rattle.dy_book.specs.inside.Indexes.{IsPart, places_in}
-use Rattle.dy_book.specs.declared.parts.KeyPart.{KeyPart}
 use Rattle.dy_book.specs.declared.audits.AckedAt.{AckedAt}
 
 -- the acks after some steps are those among them, and those before
@@ -80,53 +68,6 @@ acks_listed ss acks order =
           (λ h. listed.0 (inl h)),
           (λ h. ⊎_elim (λ some. some) (λ none. absurd (not_in_nil a none)) (listed.1 h)),
         )
-
--- what covers a dot of a key is among what is held of the key
-pub covers_listed : (w : World) (key : List ℕ) (o : Option KeyPart) → IsPart w key o → (d : Dot) →
-    ListsCovers w key d (gathered place_cmp (is_covering key d) place_of (places_in o))
-covers_listed w key o part d =
-    record {
-      same = λ p. (
-        (λ inside.
-            let s = gathered_from place_cmp (is_covering key d) place_of held p inside in
-            let h = s.item in
-            let parts = and_parts (same_key h.row.key key) (covers h.row.versions d) s.passes in
-            let key_is = same_key_is h.row.key key parts.0 in
-            let row_is = row_in-of h.holder h.home key held part.in_order h s.in_list
-            (at_from h.holder h.home key h
-            (record { holder_is = refl; home_is = refl; key_is = key_is })) in
-            ap (λ q. covers_at w key d q.holder q.home) (sym s.gives)
-            ∙ sym (covers_is h.holder h.home)
-            ∙ ap (λ vs. covers vs d) row_is
-            ∙ parts.1),
-        (λ covered.
-            let found = any_gives (λ v. in_history v d) (row_in held p.holder p.home key)
-            (covers_is p.holder p.home ∙ covered) in
-            let f = row_in-from p.holder p.home key held found.item found.in_list in
-            let h = f.0 in
-            let row_is = row_in-of p.holder p.home key held part.in_order h f.1
-            (at_from p.holder p.home key h f.2) in
-            subst (Contains (gathered place_cmp (is_covering key d) place_of held))
-            (place_at h f.2)
-            (gathered_has place_cmp (is_covering key d) place_of places_tie held h f.1
-            (and_from (same_key h.row.key key) (covers h.row.versions d)
-            (ap (λ k. same_key k key) f.2.key_is ∙ same_key_self key)
-            (ap (λ vs. covers vs d) (sym row_is) ∙ covers_is p.holder p.home ∙ covered)))),
-      );
-      in_order = gathered_sorted place_cmp (is_covering key d) place_of place_cmp_total held;
-    }
-  where
-    held : List Holding
-    held = places_in o
-
-    covers_is : (holder home : ℕ) →
-        covers (row_in held holder home key) d ≡ covers_at w key d holder home
-    covers_is holder home =
-        covers_same (row_in held holder home key) (row_at w holder home key)
-        (part.rows_are holder home) d
-
-    place_at : {p : Place} (h : Holding) → Spot p.holder p.home key h → place_of h ≡ p
-    place_at h spot = λ i. record { home = spot.home_is i; holder = spot.holder_is i }
 
 pub all_end : {X : Type 0} (P : X → Type 0) (xs : List X) (x : X) → All P xs → P x →
     All P (xs ++ x ∷ [])
@@ -174,3 +115,13 @@ told_more [] [] n s told one = (one, tt)
 told_more [] (t ∷ ss) n s told one = absurd told
 told_more (m ∷ ns) [] n s told one = absurd told
 told_more (m ∷ ns) (t ∷ ss) n s told one = (told.0, told_more ns ss n s told.1 one)
+
+-- one session more
+pub count_more : (count : SessionPart → ℕ) (ss : List SessionPart) (i : ℕ) (s : SessionPart) →
+    i < length ss → s ≡ get_or ss i s →
+    sum_by count (take i ss) + count s ≡ sum_by count (take (i + 1) ss)
+count_more count ss i s lt is =
+    let more = sym (sum_by-append count (take i ss) (s ∷ []))
+    ∙ ap (λ y. sum_by count (take i ss ++ y ∷ [])) is
+    ∙ sym (ap (sum_by count) (take_more ss i s lt)) in
+    omega (arith, more)

@@ -11,6 +11,7 @@ use Rattle.dy_core.specs.declared.acks.Acked.{Acked}
 use Rattle.dy_core.specs.declared.holdings.Holding.{Holding}
 use Rattle.dy_core.specs.declared.steps.Step.{Step}
 use Rattle.dy_core.specs.Logs.{IsLegal, world_after}
+use Rattle.dy_index.specs.Indexes.{IsIndex}
 use Rattle.dy_shares.specs.Shares.{Account, AckTold, AreAll, IsAckOf, NodePart, SessionPart}
 use Rattle.dy_shares.specs.Shares.{shows_held, steps_of}
 use Rattle.dy_shares.specs.Numbers.{AreNumbersOf}
@@ -20,7 +21,6 @@ use Rattle.dy_book.specs.Books.{BookParts, world_of}
 use Rattle.dy_book.specs.declared.audits.AckedAt.{AckedAt}
 use Rattle.dy_book.specs.declared.audits.Audit.{Audit}
 use Rattle.dy_book.specs.declared.histories.History.{History}
-use Rattle.dy_book.specs.inside.Indexes.{IsIndex}
 
 -- how many acks the sessions were told
 abbrev pub count_acks : List SessionPart → ℕ

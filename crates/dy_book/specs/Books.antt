@@ -1,9 +1,9 @@
 -- Books: what a book is seen as, and what its calls need and give.
 use Rattle.std.specs.Prelude.{◌≡◌, ◌≢◌, ℕ, ◌+◌, ◌<◌, ◌≤◌, IsTrue, List, []}
 use Rattle.std.specs.Prelude.{◌∷◌, ◌++◌, length, map, refl}
-use Rattle.std.specs.List.{All, Contains}
+use Rattle.std.specs.List.{All}
 use Rattle.std.specs.Coded.{Coded, coded×, coded_ℕ, code_by}
-use Rattle.dy_dots.specs.Dots.{DotSet, IsDotBefore}
+use Rattle.dy_dots.specs.Dots.{DotSet}
 use Rattle.dy_dots.specs.declared.dots.Dot.{Dot}
 use Rattle.dy_siblings.specs.Siblings.{Siblings}
 use Rattle.dy_siblings.specs.declared.versions.Version.{Version}
@@ -85,30 +85,6 @@ issue_steps node home v =
 -- the receipts of the versions of a row, in their order
 abbrev pub receipts_of : List Version → ℕ → ℕ → List ReceiptParts
 receipts_of vs holder home = map (λ v. receipt_parts v.key v.dot holder home) vs
-
--- the dot is the least of the row's versions that are not issued as they are
-pub record IsLeastNotIssued (issued row : List Version) (d : Dot) : Type 0 where
-  pub version : Version
-  pub in_row : Contains row version
-  pub dot_is : version.dot ≡ d
-  pub not_issued : Contains issued version → ⊥
-  pub least : (v : Version) → Contains row v → IsDotBefore v.dot d → Contains issued v
-
--- from this dot on, the dots rise
-abbrev pub DotsRiseAfter : Dot → List Dot → Type 0
-DotsRiseAfter d [] = Unit {0}
-DotsRiseAfter d (e ∷ es) = IsDotBefore d e × DotsRiseAfter e es
-
--- the dots rise
-abbrev pub DotsRise : List Dot → Type 0
-DotsRise [] = Unit {0}
-DotsRise (d ∷ ds) = DotsRiseAfter d ds
-
--- the dots of what is held at a place, rising
-pub record ListsDots (w : World) (holder home : ℕ) (key : List ℕ) (dots : List Dot) : Type 0 where
-  pub same : (d : Dot) → Contains dots d → IsTrue (w.holdings holder home key d)
-  pub every : (d : Dot) → IsTrue (w.holdings holder home key d) → Contains dots d
-  pub rise : DotsRise dots
 
 -- a receipt of a dot that stands in a hint of the node, and that its home gave itself
 pub record MayRelease (w : World) (node : ℕ) (r : ReceiptParts) : Type 0 where

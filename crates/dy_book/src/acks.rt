@@ -1,12 +1,11 @@
 // How puts are acknowledged.
 ghost use Rattle.std.specs.Prelude.{◌≡◌, ◌≢◌, ◌+◌, ◌<◌, ◌≤◌, ◌↔◌, ◌⊎◌, ◌∷◌, ℕ, List, [], map};
-ghost use Rattle.std.specs.Prelude.{length, nat_eq, take, IfOk, IfErr, OnOk, OnErr, IsErrOf};
-ghost use Rattle.std.specs.Prelude.{IsOkUnless};
-ghost use Rattle.std.specs.List.{All, IsDistinct};
+ghost use Rattle.std.specs.Prelude.{length, nat_eq, IfErr, OnOk, OnErr, IsErrOf};
+ghost use Rattle.std.specs.List.{IsDistinct};
 ghost use Rattle.dy_dots.specs.declared.dots.Dot.{Dot as DotParts};
 ghost use Rattle.dy_core.specs.declared.steps.Step.TheVariants.{Ack};
-ghost use Rattle.dy_shares.specs.Shares.{IsReceipt, NodeStays, SessionBelongsTo, SessionStays};
-ghost use Rattle.dy_shares.specs.Shares.{since_of, steps_of, told_to, with_ack};
+ghost use Rattle.dy_shares.specs.Shares.{NodeStays, SessionBelongsTo, SessionStays};
+ghost use Rattle.dy_shares.specs.Shares.{since_of, told_to, with_ack};
 ghost use Rattle.dy_book.specs.Books.{AreOf, LacksRoom, with_entries};
 
 use crate::books::Book;

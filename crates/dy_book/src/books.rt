@@ -1,4 +1,4 @@
-ghost use Rattle.std.specs.Prelude.{◌≡◌, ◌≢◌, ◌↔◌, ◌+◌, ◌<◌, ◌≤◌, ℕ, List, [], length, IfOk, OnOk};
+ghost use Rattle.std.specs.Prelude.{◌≡◌, ◌↔◌, ◌+◌, ◌<◌, ◌≤◌, [], length, IfOk, OnOk};
 ghost use Rattle.std.specs.Prelude.{OnErr, IsErrOf, IsOkUnless, MatchBool, MatchOption, false};
 ghost use Rattle.std.specs.Option.{option_copied};
 ghost use Rattle.std.specs.List.{Contains};
@@ -6,16 +6,16 @@ ghost use Rattle.dy_dots.specs.declared.dots.TheConstants.{MAX_COUNTER};
 ghost use Rattle.dy_core.specs.Worlds.{is_issued, layout_of};
 ghost use Rattle.dy_core.specs.Logs.{IsAnswer, IsLegal};
 ghost use Rattle.dy_core.specs.Covers.{AcksAreCovered};
+ghost use Rattle.dy_index.specs.Indexes.{IsPartAfter};
 ghost use Rattle.dy_shares.specs.declared.ledgers.TheConstants.{MAX_SESSIONS};
 ghost use Rattle.dy_shares.specs.Shares.{BelongsTo, HasAll, IsMissing, IsReceipt};
 ghost use Rattle.dy_shares.specs.Shares.{SessionBelongsTo, first_parts, first_session, steps_of};
 ghost use Rattle.dy_book.specs.Limits.{AreLimits, IsQuorum};
 ghost use Rattle.dy_book.specs.Books.{with_session, world_of};
-ghost use Rattle.dy_book.specs.inside.Indexes.{IsPart};
 
 use crate::options::Options;
-use crate::parts::KeyPart;
 use dy_dots::{Dot, Fault, NodeId};
+use dy_index::KeyPart;
 use dy_ring::Ring;
 use dy_shares::{Blank, Ledger, Naming, NodeShare, Receipt, Seen, SessionShare, Since};
 use dy_siblings::{Key, Version};
@@ -191,8 +191,9 @@ impl<J: Naming> Book<J> {
 
     // The key's part, if the book knows the key.
     pub(crate) fn part(&self, key: &Key) -> Option<&KeyPart>
-        ensures { IsPart (world_of self.now) key.now (option_copied result) }
+        ensures { IsPartAfter (steps_of self.now.log) key.now (option_copied result) }
     {
+        self.log_is_legal();
         self.keys.get(key)
     }
 
@@ -200,19 +201,7 @@ impl<J: Naming> Book<J> {
     pub fn last(&self, node: NodeId, key: &Key) -> usize
         ensures { result ≡ (world_of self.now).counters node key.now }
     {
-        self.last_in(self.part(key), node)
-    }
-
-    // The same, by the key's part.
-    pub(crate) fn last_in(&self, part: Option<&KeyPart>, node: NodeId) -> usize
-        ensures { (key : List ℕ) → IsPart (world_of self.now) key (option_copied part.entry) →
-            result ≡ (world_of self.now).counters node key }
-    {
-        self.log_is_legal();
-        match part {
-            Some(part) => part.count(node),
-            None => 0,
-        }
+        dy_index::last(self.part(key), node)
     }
 
     /// The version of this key and dot, where one was issued. Takes no memory.
@@ -221,26 +210,7 @@ impl<J: Naming> Book<J> {
             (λ v. Contains (world_of self.now).versions v.now
             × (v.now.key ≡ key.now) × (v.now.dot ≡ dot)) }
     {
-        self.version_in(self.part(key), dot)
-    }
-
-    // The same, by the key's part.
-    pub(crate) fn version_in<'a>(
-        &'a self,
-        part: Option<&'a KeyPart>,
-        dot: Dot,
-    ) -> Option<&'a Version>
-        ensures { (key : List ℕ) → IsPart (world_of self.now) key (option_copied part.entry) →
-            MatchOption result (is_issued (world_of self.now).versions key dot ≡ false)
-            (λ v. Contains (world_of self.now).versions v.now
-            × (v.now.key ≡ key) × (v.now.dot ≡ dot)) }
-    {
-        self.log_is_legal();
-        let _counter = dot.counter();
-        match part {
-            Some(part) => part.version(dot),
-            None => None,
-        }
+        dy_index::version(self.part(key), dot)
     }
 
     // How many more steps the limit leaves.

@@ -1,11 +1,8 @@
 // How a book ends.
-ghost use Rattle.std.specs.Prelude.{◌≡◌, ◌↔◌, ◌⊎◌, ◌∷◌, [], ℕ, length, map, fold, Some, IfOk};
-ghost use Rattle.std.specs.Prelude.{IfErr, IsErr, OnOk, IsOkUnless};
+ghost use Rattle.std.specs.Prelude.{◌≡◌, ◌↔◌, ◌⊎◌, [], map, IfOk};
+ghost use Rattle.std.specs.Prelude.{IfErr, IsErr, IsOkUnless};
 ghost use Rattle.std.specs.List.{All};
-ghost use Rattle.dy_book.specs.inside.Indexes.{held_in_all, part_at, settled_keys};
-ghost use Rattle.std.specs.BTreeMap.{IsOrdered};
-ghost use Rattle.dy_core.specs.Orders.{key_cmp};
-ghost use Rattle.dy_core.specs.Listings.{ListsAcks, ListsCovers, ListsHoldings, ListsSettled};
+ghost use Rattle.dy_core.specs.Listings.{ListsCovers, ListsHoldings, ListsSettled};
 ghost use Rattle.dy_shares.specs.Shares.{IsMissing};
 ghost use Rattle.dy_book.specs.Audits.{AreTold, HasNoStep, IsAuditOf, ListsCovered, TellsNow};
 ghost use Rattle.dy_book.specs.Audits.{count_acks, count_gets};
@@ -14,15 +11,12 @@ ghost use Rattle.dy_book.specs.Books.{world_of};
 use crate::audits::{AckedAt, Audit};
 use crate::books::Book;
 use crate::histories::History;
-use crate::parts::KeyPart;
-use crate::{custodies, lists};
 use dy_core::{Acked, Holding, Place};
 use dy_dots::{Dot, Fault};
 use dy_shares::laws::shares_say_all;
 use dy_shares::{EndRefused, Naming, NodeShare, SessionShare, StepNumbers};
 use dy_siblings::Key;
 use std::alloc::Global;
-use std::collections::BTreeMap;
 
 /// Why a book was not closed: a share is missing, or memory is. The book and all shares come back,
 /// each list in its order.
@@ -60,37 +54,6 @@ fn copied(alloc: Global, acks: &[Acked]) -> Result<Vec<Acked>, Fault>
         })?;
     }
     Ok(copies)
-}
-
-// What the index has, key by key.
-fn held_of(alloc: Global, keys: &BTreeMap<Key, KeyPart>) -> Result<Vec<Holding>, Fault>
-    ensures ok { IfOk result (λ held. held.items ≡ held_in_all [] keys.now.entries) }
-    ensures found { All (λ e. part_at keys.now.entries e.0 ≡ Some e.1) keys.now.entries }
-    ensures ordered { IsOrdered key_cmp keys.now }
-    ensures memory { IsOkUnless result Fault.OutOfMemory }
-{
-    let mut held = Vec::new(alloc);
-    for (_key, part) in keys.iter() {
-        custodies::list_held(alloc, &mut held, part.places.as_slice())?;
-    }
-    Ok(held)
-}
-
-// The keys of the index that are settled, by their bytes.
-fn settled_of(alloc: Global, keys: &BTreeMap<Key, KeyPart>) -> Result<Vec<Key>, Fault>
-    ensures ok { IfOk result (λ settled. settled.items ≡ settled_keys keys.now.entries) }
-    ensures found { All (λ e. part_at keys.now.entries e.0 ≡ Some e.1) keys.now.entries }
-    ensures ordered { IsOrdered key_cmp keys.now }
-    ensures memory { IsOkUnless result Fault.OutOfMemory }
-{
-    let mut settled = Vec::new(alloc);
-    for (key, part) in keys.iter() {
-        if part.is_settled() {
-            let key = key.try_clone(alloc)?;
-            settled.push(key)?;
-        }
-    }
-    Ok(settled)
 }
 
 // How many acks the sessions have.
@@ -138,13 +101,8 @@ impl<J: Naming> Book<J> {
             (λ places. ListsCovers (world_of self.now) key.now dot places.items) }
         ensures memory { IsOkUnless result Fault.OutOfMemory }
     {
-        match self.part(key) {
-            Some(part) => {
-                let places = dy_core::covering(self.alloc, part.places.as_slice(), key, dot)?;
-                Ok(places)
-            }
-            None => Ok(Vec::new(self.alloc)),
-        }
+        let places = dy_index::covering(self.alloc, self.part(key), key, dot)?;
+        Ok(places)
     }
 
     // What is held, by holder, home and the bytes of the key.
@@ -152,8 +110,7 @@ impl<J: Naming> Book<J> {
         ensures ok { IfOk result (λ held. ListsHoldings (world_of self.now) held.items) }
         ensures memory { IsOkUnless result Fault.OutOfMemory }
     {
-        let listed = held_of(self.alloc, &self.keys)?;
-        let held = lists::ordered(listed)?;
+        let held = dy_index::held(self.alloc, &self.keys)?;
         Ok(held)
     }
 
@@ -178,7 +135,7 @@ impl<J: Naming> Book<J> {
         ensures memory { IsOkUnless result Fault.OutOfMemory }
     {
         let told = copied(self.alloc, self.ledger.acked())?;
-        let acks = lists::ordered(told)?;
+        let acks = dy_index::ordered(told)?;
         let acked = self.with_places(acks)?;
         Ok(acked)
     }
@@ -188,7 +145,7 @@ impl<J: Naming> Book<J> {
         ensures ok { IfOk result (λ keys. ListsSettled (world_of self.now) keys.items) }
         ensures memory { IsOkUnless result Fault.OutOfMemory }
     {
-        let settled = settled_of(self.alloc, &self.keys)?;
+        let settled = dy_index::settled(self.alloc, &self.keys)?;
         Ok(settled)
     }
 

@@ -1,15 +1,15 @@
 // What the book says is held.
-ghost use Rattle.std.specs.Prelude.{◌≡◌, ◌+◌, ◌<◌, ◌↔◌, ◌⊎◌, ◌∷◌, ℕ, [], map, length, IfOk, IfErr};
-ghost use Rattle.std.specs.Prelude.{OnOk, OnErr, IsErrOf, IsOkUnless, MatchOption};
+ghost use Rattle.std.specs.Prelude.{◌≡◌, ◌+◌, ◌<◌, ◌↔◌, ◌⊎◌, ◌∷◌, ℕ, [], length, IfOk, IfErr};
+ghost use Rattle.std.specs.Prelude.{OnOk, OnErr, IsErrOf, IsOkUnless};
 ghost use Rattle.dy_siblings.specs.Siblings.{IsSameRow};
 ghost use Rattle.dy_core.specs.Worlds.{row_at};
 ghost use Rattle.dy_core.specs.Steps.{place_for};
 ghost use Rattle.dy_core.specs.declared.steps.Step.TheVariants.{Fetch};
+ghost use Rattle.dy_index.specs.Readings.{ListsDots};
 ghost use Rattle.dy_shares.specs.Shares.{NodeStays, SessionStays};
-ghost use Rattle.dy_book.specs.Books.{HasRoom, LacksRoom, ListsDots, with_untold, world_of};
+ghost use Rattle.dy_book.specs.Books.{HasRoom, LacksRoom, with_untold, world_of};
 
 use crate::books::Book;
-use crate::custodies;
 use dy_core::Place;
 use dy_dots::{Dot, Fault, NodeId};
 use dy_shares::{Naming, NodeShare, Seen, Since};
@@ -23,22 +23,8 @@ impl<J: Naming> Book<J> {
             IsSameRow row.versions (row_at (world_of self.now) holder home key.now)) }
         ensures memory { IsOkUnless result Fault.OutOfMemory }
     {
-        match self.part(key) {
-            Some(part) => {
-                let row = custodies::copy_at(
-                    self.alloc,
-                    part.places.as_slice(),
-                    holder,
-                    home,
-                    key,
-                )?;
-                Ok(row)
-            }
-            None => {
-                let key = key.try_clone(self.alloc)?;
-                Ok(Row::new(self.alloc, key))
-            }
-        }
+        let row = dy_index::row_copy(self.alloc, self.part(key), holder, home, key)?;
+        Ok(row)
     }
 
     /// Makes a fetch of the row that the share's node holds for the home. The number of its step is
@@ -101,10 +87,6 @@ impl<J: Naming> Book<J> {
     pub fn held_dots(&self, place: Place, key: &Key) -> &[Dot]
         ensures { ListsDots (world_of self.now) place.holder place.home key.now result.now }
     {
-        self.log_is_legal();
-        match self.part(key) {
-            Some(part) => custodies::dots_at(part.places.as_slice(), place, key),
-            None => &[],
-        }
+        dy_index::held_dots(self.part(key), place, key)
     }
 }

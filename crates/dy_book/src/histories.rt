@@ -4,10 +4,10 @@ ghost use Rattle.dy_core.specs.declared.steps.Step.{Step as OneStep};
 ghost use Rattle.dy_shares.specs.Trails.{AreKept};
 ghost use Rattle.dy_book.specs.Audits.{IsHistoryOf};
 
-use crate::parts::KeyPart;
 use crate::steps::step_of;
 use dy_core::Step;
 use dy_dots::Fault;
+use dy_index::KeyPart;
 use dy_shares::KeptStep;
 use dy_siblings::Key;
 use std::alloc::Global;

@@ -1,160 +1,68 @@
 // How holds are added to the book.
 ghost use Rattle.std.specs.Prelude.{◌≡◌, ◌≢◌, ◌<◌, ◌↔◌, ◌⊎◌, ◌++◌, ◌∷◌, ℕ, [], Some, map};
-ghost use Rattle.std.specs.Prelude.{IsTrue, IsSome, IfOk, IfErr, OnOk, OnErr, IsErrOf, IsOkUnless};
+ghost use Rattle.std.specs.Prelude.{IsTrue, IfOk, IfErr, OnOk, OnErr, IsErrOf, IsOkUnless};
+ghost use Rattle.std.specs.Prelude.{MatchOption};
 ghost use Rattle.std.specs.List.{All};
 ghost use Rattle.std.specs.List.Sorted.{IsStrictlySortedBy};
 ghost use Rattle.dy_dots.specs.declared.dots.Dot.{Dot as DotParts};
-ghost use Rattle.dy_siblings.specs.Siblings.{AreOneByDot, IsSameRow, merge};
+ghost use Rattle.dy_siblings.specs.Siblings.{AreOneByDot};
 ghost use Rattle.dy_preference.specs.Preferences.{homes_of, may_hold};
-ghost use Rattle.dy_core.specs.Worlds.{AreMadeOf, layout_of, World};
+ghost use Rattle.dy_core.specs.Worlds.{AreMadeOf, layout_of};
 ghost use Rattle.dy_core.specs.Steps.{place_for};
 ghost use Rattle.dy_core.specs.Logs.{IsLegal, world_after};
 ghost use Rattle.dy_core.specs.Orders.{holding_cmp};
 ghost use Rattle.dy_core.specs.inside.Meanings.{row_in};
 ghost use Rattle.dy_core.specs.declared.steps.Step.TheVariants.{Hold};
+ghost use Rattle.dy_index.specs.Indexes.{IsPart};
+ghost use Rattle.dy_index.specs.Merges.{IsHeldAt};
+ghost use Rattle.dy_index.specs.Readings.{IsLeastNotIssued};
 ghost use Rattle.dy_shares.specs.Shares.{BelongsTo, MayFollow, NodeStays, SessionStays, node_of};
 ghost use Rattle.dy_shares.specs.Shares.{steps_of, untold, with_entries, with_steps};
-ghost use Rattle.dy_book.specs.Books.{HasRoom, IsLeastNotIssued, LacksRoom, receipts_of};
+ghost use Rattle.dy_book.specs.Books.{HasRoom, LacksRoom, receipts_of};
 ghost use Rattle.dy_book.specs.Books.{with_untold, world_of};
-ghost use Rattle.dy_book.specs.inside.Indexes.{IsIndex, IsPart, part_at};
-ghost use Rattle.dy_book.specs.inside.Lists.{IsHeldAt};
 
 use crate::books::Book;
-use crate::custodies::{self, Custody};
-use crate::parts::KeyPart;
 use crate::receipts::{give_receipts, more_keys};
 use dy_core::Place;
-use dy_dots::{Fault, NodeId};
+use dy_dots::{Dot, Fault, NodeId};
+use dy_index::KeyPart;
 use dy_shares::{Ledger, Naming, NodeShare, Receipt, StepRef};
-use dy_siblings::{Key, Row};
+use dy_siblings::Row;
 use std::alloc::Global;
-use std::collections::BTreeMap;
-
-// Makes a part for the key, where there is none yet.
-fn make_part(alloc: Global, keys: &mut BTreeMap<Key, KeyPart>, key: &Key) -> Result<(), Fault>
-    ensures same { (w : World) → IsIndex w keys.old.entries → IsIndex w keys.new.entries }
-    ensures has { OnOk result (IsSome (part_at keys.new.entries key.now)) }
-    ensures memory { IsOkUnless result Fault.OutOfMemory }
-{
-    if keys.contains_key(key) {
-        return Ok(());
-    }
-    let key = key.try_clone(alloc)?;
-    keys.insert(key, KeyPart::new(alloc))?;
-    Ok(())
-}
-
-// Makes a part for the key of a row without versions, if there is none yet.
-fn make_part_of(alloc: Global, keys: &mut BTreeMap<Key, KeyPart>, row: &Row) -> Result<(), Fault>
-    ensures same { (w : World) → IsIndex w keys.old.entries → IsIndex w keys.new.entries }
-    ensures has { OnOk result (row.now.versions ≡ [] →
-        IsSome (part_at keys.new.entries row.now.key)) }
-    ensures memory { IsOkUnless result Fault.OutOfMemory }
-{
-    if !row.is_empty() {
-        return Ok(());
-    }
-    make_part(alloc, keys, row.key())?;
-    Ok(())
-}
-
-// What is held of the row at a place where nothing was held.
-fn held_first(alloc: Global, holder: NodeId, home: NodeId, row: &Row) -> Result<Custody, Fault>
-    requires { AreOneByDot row.now.versions }
-    ensures holder { IfOk result (λ c. c.holder ≡ holder) }
-    ensures home { IfOk result (λ c. c.home ≡ home) }
-    ensures key { IfOk result (λ c. c.row.key ≡ row.now.key) }
-    ensures row { IfOk result (λ c. IsSameRow c.row.versions (merge [] row.now.versions)) }
-    ensures memory { IsOkUnless result Fault.OutOfMemory }
-{
-    let none = Row::new(alloc, row.key().try_clone(alloc)?);
-    let merged = none.merged(alloc, row)?;
-    let custody = Custody::new(alloc, holder, home, merged)?;
-    Ok(custody)
-}
-
-// Merges the row into what is held, and adds these steps to the ledger, or does neither.
-fn hold_more<J: Naming>(
-    alloc: Global,
-    ledger: &mut Ledger<J>,
-    held: &mut Custody,
-    share: &mut NodeShare<J>,
-    row: &Row,
-    steps: &[StepRef<'_>],
-) -> Result<(), Fault>
-    requires one_key { held.old.row.key ≡ row.now.key }
-    requires agree { AreOneByDot (held.old.row.versions ++ row.now.versions) }
-    requires own { All (λ s. node_of s ≡ Some share.old.node) steps.now }
-    requires allowed { MayFollow J.ring J.n ledger.old.log steps.now }
-    ensures holder { held.new.holder ≡ held.old.holder }
-    ensures home { held.new.home ≡ held.old.home }
-    ensures key { held.new.row.key ≡ held.old.row.key }
-    ensures row { OnOk result (IsSameRow held.new.row.versions
-        (merge held.old.row.versions row.now.versions)) }
-    ensures log { OnOk result (ledger.new ≡ with_entries ledger.old (map untold steps.now)) }
-    ensures share { OnOk result (share.new ≡ with_steps share.old steps.now) }
-    ensures stay { OnErr result (held.new ≡ held.old) }
-    ensures err { OnErr result ((ledger.new ≡ ledger.old) × (share.new ≡ share.old)) }
-    ensures memory { IsOkUnless result Fault.OutOfMemory }
-    ensures nodes { (node : ℕ) → node ≢ share.old.node →
-        NodeStays ledger.old.log ledger.new.log node }
-    ensures sessions { (session : ℕ) → SessionStays ledger.old.log ledger.new.log session }
-{
-    // Most puts have the context of a get.
-    if let Some(version) = held.row().follower(row) {
-        let copy = version.try_clone(alloc)?;
-        ledger.node_steps(share, steps)?;
-        held.put_alone(copy);
-        return Ok(());
-    }
-    if let Some(dot) = held.put_beside(alloc, row)? {
-        if let Err(fault) = ledger.node_steps(share, steps) {
-            held.take_out(dot);
-            return Err(fault);
-        }
-        return Ok(());
-    }
-    let merged = held.merged(alloc, row)?;
-    ledger.node_steps(share, steps)?;
-    *held = merged;
-    Ok(())
-}
 
 // Holds the row at its place, and adds these steps to the ledger, or does neither.
 pub(crate) fn hold_at<J: Naming>(
     alloc: Global,
     ledger: &mut Ledger<J>,
-    places: &mut Vec<Custody>,
+    part: &mut KeyPart,
     share: &mut NodeShare<J>,
     home: NodeId,
     row: &Row,
     steps: &[StepRef<'_>],
 ) -> Result<(), Fault>
-    requires in_order { IsStrictlySortedBy holding_cmp places.old.items }
+    requires in_order { IsStrictlySortedBy holding_cmp part.old.places.items }
     requires agree { AreOneByDot
-        (row_in places.old.items share.old.node home row.now.key ++ row.now.versions) }
+        (row_in part.old.places.items share.old.node home row.now.key ++ row.now.versions) }
     requires own { All (λ s. node_of s ≡ Some share.old.node) steps.now }
     requires allowed { MayFollow J.ring J.n ledger.old.log steps.now }
-    ensures places { OnOk result
-        (IsHeldAt places.old.items share.old.node home row.now places.new.items) }
+    ensures places { OnOk result (IsHeldAt part.old.places.items share.old.node home row.now
+        part.new.places.items) }
+    ensures made { part.new.made ≡ part.old.made }
     ensures log { OnOk result (ledger.new ≡ with_entries ledger.old (map untold steps.now)) }
     ensures share { OnOk result (share.new ≡ with_steps share.old steps.now) }
-    ensures stay { OnErr result (places.new.items ≡ places.old.items) }
+    ensures stay { OnErr result (part.new.places.items ≡ part.old.places.items) }
     ensures err { OnErr result ((ledger.new ≡ ledger.old) × (share.new ≡ share.old)) }
     ensures memory { IsOkUnless result Fault.OutOfMemory }
     ensures nodes { (node : ℕ) → node ≢ share.old.node →
         NodeStays ledger.old.log ledger.new.log node }
     ensures sessions { (session : ℕ) → SessionStays ledger.old.log ledger.new.log session }
 {
-    let holder = share.node();
-    if let Some(at) = custodies::index_of(places.as_slice(), holder, home, row.key()) {
-        hold_more(alloc, ledger, &mut places[at], share, row, steps)?;
-        return Ok(());
+    let placing = part.begin(alloc, share.node(), home, row)?;
+    if let Err(fault) = ledger.node_steps(share, steps) {
+        part.take_back(placing);
+        return Err(fault);
     }
-    let custody = held_first(alloc, holder, home, row)?;
-    places.reserve(1)?;
-    ledger.node_steps(share, steps)?;
-    custodies::put(places, custody);
+    part.finish(placing);
     Ok(())
 }
 
@@ -195,7 +103,7 @@ fn hold_in<J: Naming>(
     let first = row.key().try_clone(alloc)?;
     let mut keys = more_keys(alloc, row)?;
     let mut receipts = Vec::with_capacity(alloc, row.versions().len())?;
-    hold_at(alloc, ledger, &mut part.places, share, home, row, &steps)?;
+    hold_at(alloc, ledger, part, share, home, row, &steps)?;
     give_receipts(ledger, &mut receipts, first, &mut keys, row, &place);
     Ok(receipts)
 }
@@ -269,7 +177,7 @@ impl<J: Naming> Book<J> {
             NodeStays self.old.log self.new.log node }
         ensures sessions { (session : ℕ) → SessionStays self.old.log self.new.log session }
     {
-        match make_part_of(self.alloc, &mut self.keys, incoming) {
+        match dy_index::make_part_of(self.alloc, &mut self.keys, incoming) {
             Ok(()) => {}
             Err(fault) => return Err(fault),
         }
@@ -282,6 +190,15 @@ impl<J: Naming> Book<J> {
             Err(fault) => return Err(fault),
         };
         Ok(receipts)
+    }
+
+    // The least dot of the row's versions that is not of the issued version.
+    fn first_not_issued(&self, row: &Row) -> Option<Dot>
+        ensures { MatchOption result
+            (AreMadeOf (world_of self.now) row.now.key row.now.versions)
+            (IsLeastNotIssued (world_of self.now).versions row.now.versions) }
+    {
+        dy_index::first_not_issued(self.part(row.key()), row)
     }
 
     /// Whether each version of the row is the issued one, and a step is left. A hold of the row can

@@ -6,17 +6,17 @@ ghost use Rattle.dy_preference.specs.Preferences.{homes_of, may_hold};
 ghost use Rattle.dy_core.specs.Worlds.{layout_of};
 ghost use Rattle.dy_core.specs.Steps.{version_made};
 ghost use Rattle.dy_core.specs.Logs.{IsLegal, world_after};
+ghost use Rattle.dy_index.specs.Indexes.{IsPart};
 ghost use Rattle.dy_shares.specs.Shares.{BelongsTo, NodeStays, SessionStays};
 ghost use Rattle.dy_shares.specs.Shares.{receipt_parts, steps_of, untold, with_entries, with_steps};
 ghost use Rattle.dy_book.specs.Books.{IsNext, MayIssue, issue_steps, row_alone, with_untold};
 ghost use Rattle.dy_book.specs.Books.{world_of};
-ghost use Rattle.dy_book.specs.inside.Indexes.{IsPart};
 
 use crate::books::Book;
 use crate::holds::hold_at;
-use crate::parts::KeyPart;
 use dy_core::Place;
 use dy_dots::{Fault, NodeId};
+use dy_index::KeyPart;
 use dy_shares::{Ledger, Naming, NodeShare, Receipt, StepRef};
 use dy_siblings::{Row, Version};
 use std::alloc::Global;
@@ -71,7 +71,7 @@ fn issue_in<J: Naming>(
     let copy = version.try_clone(alloc)?;
     let steps = steps_of_issue(node, home, version, &row);
     part.add(alloc, copy)?;
-    if let Err(fault) = hold_at(alloc, ledger, &mut part.places, share, home, &row, &steps) {
+    if let Err(fault) = hold_at(alloc, ledger, part, share, home, &row, &steps) {
         part.remove_last(node);
         return Err(fault);
     }

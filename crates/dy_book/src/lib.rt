@@ -1,21 +1,16 @@
-//! The custody book: one log of steps, the shares of nodes and sessions, and indexes by key.
+//! The custody book: one log of steps, the shares of nodes and sessions, and an index by key.
 #![tactic(auto)]
 
 mod acks;
 mod audits;
 mod books;
 mod closes;
-mod custodies;
-mod dots;
 mod fetches;
 mod fronts;
 mod histories;
 mod holds;
-mod incomings;
 mod issues;
-mod lists;
 mod options;
-mod parts;
 mod plans;
 mod receipts;
 mod releases;

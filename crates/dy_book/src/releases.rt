@@ -3,18 +3,16 @@ ghost use Rattle.std.specs.Prelude.{◌≡◌, ◌≢◌, ◌↔◌, ◌⊎◌, 
 ghost use Rattle.std.specs.Prelude.{IsErrOf, IsOk, IsOkUnless};
 ghost use Rattle.std.specs.List.{All};
 ghost use Rattle.dy_core.specs.Worlds.{World};
-ghost use Rattle.dy_core.specs.Steps.{after_release};
 ghost use Rattle.dy_core.specs.Logs.{world_from};
+ghost use Rattle.dy_index.specs.Indexes.{IsIndex};
 ghost use Rattle.dy_shares.specs.Shares.{BelongsTo, NodeStays, SessionStays, steps_of, with_steps};
 ghost use Rattle.dy_book.specs.Books.{AreOfDistinctDots, HasRoom, LacksRoom, MayRelease};
 ghost use Rattle.dy_book.specs.Books.{release_steps, with_untold, world_of};
-ghost use Rattle.dy_book.specs.inside.Indexes.{IsIndex};
 
 use crate::books::Book;
-use crate::custodies;
-use crate::parts::KeyPart;
 use dy_core::Place;
 use dy_dots::{Fault, NodeId};
+use dy_index::KeyPart;
 use dy_shares::{Naming, NodeShare, Receipt, StepRef};
 use dy_siblings::Key;
 use std::alloc::Global;
@@ -38,24 +36,6 @@ fn steps_of_release<'a, J: Naming>(
     Ok(steps)
 }
 
-// The receipt's dot leaves what the holder holds for its home. Takes no memory.
-fn give_up<J: Naming>(keys: &mut BTreeMap<Key, KeyPart>, holder: NodeId, receipt: &Receipt<J>)
-    ensures { (w : World) → IsIndex w keys.old.entries → IsIndex
-        (after_release w holder receipt.now.home receipt.now.key receipt.now.dot)
-        keys.new.entries }
-{
-    match keys.get_mut(receipt.key()) {
-        Some(part) => custodies::give_up(
-            part.places.as_mut_slice(),
-            holder,
-            receipt.home(),
-            receipt.key(),
-            receipt.dot(),
-        ),
-        None => {}
-    }
-}
-
 // Each receipt's dot leaves what the holder holds for its home. Takes no memory.
 fn give_up_all<J: Naming>(
     keys: &mut BTreeMap<Key, KeyPart>,
@@ -66,7 +46,7 @@ fn give_up_all<J: Naming>(
         IsIndex (world_from w (release_steps holder receipts.now)) keys.new.entries }
 {
     for receipt in receipts {
-        give_up(keys, holder, receipt);
+        dy_index::give_up(keys, holder, receipt.home(), receipt.key(), receipt.dot());
     }
 }
 

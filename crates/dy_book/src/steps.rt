@@ -1,67 +1,20 @@
 // How the steps of a log are read.
-ghost use Rattle.std.specs.Prelude.{◌≡◌, ◌≤◌, ◌-◌, ◌++◌, ℕ, Some, length, option_copied, slice_get};
-ghost use Rattle.std.specs.Prelude.{IfOk, OnOk, IsOkUnless};
-ghost use Rattle.std.specs.List.{filter};
-ghost use Rattle.dy_dots.specs.Dots.{AreDots, DotSet};
-ghost use Rattle.dy_dots.specs.Runs.{AreRunsOf, in_run};
+ghost use Rattle.std.specs.Prelude.{◌≡◌, ◌≤◌, ◌-◌, Some, length, slice_get, IfOk, IsOkUnless};
 ghost use Rattle.dy_siblings.specs.Siblings.{Siblings};
 ghost use Rattle.dy_core.specs.declared.steps.Step.{Step as OneStep};
 ghost use Rattle.dy_core.specs.declared.steps.Step.TheVariants.{Issue};
 ghost use Rattle.dy_shares.specs.Shares.{steps_of};
 ghost use Rattle.dy_shares.specs.Trails.{HasRuns, Keeps};
-ghost use Rattle.dy_book.specs.inside.Indexes.{made_in};
-ghost use Rattle.dy_book.specs.inside.Lists.{AreCounted, list_at};
-ghost use Rattle.dy_book.specs.inside.Readings.{AreOfDots, IsLogged, IsLoggedRow};
+ghost use Rattle.dy_book.specs.inside.Readings.{IsLogged, IsLoggedRow};
 
 use crate::books::Book;
-use crate::parts::KeyPart;
 use dy_core::Step;
 use dy_dots::{Fault, Run};
+use dy_index::KeyPart;
 use dy_shares::{KeptStep, Naming};
 use dy_siblings::{Key, Row, Version};
 use std::alloc::Global;
 use std::collections::BTreeMap;
-
-// Adds the versions of the part that the run names.
-fn add_run(
-    alloc: Global,
-    part: &KeyPart,
-    run: &Run,
-    versions: &mut Vec<Version>,
-) -> Result<(), Fault>
-    requires low { 1 ≤ run.now.first }
-    requires counted { AreCounted run.now.node 0 (list_at part.now.made.items run.now.node) }
-    ensures ok { OnOk result (versions.new.items ≡ versions.old.items
-        ++ filter (λ v. in_run run.now v.dot) (list_at part.now.made.items run.now.node)) }
-    ensures memory { IsOkUnless result Fault.OutOfMemory }
-{
-    let made = part.versions_by(run.node);
-    let end = made.len().min(run.last as usize);
-    let mut at = run.first as usize - 1;
-    while at < end {
-        versions.push(made[at].try_clone(alloc)?)?;
-        at += 1;
-    }
-    Ok(())
-}
-
-// The versions of the part that the runs name, in the order of their dots.
-fn versions_of(alloc: Global, part: Option<&KeyPart>, runs: &[Run]) -> Result<Vec<Version>, Fault>
-    requires counted { (node : ℕ) → AreCounted node 0 (made_in (option_copied part) node) }
-    requires of_dots { (dots : DotSet) × AreRunsOf runs.now dots × AreDots dots }
-    ensures ok { (dots : DotSet) → AreRunsOf runs.now dots → IfOk result
-        (λ versions. AreOfDots (made_in (option_copied part.entry)) dots versions.items) }
-    ensures memory { IsOkUnless result Fault.OutOfMemory }
-{
-    let mut versions = Vec::new(alloc);
-    let Some(known) = part else {
-        return Ok(versions);
-    };
-    for run in runs {
-        add_run(alloc, known, run, &mut versions)?;
-    }
-    Ok(versions)
-}
 
 // The row of the key whose dots these runs are. A key has one version of a dot.
 fn row_of(
@@ -77,7 +30,7 @@ fn row_of(
     ensures memory { IsOkUnless result Fault.OutOfMemory }
 {
     let part = keys.get(key);
-    let versions = versions_of(alloc, part, runs)?;
+    let versions = dy_index::versions_of(alloc, part, runs)?;
     let own = key.try_clone(alloc)?;
     Ok(Row::from_versions(own, versions))
 }

@@ -24,7 +24,7 @@ use Rattle.dy_core.specs.declared.holdings.Holding.{Holding}
 use Rattle.dy_core.proofs.Held.{both_tie, keys_tie}
 use Rattle.dy_cluster.specs.PresentValues.{ArePresent, IsPresent, present_cmp, versions_held}
 use Rattle.dy_cluster.specs.declared.values.PresentValue.{PresentValue}
-use Rattle.dy_book.specs.inside.Lists.{IsInOrder}
+use Rattle.dy_index.specs.Lists.{IsInOrder}
 use Rattle.dy_cluster.specs.inside.Pasts.{KeyPasts, found_in, values_in, past_at, with_all_pasts, with_past, with_row_pasts}
 use Rattle.dy_cluster.proofs.Gathered.{filter_map_from, filter_map_in, flat_map_from, flat_map_in}
 

@@ -11,8 +11,9 @@ use Rattle.dy_dots.specs.declared.faults.Fault.TheVariants.{ContextUnknown, Vers
 use Rattle.dy_dots.specs.declared.faults.Fault.TheVariants.{StepsFull, Down}
 use Rattle.dy_siblings.specs.Siblings.{Siblings}
 use Rattle.dy_core.specs.Worlds.{AreMadeOf}
-use Rattle.dy_book.specs.Books.{BookParts, HasRoom, IsLeastNotIssued, LacksRoom, world_of}
-use Rattle.dy_book.proofs.Incoming.{none_least}
+use Rattle.dy_book.specs.Books.{BookParts, HasRoom, LacksRoom, world_of}
+use Rattle.dy_index.specs.Readings.{IsLeastNotIssued}
+use Rattle.dy_index.proofs.Incoming.{none_least}
 use Rattle.dy_node.specs.Nodes.{NodeState}
 use Rattle.dy_node.specs.Refusals.{FetchRefused, HoldRefused}
 use Rattle.dy_node.specs.Refusals.{StoreRefused}

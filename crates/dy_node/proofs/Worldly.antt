@@ -33,7 +33,7 @@ use Rattle.dy_core.proofs.Merging.{newest_same, same_row_on, same_row_back}
 use Rattle.dy_core.proofs.Kept.{IsSound}
 use Rattle.dy_core.proofs.Keeping.{but, hold_row, hold_elsewhere, release_row, release_elsewhere}
 use Rattle.dy_shares.specs.Shares.{NodePart, BelongsTo}
-use Rattle.dy_book.proofs.OfKeys.{issue_rows}
+use Rattle.dy_index.proofs.OfKeys.{issue_rows}
 use Rattle.dy_node.specs.Stored.{Rooms, Stored, Matches, Shows, shown_world}
 use Rattle.dy_node.specs.Stored.{versions_at}
 use Rattle.dy_node.specs.inside.Placing.{EitherAt}

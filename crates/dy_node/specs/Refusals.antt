@@ -10,7 +10,8 @@ use Rattle.dy_siblings.specs.Siblings.{Siblings}
 use Rattle.dy_core.specs.Worlds.{AreMadeOf}
 use Rattle.dy_core.specs.Steps.{IsKnown}
 use Rattle.dy_core.specs.Listings.{IsLeastUnknown}
-use Rattle.dy_book.specs.Books.{BookParts, HasVersionsLeft, IsLeastNotIssued, LacksRoom, world_of}
+use Rattle.dy_book.specs.Books.{BookParts, HasVersionsLeft, LacksRoom, world_of}
+use Rattle.dy_index.specs.Readings.{IsLeastNotIssued}
 use Rattle.dy_node.specs.Nodes.{NodeState, HasCounterLeft, LacksCounter}
 
 -- when a row is not held: for its least dot that is not of the issued version, and else where no

@@ -3,12 +3,12 @@ use Rattle.std.specs.Prelude.{◌≡◌, ℕ, ◌≤◌, List, length}
 use Rattle.dy_ring.specs.Rings.{Tokens}
 use Rattle.dy_core.specs.Worlds.{layout_of}
 use Rattle.dy_core.specs.Logs.{world_after, IsLegal}
+use Rattle.dy_index.specs.Indexes.{IsIndex}
+use Rattle.dy_index.specs.declared.parts.KeyPart.{KeyPart}
 use Rattle.dy_shares.specs.declared.entries.Entry.{Entry}
 use Rattle.dy_shares.specs.Shares.{steps_of}
 use Rattle.dy_book.specs.declared.options.Options.{Options}
-use Rattle.dy_book.specs.declared.parts.KeyPart.{KeyPart}
 use Rattle.dy_book.specs.Limits.{AreLimits, IsQuorum}
-use Rattle.dy_book.specs.inside.Indexes.{IsIndex}
 
 -- n and r are those of the name; the limits are in their ranges, and kept; the log is
 -- legal, and the index is that of its world

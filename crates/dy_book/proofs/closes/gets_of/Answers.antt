@@ -1,6 +1,6 @@
 use Rattle.std.proofs.Common.{rules, ◌+◌, ◌∙◌, ap, length, take}
 use Rattle.dy_book.specs.Audits.{count_gets}
-use Rattle.dy_book.proofs.Listing.{count_more}
+use Rattle.dy_book.proofs.Ending.{count_more}
 use Rattle.dy_book.proofs.closes.gets_of.Goals as goal
 
 pub loop-session-preserved : goal.loop-session-preserved

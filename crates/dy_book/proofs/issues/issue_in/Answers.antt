@@ -1,7 +1,7 @@
 -- The steps are those of the share's node, and the copies are of the version. The part is as before
 -- where the hold was refused, since the version is taken out again; else it has the version with its
 -- maker's others, and at its place.
-use Rattle.std.proofs.Common.{◌++◌, List, map, sym, ap, ◌∙◌, subst, Some}
+use Rattle.std.proofs.Common.{◌≡◌, ◌≢◌, ℕ, ◌++◌, ◌∷◌, List, [], map, sym, ap, ◌∙◌, subst, Some}
 use Rattle.dy_siblings.specs.Siblings.{Siblings, AreOneByDot}
 use Rattle.dy_siblings.specs.declared.versions.Version.{Version}
 use Rattle.dy_core.specs.Worlds.{layout_of}
@@ -10,12 +10,14 @@ use Rattle.dy_core.specs.Logs.{world_after}
 use Rattle.dy_core.specs.declared.holdings.Holding.{Holding}
 use Rattle.dy_core.specs.declared.steps.Step.{Step}
 use Rattle.dy_shares.specs.Shares.{Account, steps_of, untold, with_entries, with_steps, MayFollow}
-use Rattle.dy_book.specs.declared.parts.KeyPart.{KeyPart}
+use Rattle.dy_index.specs.declared.parts.KeyPart.{KeyPart}
 use Rattle.dy_book.specs.Books.{issue_steps, row_alone}
-use Rattle.dy_book.specs.inside.Indexes.{IsPart}
-use Rattle.dy_book.specs.inside.Lists.{IsHeldAt}
-use Rattle.dy_book.proofs.Holding.{issue_allowed, issue_agrees, issue_part, part_renamed}
-use Rattle.dy_book.proofs.Holding.{removed_again}
+use Rattle.dy_index.specs.Indexes.{IsPart, made_by}
+use Rattle.dy_index.specs.Lists.{list_at}
+use Rattle.dy_index.specs.Merges.{IsHeldAt}
+use Rattle.dy_book.proofs.Holding.{issue_allowed, issue_agrees, issue_part}
+use Rattle.dy_index.proofs.Indexing.{part_renamed}
+use Rattle.dy_index.proofs.Indexing.{removed_again}
 use Rattle.dy_book.proofs.issues.issue_in.Goals as goal
 
 pub hold_at-requires-clause-agree : goal.hold_at-requires-clause-agree
@@ -67,13 +69,16 @@ returns-in-Err-clause-part g c =
     let key = c.args.version.now.key in
     let node_is = ap (λ (v : Version). v.dot.node)
     (c.in_ok-copy.ensures.value ∙ c.requires.next.is_made) ∙ sym c.node-node.ensures.value in
+    let made = ap (λ m. m.items) c.in-Err.ensures.made in
     subst (λ (a : Account). IsPart (world_after (steps_of a.log)) key
     (Some c.remove_last.new.self)) (sym c.in-Err.ensures.err.0)
     (part_renamed (world_after (steps_of c.args.ledger.now.log)) key c.args.part.now
     c.remove_last.new.self
-    (removed_again c.args.part.now.made.items c.add.new.self.made.items
+    (removed_again c.args.part.now.made.items c.hold_at.new.part.made.items
     c.remove_last.new.self.made.items c.in_ok-copy.copy c.node-node.result node_is
-    c.in_ok-add.ensures.own c.in_ok-add.ensures.others c.remove_last.ensures.own
+    (ap (λ ms. list_at ms c.in_ok-copy.copy.dot.node) made ∙ c.in_ok-add.ensures.own)
+    (λ n apart. ap (λ ms. list_at ms n) made ∙ c.in_ok-add.ensures.others n apart)
+    c.remove_last.ensures.own
     c.remove_last.ensures.others)
     (ap (λ v. v.items) c.remove_last.ensures.places
     ∙ (c.in-Err.ensures.stay ∙ ap (λ v. v.items) c.in_ok-add.ensures.places)) c.requires.part)
@@ -88,8 +93,14 @@ returns-clause-part g c =
     let row_is = c.in_ok-row.ensures.ok ∙ ap row_alone c.in_ok-try_clone.ensures.value in
     let steps_are = c.steps_of_issue-steps.ensures
     ∙ ap (λ m. issue_steps m c.args.home v) c.node-node.ensures.value in
-    let placed = c.hold_at.new.places.items in
-    let new : KeyPart = record { made = c.add.new.self.made; places = c.hold_at.new.places } in
+    let new : KeyPart = c.hold_at.new.part in
+    let placed = new.places.items in
+    let copy = c.in_ok-copy.copy in
+    let made = ap (λ m. m.items) c.in_default.ensures.made in
+    let own : made_by new copy.dot.node ≡ made_by c.args.part.now copy.dot.node ++ copy ∷ [] =
+    ap (λ ms. list_at ms copy.dot.node) made ∙ c.in_ok-add.ensures.own in
+    let others : (n : ℕ) → n ≢ copy.dot.node → made_by new n ≡ made_by c.args.part.now n =
+    λ n apart. ap (λ ms. list_at ms n) made ∙ c.in_ok-add.ensures.others n apart in
     let is : IsHeldAt c.args.part.now.places.items node c.args.home (row_alone v) placed =
     subst (λ (hs : List Holding). IsHeldAt hs node c.args.home (row_alone v) placed)
     (ap (λ v. v.items) c.in_ok-add.ensures.places)
@@ -101,5 +112,5 @@ returns-clause-part g c =
     (Some new)) (sym steps_are)
     (issue_part layout log c.requires.legal node c.args.home v c.requires.next
     c.requires.room c.requires.may_hold c.args.part.now new c.requires.part
-    (rw copy_is at c.in_ok-add.ensures.own) (rw copy_is at c.in_ok-add.ensures.others)
+    (rw copy_is at own) (rw copy_is at others)
     is.held is.holder_is is.home_is is.key_is is.merged is.placed))

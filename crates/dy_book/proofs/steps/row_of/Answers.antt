@@ -1,9 +1,9 @@
 -- The versions of the row's dots are the row's, so they are a sibling set.
 use Rattle.std.proofs.Common.{sym, ◌∙◌, subst}
 use Rattle.dy_siblings.specs.Siblings.{IsSiblingSet}
-use Rattle.dy_book.specs.inside.Indexes.{made_in}
-use Rattle.dy_book.specs.inside.Lists.{AreCounted}
-use Rattle.dy_book.specs.inside.Readings.{AreOfDots}
+use Rattle.dy_index.specs.Indexes.{made_in}
+use Rattle.dy_index.specs.Lists.{AreCounted}
+use Rattle.dy_index.specs.Readings.{AreOfDots}
 use Rattle.dy_book.proofs.Reading.{index_counted, row_is}
 use Rattle.dy_book.proofs.steps.row_of.Goals as goal
 

@@ -4,8 +4,8 @@ use Rattle.std.specs.List.{dedup}
 use Rattle.std.proofs.lemmas.Cmp.{is_eq_index}
 use Rattle.std.proofs.lemmas.Fn.{always_returns_same, dedup_same}
 use Rattle.std.proofs.lemmas.List.Sorted.{ranks_by}
-use Rattle.dy_book.specs.inside.Lists.{IsInOrder}
-use Rattle.dy_book.proofs.Sorting.{order_is}
+use Rattle.dy_index.specs.Lists.{IsInOrder}
+use Rattle.dy_index.proofs.Sorting.{order_is}
 use Rattle.dy_cluster.specs.PresentValues.{present_cmp}
 use Rattle.dy_cluster.proofs.Presenting.{present_total}
 use Rattle.dy_cluster.proofs.values.ordered.Goals as goal

@@ -1,5 +1,5 @@
 use Rattle.dy_cluster.specs.PresentValues.{ArePresent, present_cmp}
-use Rattle.dy_book.specs.inside.Lists.{IsInOrder}
+use Rattle.dy_index.specs.Lists.{IsInOrder}
 use Rattle.std.proofs.lemmas.Result.{IfOk-weaker}
 use Rattle.dy_cluster.proofs.Presenting.{are_present}
 use Rattle.dy_cluster.proofs.values.values_of.Goals as goal

@@ -4,7 +4,7 @@ use Rattle.dy_shares.specs.Shares.{steps_of}
 use Rattle.dy_book.specs.Books.{world_of}
 use Rattle.dy_core.specs.Orders.{ack_cmp}
 use Rattle.dy_core.proofs.Held.{ack_cmp_total}
-use Rattle.dy_book.specs.inside.Lists.{IsInOrder}
+use Rattle.dy_index.specs.Lists.{IsInOrder}
 use Rattle.dy_book.proofs.Ending.{acks_listed}
 use Rattle.dy_book.proofs.books.Book.acked.Goals as goal
 

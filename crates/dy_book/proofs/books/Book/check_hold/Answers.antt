@@ -1,8 +1,10 @@
 -- Each refusal excludes the other: a least dot that is not issued, or else too few steps left.
 use Rattle.std.proofs.Common.{◌+◌, ◌<◌, Err, refl, ap, subst, length, arith}
 use Rattle.dy_dots.specs.declared.faults.Fault.TheVariants.{NotIssued}
-use Rattle.dy_book.specs.Books.{IsLeastNotIssued, world_of}
-use Rattle.dy_book.proofs.Incoming.{one_least, none_least, same_named, full_not_named}
+use Rattle.dy_index.specs.Readings.{IsLeastNotIssued}
+use Rattle.dy_book.specs.Books.{world_of}
+use Rattle.dy_index.proofs.Incoming.{one_least, none_least}
+use Rattle.dy_book.proofs.Incoming.{same_named, full_not_named}
 use Rattle.dy_book.proofs.books.Book.check_hold.Goals as goal
 
 pub returns-in-Some-clause-not_issued : goal.returns-in-Some-clause-not_issued

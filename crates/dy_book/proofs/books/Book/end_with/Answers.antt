@@ -8,7 +8,7 @@ use Rattle.dy_shares.specs.Shares.{AreAll, IsMissing, steps_of}
 use Rattle.dy_shares.specs.Trails.{AreKept}
 use Rattle.dy_book.specs.Audits.{IsHistoryOf, account_of}
 use Rattle.dy_book.specs.declared.histories.History.{History}
-use Rattle.dy_book.specs.inside.Indexes.{IsIndex}
+use Rattle.dy_index.specs.Indexes.{IsIndex}
 use Rattle.dy_book.proofs.Telling.{told_as_held}
 use Rattle.dy_book.proofs.books.Book.end_with.Goals as goal
 

@@ -1,25 +1,10 @@
 use Rattle.std.proofs.Common.{subst}
-use Rattle.std.proofs.lemmas.Cmp.{nat_list_cmp_total}
-use Rattle.std.proofs.lemmas.Map.Views.{btree_map_get_iff}
-use Rattle.dy_core.specs.Orders.{holding_cmp}
-use Rattle.dy_core.proofs.Held.{holding_cmp_total, keys_tie}
 use Rattle.dy_book.specs.Books.{world_of}
-use Rattle.dy_book.specs.inside.Indexes.{IsIndex}
-use Rattle.dy_book.specs.inside.Lists.{IsInOrder}
-use Rattle.dy_book.proofs.Listing.{holdings_listed}
+use Rattle.dy_index.specs.Indexes.{IsIndex}
 use Rattle.dy_book.proofs.books.Book.held.Goals as goal
-
-pub ordered-requires : goal.ordered-requires
-ordered-requires g c = holding_cmp_total
 
 pub returns-clause-ok : goal.returns-clause-ok
 returns-clause-ok g c =
-    let keys = c.self.inside.keys in
-    let index = subst (λ b. IsIndex (world_of b) keys.entries) c.self.view_is
-    c.self.invariant.index in
-    holdings_listed (world_of c.args.self.now) keys.entries index c.in_ok-listed.ensures.found
-    (λ key p is. (btree_map_get_iff nat_list_cmp_total
-    (λ x y e. keys_tie x y e) keys c.in_ok-listed.ensures.ordered key p).0 is)
-    c.in_ok-held.held.items
-    (subst (λ xs. IsInOrder holding_cmp xs c.in_ok-held.held.items) c.in_ok-listed.ensures.ok
-    c.in_ok-held.ensures.ok)
+    c.in_ok-held.ensures.ok (world_of c.args.self.now)
+    (subst (λ b. IsIndex (world_of b) c.self.inside.keys.entries) c.self.view_is
+    c.self.invariant.index)

@@ -4,7 +4,8 @@ use Rattle.std.specs.Result.{IsErrOf}
 use Rattle.dy_dots.specs.declared.faults.Fault.{Fault}
 use Rattle.dy_dots.specs.declared.faults.Fault.TheVariants.{NotIssued, StepsFull}
 use Rattle.dy_core.specs.Worlds.{AreMadeOf}
-use Rattle.dy_book.specs.Books.{BookParts, IsLeastNotIssued, LacksRoom, world_of}
+use Rattle.dy_book.specs.Books.{BookParts, LacksRoom, world_of}
+use Rattle.dy_index.specs.Readings.{IsLeastNotIssued}
 use Rattle.dy_book.proofs.Incoming.{told_as}
 use Rattle.dy_book.proofs.books.Book.hold.Goals as goal
 

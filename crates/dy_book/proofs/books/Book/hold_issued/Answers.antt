@@ -9,9 +9,9 @@ use Rattle.dy_core.specs.Logs.{world_after}
 use Rattle.dy_shares.specs.Shares.{Account, steps_of}
 use Rattle.dy_shares.specs.declared.entries.Entry.{Entry}
 use Rattle.dy_book.specs.Books.{BookParts, HasRoom}
-use Rattle.dy_book.specs.inside.Indexes.{IsPart, part_at}
+use Rattle.dy_index.specs.Indexes.{IsPart, part_at}
 use Rattle.dy_book.proofs.Bookkeeping.{book_reindexed, book_rewritten, hold_book}
-use Rattle.dy_book.proofs.Parting.{empty_where_unknown}
+use Rattle.dy_index.proofs.Parting.{empty_where_unknown}
 use Rattle.dy_book.proofs.books.Book.hold_issued.Goals as goal
 
 -- ---- memory was refused for the part of a row without a version

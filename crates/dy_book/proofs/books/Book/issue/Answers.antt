@@ -11,10 +11,10 @@ use Rattle.dy_core.specs.Logs.{world_after, IsLegal}
 use Rattle.dy_shares.specs.Shares.{Account, steps_of, untold}
 use Rattle.dy_book.specs.Books.{MayIssue, issue_steps, world_of}
 use Rattle.dy_book.specs.inside.Kept.{IsBook}
-use Rattle.dy_book.specs.inside.Indexes.{IsPart, part_at}
+use Rattle.dy_index.specs.Indexes.{IsPart, part_at}
 use Rattle.dy_book.proofs.Bookkeeping.{book_rewritten, counter_few, issue_book}
 use Rattle.dy_book.proofs.Holding.{issue_makes}
-use Rattle.dy_book.proofs.Parting.{part_or_none}
+use Rattle.dy_index.proofs.Parting.{part_or_none}
 use Rattle.dy_book.proofs.books.Book.issue.Goals as goal
 
 pub invariant_of-self-in_err-entry : goal.invariant_of-self-in_err-entry

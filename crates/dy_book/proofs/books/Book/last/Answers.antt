@@ -1,4 +1,5 @@
+use Rattle.dy_shares.specs.Shares.{steps_of}
 use Rattle.dy_book.proofs.books.Book.last.Goals as goal
 
 pub returns : goal.returns
-returns g c = c.last_in.ensures c.args.key.now c.part.ensures
+returns g c = c.last.ensures (steps_of c.args.self.now.log) c.args.key.now c.part.ensures

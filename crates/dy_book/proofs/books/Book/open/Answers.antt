@@ -3,8 +3,8 @@ use Rattle.dy_core.specs.Worlds.{empty_world}
 use Rattle.dy_shares.specs.declared.entries.Entry.{Entry}
 use Rattle.dy_book.specs.inside.Kept.{IsBook}
 use Rattle.dy_book.specs.Limits.{IsQuorum}
-use Rattle.dy_book.specs.inside.Indexes.{IsIndex}
-use Rattle.dy_book.proofs.OfKeys.{empty_index}
+use Rattle.dy_index.specs.Indexes.{IsIndex}
+use Rattle.dy_index.proofs.OfKeys.{empty_index}
 use Rattle.dy_book.proofs.books.Book.open.Goals as goal
 
 -- an empty log, and an empty index

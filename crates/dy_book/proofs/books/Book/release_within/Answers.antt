@@ -10,7 +10,7 @@ use Rattle.dy_shares.specs.Shares.{Account, MayFollow, node_of, steps_of, untold
 use Rattle.dy_shares.specs.Shares.{with_entries as account_with, with_steps}
 use Rattle.dy_book.specs.Books.{HasRoom, MayRelease, release_steps, with_untold, world_of}
 use Rattle.dy_book.specs.inside.Kept.{IsBook}
-use Rattle.dy_book.specs.inside.Indexes.{IsIndex}
+use Rattle.dy_index.specs.Indexes.{IsIndex}
 use Rattle.dy_book.proofs.Releasing.{of_node, release_book, releases_follow}
 use Rattle.dy_book.proofs.books.Book.release_within.Goals as goal
 

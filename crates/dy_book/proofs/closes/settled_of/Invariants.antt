@@ -1,6 +1,0 @@
-use Rattle.std.proofs.Common.{◌≡◌, ◌++◌}
-use Rattle.dy_book.specs.inside.Indexes.{settled_keys}
-use Rattle.dy_book.proofs.closes.settled_of.Given as goal
-
-abbrev pub invariant-loop-key : goal.invariant-loop-key
-invariant-loop-key l = l.settled.items ++ settled_keys l.key-iterator ≡ settled_keys l.keys.entries

@@ -1,0 +1,16 @@
+pub mod Besides
+pub mod Coverage
+pub mod Dotting
+pub mod Gathering
+pub mod Holding
+pub mod Incoming
+pub mod Indexing
+pub mod Issuing
+pub mod Listing
+pub mod Making
+pub mod OfKeys
+pub mod Parting
+pub mod Picking
+pub mod Releasing
+pub mod Settling
+pub mod Sorting

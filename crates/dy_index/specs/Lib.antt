@@ -1,0 +1,5 @@
+pub mod Indexes
+pub mod Lists
+pub mod Merges
+pub mod Readings
+pub mod inside

@@ -1,0 +1,4 @@
+-- What contracts of private functions alone speak of.
+pub mod Held
+pub mod Listed
+pub mod Pasts

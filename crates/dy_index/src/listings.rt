@@ -1,0 +1,72 @@
+// What the whole index lists.
+ghost use Rattle.std.specs.Prelude.{◌≡◌, [], List, Some, IfOk, IsOkUnless};
+ghost use Rattle.std.specs.List.{All};
+ghost use Rattle.std.specs.BTreeMap.{IsOrdered};
+ghost use Rattle.dy_core.specs.Worlds.{Layout, World};
+ghost use Rattle.dy_core.specs.Logs.{IsLegal, world_after};
+ghost use Rattle.dy_core.specs.Orders.{key_cmp};
+ghost use Rattle.dy_core.specs.Listings.{ListsHoldings, ListsSettled};
+ghost use Rattle.dy_core.specs.declared.steps.Step.{Step};
+ghost use Rattle.dy_index.specs.Indexes.{IsIndex, part_at};
+ghost use Rattle.dy_index.specs.inside.Listed.{held_in_all, settled_keys};
+
+use crate::parts::KeyPart;
+use crate::{custodies, lists};
+use dy_core::Holding;
+use dy_dots::Fault;
+use dy_siblings::Key;
+use std::alloc::Global;
+use std::collections::BTreeMap;
+
+// What the index has, key by key.
+fn held_of(alloc: Global, keys: &BTreeMap<Key, KeyPart>) -> Result<Vec<Holding>, Fault>
+    ensures ok { IfOk result (λ held. held.items ≡ held_in_all [] keys.now.entries) }
+    ensures found { All (λ e. part_at keys.now.entries e.0 ≡ Some e.1) keys.now.entries }
+    ensures ordered { IsOrdered key_cmp keys.now }
+    ensures memory { IsOkUnless result Fault.OutOfMemory }
+{
+    let mut held = Vec::new(alloc);
+    for (_key, part) in keys.iter() {
+        custodies::list_held(alloc, &mut held, part.places.as_slice())?;
+    }
+    Ok(held)
+}
+
+// The keys of the index that are settled, by their bytes.
+fn settled_of(alloc: Global, keys: &BTreeMap<Key, KeyPart>) -> Result<Vec<Key>, Fault>
+    ensures ok { IfOk result (λ settled. settled.items ≡ settled_keys keys.now.entries) }
+    ensures found { All (λ e. part_at keys.now.entries e.0 ≡ Some e.1) keys.now.entries }
+    ensures ordered { IsOrdered key_cmp keys.now }
+    ensures memory { IsOkUnless result Fault.OutOfMemory }
+{
+    let mut settled = Vec::new(alloc);
+    for (key, part) in keys.iter() {
+        if part.is_settled() {
+            let key = key.try_clone(alloc)?;
+            settled.push(key)?;
+        }
+    }
+    Ok(settled)
+}
+
+/// What is held, by holder, home and the bytes of the key.
+pub fn held(alloc: Global, keys: &BTreeMap<Key, KeyPart>) -> Result<Vec<Holding>, Fault>
+    ensures ok { (w : World) → IsIndex w keys.now.entries → IfOk result
+        (λ held. ListsHoldings w held.items) }
+    ensures memory { IsOkUnless result Fault.OutOfMemory }
+{
+    let listed = held_of(alloc, keys)?;
+    let held = lists::ordered(listed)?;
+    Ok(held)
+}
+
+/// The settled keys of which a version was made, by their bytes.
+pub fn settled(alloc: Global, keys: &BTreeMap<Key, KeyPart>) -> Result<Vec<Key>, Fault>
+    ensures ok { (layout : Layout) (steps : List Step) → IsLegal layout steps →
+        IsIndex (world_after steps) keys.now.entries → IfOk result
+        (λ keys. ListsSettled (world_after steps) keys.items) }
+    ensures memory { IsOkUnless result Fault.OutOfMemory }
+{
+    let settled = settled_of(alloc, keys)?;
+    Ok(settled)
+}
