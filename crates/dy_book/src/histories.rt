@@ -14,10 +14,16 @@ use std::alloc::Global;
 use std::collections::BTreeMap;
 
 /// The steps of a book that was closed, to be read by their numbers.
-#[derive(Debug, Drop)]
+#[derive(Debug)]
 pub struct History {
     pub(crate) trail: Vec<KeptStep>,
     pub(crate) keys: BTreeMap<Key, KeyPart>,
+}
+
+impl Drop for History {
+    fn drop(self) {
+        let History { trail: _, keys: _ } = self;
+    }
 }
 
 impl History {

@@ -19,12 +19,21 @@ pub struct Sender<T: Drop> {
 
 /// The end of a channel that receives, and its pass, which counts what came. It sleeps as soon as
 /// nothing lies there, where the kit's looks for a while: who receives waits more often than not.
-#[derive(Drop)]
 pub struct Receiver<T: Drop> {
     pub end: RuledReceiver<T, u64, Counted>,
     pub pass: Pass<T, u64>,
     parker: Parker,
     ghost here: { IsSeatAt (receives_on end) pass },
+}
+
+impl<T: Drop> Drop for Receiver<T> {
+    fn drop(self) {
+        let Receiver {
+            end: _,
+            pass: _,
+            parker: _,
+        } = self;
+    }
 }
 
 /// A channel with room for so many messages, whose sends take no memory: its two ends, and what

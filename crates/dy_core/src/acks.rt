@@ -5,7 +5,7 @@ use std::cmp::Ordering;
 
 /// A put that was told that w homes have its version (Dynamo, section 4.5). Acks are ordered by the
 /// bytes of their keys, then by dot, then by w.
-#[derive(Debug, Drop, PartialEq, Eq)]
+#[derive(Debug, PartialEq, Eq, Drop)]
 pub struct Acked {
     pub key: Key,
     pub dot: Dot,

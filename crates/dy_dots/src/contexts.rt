@@ -16,9 +16,15 @@ use std::marker::Model;
 use std::{fmt, slice};
 
 /// A set of dots of one key, kept as its maximal runs, sorted by node, then by counter.
-#[derive(Debug, Drop)]
+#[derive(Debug)]
 pub struct Context {
     runs: Runs,
+}
+
+impl Drop for Context {
+    fn drop(self) {
+        let Context { runs: _ } = self;
+    }
 }
 
 impl Model for Context {

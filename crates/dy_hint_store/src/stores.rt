@@ -22,10 +22,15 @@ pub type RowRefFor<'a> = (NodeId, &'a Row);
 
 /// The rows that a node holds for other nodes, by home and key. A row that has no version is none:
 /// it is not kept.
-#[derive(Drop)]
 pub struct HintStore {
     alloc: Global,
     homes: Vec<RowMap>,
+}
+
+impl Drop for HintStore {
+    fn drop(self) {
+        let HintStore { alloc: _, homes: _ } = self;
+    }
 }
 
 impl Model for HintStore {

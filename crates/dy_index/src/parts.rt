@@ -89,10 +89,16 @@ impl Made {
 }
 
 /// What is known of one key: the versions by node, and what is held.
-#[derive(Debug, Drop)]
+#[derive(Debug)]
 pub struct KeyPart {
     made: Vec<Made>,
     pub(crate) places: Vec<Custody>,
+}
+
+impl Drop for KeyPart {
+    fn drop(self) {
+        let KeyPart { made: _, places: _ } = self;
+    }
 }
 
 impl KeyPart {

@@ -7,10 +7,16 @@ use dy_dots::{Context, NodeId};
 use std::fmt;
 
 /// What a node keeps of a key for a home: the dots of the versions.
-#[derive(Debug, Drop)]
+#[derive(Debug)]
 pub struct Kept {
     pub home: NodeId,
     pub dots: Context,
+}
+
+impl Drop for Kept {
+    fn drop(self) {
+        let Kept { home: _, dots: _ } = self;
+    }
 }
 
 /// What prints as the dots that the node keeps for itself, and behind them those for each other

@@ -13,10 +13,15 @@ use std::sync::Wait;
 pub const MAILBOX_ROOM: usize = 1024;
 
 /// Where asks are posted: a mailbox for each node of one cluster, in the order of their numbers.
-#[derive(Drop)]
 pub struct Post<J: Naming> {
     alloc: Global,
     boxes: Vec<Outbox<Posted<J>>>,
+}
+
+impl<J: Naming> Drop for Post<J> {
+    fn drop(self) {
+        let Post { alloc: _, boxes: _ } = self;
+    }
 }
 
 impl<J: Naming> Model for Post<J> {
@@ -30,10 +35,15 @@ impl<J: Naming> Model for Post<J> {
 }
 
 /// The end of a node's mailbox that its worker receives from. It knows the node's number.
-#[derive(Drop)]
 pub struct Inbox<J: Naming> {
     node: u8,
     asks: Receiver<Posted<J>>,
+}
+
+impl<J: Naming> Drop for Inbox<J> {
+    fn drop(self) {
+        let Inbox { node: _, asks: _ } = self;
+    }
 }
 
 impl<J: Naming> Model for Inbox<J> {

@@ -56,13 +56,23 @@ impl<J: Naming> Model for Replies<J> {
 
 /// Where the answers to an ask go: the number of its client's call, and the one that it has among
 /// the asks of that call, from 0.
-#[derive(Drop)]
 pub struct ReplyTo<J: Naming> {
     line: Arc<Line<J>>,
     pass: Pass<Answered<J>, u64>,
     pub call: u64,
     pub number: usize,
     ghost here: { IsSeatAt (sends_on (arc_value line).end) pass },
+}
+
+impl<J: Naming> Drop for ReplyTo<J> {
+    fn drop(self) {
+        let ReplyTo {
+            line: _,
+            pass: _,
+            call: _,
+            number: _,
+        } = self;
+    }
 }
 
 // What is shared of a client's channel before its first call.

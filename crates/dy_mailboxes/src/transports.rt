@@ -27,13 +27,24 @@ use std::sync::{Mutex, Wait};
 
 /// A transport whose asks go to the nodes' workers, and whose tries and acks are made on the
 /// caller's own thread. The nodes lie in the order of their numbers, and so do the mailboxes.
-#[derive(Drop)]
 pub struct Mailboxes<'a, J: Naming> {
     alloc: Global,
     reach: Reach<'a, J>,
     post: Post<J>,
     replies: Replies<J>,
     sheet: Sheet<J>,
+}
+
+impl<'a, J: Naming> Drop for Mailboxes<'a, J> {
+    fn drop(self) {
+        let Mailboxes {
+            alloc: _,
+            reach: _,
+            post: _,
+            replies: _,
+            sheet: _,
+        } = self;
+    }
 }
 
 impl<'a, J: Naming> Model for Mailboxes<'a, J> {

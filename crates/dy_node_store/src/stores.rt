@@ -20,11 +20,20 @@ use std::marker::Model;
 
 /// A node's own rows, and apart from them the greatest counter that it has used of each key. What
 /// becomes of the rows leaves the counters as they are, so no counter is used twice.
-#[derive(Drop)]
 pub struct NodeStore {
     alloc: Global,
     rows: RowMap,
     counters: BTreeMap<Key, u32>,
+}
+
+impl Drop for NodeStore {
+    fn drop(self) {
+        let NodeStore {
+            alloc: _,
+            rows: _,
+            counters: _,
+        } = self;
+    }
 }
 
 impl Model for NodeStore {

@@ -188,10 +188,15 @@ impl<J: Naming> Model for Chronicle<J> {
 
 /// A beginning of the log. It takes no bytes, and may be copied and dropped. To a contract it is
 /// its entries.
-#[derive(Drop)]
 pub struct Front<J: Naming> {
     seen: Seen<Entries, u64, Law>,
     of: PhantomData<J>,
+}
+
+impl<J: Naming> Drop for Front<J> {
+    fn drop(self) {
+        let Front { seen: _, of: _ } = self;
+    }
 }
 
 impl<J: Naming> Model for Front<J> {

@@ -11,12 +11,22 @@ use std::marker::Model;
 
 /// A receipt of a dot for a home: its holder, or the home itself, covers the dot for the home. It
 /// stays true, whatever steps come, and may be dropped.
-#[derive(Drop)]
 pub struct Receipt<J: Naming> {
     key: Key,
     dot: Dot,
     place: Place,
     front: Front<J>,
+}
+
+impl<J: Naming> Drop for Receipt<J> {
+    fn drop(self) {
+        let Receipt {
+            key: _,
+            dot: _,
+            place: _,
+            front: _,
+        } = self;
+    }
 }
 
 impl<J: Naming> Model for Receipt<J> {

@@ -13,12 +13,22 @@ use std::marker::Model;
 
 /// An answer to a get: the step of this number is a fetch at the holder for the home and the key,
 /// with this row. It stays true, whatever steps come, and may be dropped.
-#[derive(Drop)]
 pub struct Seen<J: Naming> {
     at: usize,
     place: Place,
     row: Row,
     front: Front<J>,
+}
+
+impl<J: Naming> Drop for Seen<J> {
+    fn drop(self) {
+        let Seen {
+            at: _,
+            place: _,
+            row: _,
+            front: _,
+        } = self;
+    }
 }
 
 impl<J: Naming> Model for Seen<J> {

@@ -5,10 +5,15 @@ use crate::names::Naming;
 use std::marker::Model;
 
 /// A witness that the log has at least so many steps. It stays true, and may be dropped.
-#[derive(Drop)]
 pub struct Since<J: Naming> {
     at: usize,
     front: Front<J>,
+}
+
+impl<J: Naming> Drop for Since<J> {
+    fn drop(self) {
+        let Since { at: _, front: _ } = self;
+    }
 }
 
 impl<J: Naming> Model for Since<J> {

@@ -5,10 +5,19 @@ use std::alloc::Global;
 
 /// The step numbers that a session was told, from 1: those of its acks, and those of the answers of
 /// its gets, one get after another.
-#[derive(Debug, Drop)]
+#[derive(Debug)]
 pub struct StepNumbers {
     pub acks: Vec<usize>,
     pub fetches: Vec<usize>,
+}
+
+impl Drop for StepNumbers {
+    fn drop(self) {
+        let StepNumbers {
+            acks: _,
+            fetches: _,
+        } = self;
+    }
 }
 
 impl StepNumbers {

@@ -26,9 +26,15 @@ pub const SHORT_KEY_BYTES: usize = 14;
 
 /// A key: 1 to 64 bytes. It takes sixteen: up to fourteen lie in place, and of a longer one the
 /// copies share the bytes.
-#[derive(Debug, Drop)]
+#[derive(Debug)]
 pub struct Key {
     bytes: KeyBytes,
+}
+
+impl Drop for Key {
+    fn drop(self) {
+        let Key { bytes: _ } = self;
+    }
 }
 
 impl Model for Key {

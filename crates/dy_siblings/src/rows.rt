@@ -14,12 +14,22 @@ use std::slice;
 
 /// The versions of one key of which none follows another, in the order of their dots: what nodes
 /// hold, messages carry and gets answer.
-#[derive(Debug, Drop)]
+#[derive(Debug)]
 pub struct Row {
     key: Key,
     versions: Versions,
     // Where it is false, no version follows another. Rows of blind puts need not look for it then.
     may_follow: bool,
+}
+
+impl Drop for Row {
+    fn drop(self) {
+        let Row {
+            key: _,
+            versions: _,
+            may_follow: _,
+        } = self;
+    }
 }
 
 impl Model for Row {

@@ -27,9 +27,15 @@ pub enum Bytes {
 }
 
 /// What a version stores: up to 4,096 bytes.
-#[derive(Debug, Drop)]
+#[derive(Debug)]
 pub struct Value {
     bytes: Bytes,
+}
+
+impl Drop for Value {
+    fn drop(self) {
+        let Value { bytes: _ } = self;
+    }
 }
 
 impl Model for Value {

@@ -22,10 +22,16 @@ struct Parts {
 /// stores (Preguiça et al., dotted version vectors, section 4, with an exact set for the vector).
 /// A deletion stores no value, which is told apart from an empty one. Copies share what they say,
 /// and each has the dot in itself: most passes over a row ask for nothing else.
-#[derive(Debug, Drop)]
+#[derive(Debug)]
 pub struct Version {
     dot: Dot,
     parts: Arc<Parts>,
+}
+
+impl Drop for Version {
+    fn drop(self) {
+        let Version { dot: _, parts: _ } = self;
+    }
 }
 
 impl Model for Version {

@@ -17,12 +17,22 @@ pub enum What {
 }
 
 /// An ask: the node asked, the home, what was asked, and how many answers were read before it.
-#[derive(Drop)]
 pub struct Asked {
     pub to: NodeId,
     pub home: NodeId,
     pub what: What,
     pub read: usize,
+}
+
+impl Drop for Asked {
+    fn drop(self) {
+        let Asked {
+            to: _,
+            home: _,
+            what: _,
+            read: _,
+        } = self;
+    }
 }
 
 impl Asked {

@@ -16,10 +16,15 @@ use std::sync::{Mutex, Wait};
 
 /// A transport on the caller's own thread: an ask is answered at once. The nodes lie in the order
 /// of their numbers. Each call locks the node, then the book, and never two nodes.
-#[derive(Drop)]
 pub struct Direct<'a, J: Naming> {
     reach: Reach<'a, J>,
     line: Line<J>,
+}
+
+impl<'a, J: Naming> Drop for Direct<'a, J> {
+    fn drop(self) {
+        let Direct { reach: _, line: _ } = self;
+    }
 }
 
 impl<'a, J: Naming> Model for Direct<'a, J> {

@@ -14,13 +14,24 @@ use std::alloc::Global;
 use std::marker::Model;
 
 /// The trace of one call, with room for all of it.
-#[derive(Drop)]
 pub struct Trail<J: Naming> {
     tries: Vec<Try<J>>,
     asks: Vec<Asked>,
     replies: Vec<Reply<J>>,
     drained: bool,
     room: usize,
+}
+
+impl<J: Naming> Drop for Trail<J> {
+    fn drop(self) {
+        let Trail {
+            tries: _,
+            asks: _,
+            replies: _,
+            drained: _,
+            room: _,
+        } = self;
+    }
 }
 
 impl<J: Naming> Model for Trail<J> {

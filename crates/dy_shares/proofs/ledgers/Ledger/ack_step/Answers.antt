@@ -46,11 +46,11 @@ invariant_of-share-2 g c =
     c.self-2.invariant.1.counted ∙ (ap (λ (a : Account). length a.log) (c.self-2.view_is ∙ told) ∙ length-append log (entry ∷ [])) in
     let latest : c.max-share-inside.result ≡ max s.since c.self-2.inside.steps = search rules in
     let front : c.front.result ≡ c.append.new.self.log = search rules in
-    let more = c.join-2.ensures.other.0 in
-    let long : log ++ entry ∷ more ≡ c.join-2.new.self =
-    sym (append_assoc log (entry ∷ []) more) ∙ (ap (λ xs. xs ++ more) (sym (front ∙ ap (λ (a : Account). a.log) told)) ∙ c.join-2.ensures.other.1) in
+    let more = c.join.ensures.other.0 in
+    let long : log ++ entry ∷ more ≡ c.join.new.self =
+    sym (append_assoc log (entry ∷ []) more) ∙ (ap (λ xs. xs ++ more) (sym (front ∙ ap (λ (a : Account). a.log) told)) ∙ c.join.ensures.other.1) in
     let before = prefix_length s.front c.self.inside.chronicle c.learn.ensures.begins in
-    let begins = subst (λ xs. IsPrefix s.front xs) (sym long) c.join-2.ensures.own in
+    let begins = subst (λ xs. IsPrefix s.front xs) (sym long) c.join.ensures.own in
     let pushed : c.push_reserved.new.self.items ≡ s.spent.items ++ receipts ∷ [] = search rules in
     let latest_is = latest ∙ ap (max s.since) number in
     let acked = session_acked nodes r s.share.index s.since c.max-share-inside.result s.front log (entry ∷ more) old c.args.key.now c.args.dot c.args.w receipts i c.requires.ack latest_is begins (omega arith) (omega (arith, before, i.reached, ap length chronicle)) c.requires.hold in
@@ -61,9 +61,9 @@ invariant_of-share-2 g c =
     ∙ (ap (λ n. s.numbers.acks.items ++ n ∷ []) number
     ∙ (ap (λ xs. xs ++ at ∷ []) c.share.invariant.1.acks_are
     ∙ sym (ap (map number_of) acks ∙ map-append number_of (done_acks s.share.part) (ack_at at step)))) in (
-      subst (λ k. IsSessionShare nodes r k c.max-share-inside.result c.join-2.new.self (told_as (done_acks c.append.new.share.part) c.push_reserved.new.self.items)) (sym index)
-          (subst (λ xs. IsSessionShare nodes r s.share.index c.max-share-inside.result c.join-2.new.self (told_as xs c.push_reserved.new.self.items)) (sym acks)
-          (subst (λ rs. IsSessionShare nodes r s.share.index c.max-share-inside.result c.join-2.new.self (told_as (old.acks ++ ack_at at step) rs)) (sym pushed)
+      subst (λ k. IsSessionShare nodes r k c.max-share-inside.result c.join.new.self (told_as (done_acks c.append.new.share.part) c.push_reserved.new.self.items)) (sym index)
+          (subst (λ xs. IsSessionShare nodes r s.share.index c.max-share-inside.result c.join.new.self (told_as xs c.push_reserved.new.self.items)) (sym acks)
+          (subst (λ rs. IsSessionShare nodes r s.share.index c.max-share-inside.result c.join.new.self (told_as (old.acks ++ ack_at at step) rs)) (sym pushed)
           (subst (λ xs. IsSessionShare nodes r s.share.index c.max-share-inside.result xs (with_ack old at step receipts)) long acked))),
       record { acks_are = numbers; fetches_are = c.share.invariant.1.fetches_are },
     )

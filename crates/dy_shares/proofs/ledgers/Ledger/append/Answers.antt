@@ -93,7 +93,7 @@ invariant_of-self-2 g c =
     (subst (λ (es : List Entry). IsLedger nodes layout (l.steps + length ss) new l.sessions es c.grow.new.self) (sym told)
     (subst (λ (parts : List (List Done)). IsLedger nodes layout (l.steps + length ss) new l.sessions (l.chronicle ++ es) parts) (sym roll)
     (ledger_grown nodes layout l.steps l.acks.items l.sessions l.chronicle l.roll i.1 c.args.told ss new k own acked c.compare.ensures.agree c.requires.seat owned allowed))) in
-    elim c.match-ack-5.branch [
+    elim c.match-ack-3.branch [
       | in-Some w ↦
           let one : acks_of ss ≡ w.in-Some.ack ∷ [] = subst (λ o. MatchOption o (acks_of ss ≡ []) (λ a. acks_of ss ≡ a ∷ [])) w.in-Some.is c.requires.ack in
           let pushed : w.push_reserved.new.self.items ≡ l.acks.items ++ w.in-Some.ack ∷ [] = search rules in
