@@ -22,7 +22,7 @@ words+=(--antt-project "$kit/rattle/logic/antt-project.json" --logic-built "$kit
 words+=(--extern "std=$kit/rlibs/std.rlib" -L "dependency=$kit/rlibs")
 for crate in dy_dots dy_siblings dy_ring dy_preference dy_core dy_index dy_shares dy_book; do
     library=$top/crates/$crate/out/rlib/$crate.rlib
-    # (What stood here before that rt ci began is taken away by it, and what it makes is whole a moment later.)
+    # (What stood here before that rt ci began is taken away by it.)
     while [ -n "$behind" ] && kill -0 "$behind" 2>/dev/null; do
         sleep 3
         if [ -d "$library" ] && [ "$(dirname "$library")" -nt "$folder/src" ]; then
@@ -37,17 +37,26 @@ for crate in dy_dots dy_siblings dy_ring dy_preference dy_core dy_index dy_share
     words+=(--extern "$crate=$library" -L "dependency=$(dirname "$library")")
 done
 
+# Checks the folder's program. (What rt ci makes is whole a moment after its folder stands here.)
+check() {
+    local tries=20
+    until (cd "$folder" && "$kit/bin/rattle" "${words[@]}" "$@") >"$folder/said" 2>&1 ||
+        [ -z "$behind" ] || [ $((tries -= 1)) = 0 ] || ! grep -q 'as after an interrupted copy' "$folder/said"; do
+        sleep 3
+    done
+}
+
 # Says what is wrong with a program's check, and nothing where it is as wanted.
 judge() {
     local program=$here/$1.rt.txt cause error
     cp "$program" "$folder/src/lib.rt" || { echo "there is no such program" && return; }
     if grep -q '^// taken$' "$program"; then
-        (cd "$folder" && "$kit/bin/rattle" "${words[@]}") >"$folder/said" 2>&1
+        check
         grep -q '^logic=proved ' "$folder/said" || { echo "REFUSED" && grep -m 2 error "$folder/said"; }
         return
     fi
     # (All that these are refused for is known before any proof.)
-    (cd "$folder" && "$kit/bin/rattle" "${words[@]}" --only '') >"$folder/said" 2>&1
+    check --only ''
     cause=$(sed -n 's|^// refused: ||p' "$program")
     error=$(grep 'src/lib.rt:[0-9:]* error' "$folder/said")
     if [ -z "$error" ]; then
