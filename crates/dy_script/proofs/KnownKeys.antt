@@ -16,7 +16,7 @@ abbrev pub is_known : List (List ℕ) → List ℕ → Bool
 is_known names key = list_any (λ known. bytes_eq known key) names
 
 -- the names that are behind references are the names
-one_of_names : (names : List (Bor (List ℕ))) (key : List ℕ) → is_one_of names key ≡ is_known (map (λ name. name.now) names) key
+pub one_of_names : (names : List (Bor (List ℕ))) (key : List ℕ) → is_one_of names key ≡ is_known (map (λ name. name.now) names) key
 one_of_names [] key = refl
 one_of_names (n ∷ names) key = ap (λ b. bytes_eq n.now key || b) (one_of_names names key)
 

@@ -1,4 +1,5 @@
 pub mod CommandsRead
+pub mod FieldsRead
 pub mod KnownKeys
 pub mod ListsRead
 pub mod LookUps

@@ -73,7 +73,7 @@ pub(crate) fn fault_of(error: Error) -> Fault
 
 /// Whether each number of the value is in range.
 #[cycle(ranges)]
-pub(crate) fn is_in_range(value: &Value) -> bool
+fn is_in_range(value: &Value) -> bool
     ensures { result ≡ in_range (value_view value.now) }
 {
     match value {

@@ -3,12 +3,14 @@
 
 mod commands;
 mod documents;
+mod fields;
 mod members;
 mod numbers;
 mod orders;
 mod reading;
 mod requests;
 mod scripts;
+mod sources;
 mod streams;
 mod tokens;
 

@@ -3,9 +3,8 @@ ghost use Rattle.std.specs.List.{list_all};
 ghost use Rattle.dy_script.specs.inside.Documents.{view, items_view, members_view};
 ghost use Rattle.dy_script.specs.inside.Keys.{is_one_of};
 ghost use Rattle.serde_json.specs.Find.{get as member_of, as_str, as_bool, as_array, as_object};
-ghost use Rattle.dy_script.specs.Members.{need, optional, seen, allow_only, text, small, flag};
-ghost use Rattle.dy_script.specs.Members.{optional_text, optional_list, optional_whole};
-ghost use Rattle.dy_script.specs.Members.{optional_small, as_whole, as_small};
+ghost use Rattle.dy_script.specs.Members.{need, optional, seen, allow_only, small, flag};
+ghost use Rattle.dy_script.specs.Members.{optional_list, optional_whole, as_whole, as_small};
 
 use crate::documents::WRONG_SCRIPT;
 use crate::numbers::number_of;
@@ -71,24 +70,6 @@ impl<'v, 'a> Members<'v, 'a> {
         }
     }
 
-    /// The text of this name.
-    #[tactic(auto, unfolding(crate::specs::Members::text))]
-    pub(crate) fn text(&self, name: &str) -> Result<&'a str, Fault>
-        ensures { seen (λ s. s.now) result
-            ≡ text self.now.command name.now (view self.now.value.now) }
-    {
-        self.need(self.get(name).and_then(text_of))
-    }
-
-    /// The text of this name, where it is there.
-    #[tactic(auto, unfolding(crate::specs::Members::optional_text))]
-    pub(crate) fn optional_text(&self, name: &str) -> Result<Option<&'a str>, Fault>
-        ensures { seen (option_map (λ s. s.now)) result
-            ≡ optional_text self.now.command name.now (view self.now.value.now) }
-    {
-        self.optional(self.get(name).map(text_of))
-    }
-
     /// The elements of the list of this name, where it is there.
     #[tactic(auto, unfolding(crate::specs::Members::optional_list))]
     pub(crate) fn optional_list(&self, name: &str) -> Result<Option<&'v [Value<'a>]>, Fault>
@@ -104,14 +85,6 @@ impl<'v, 'a> Members<'v, 'a> {
         ensures { result ≡ optional_whole self.now.command name.now (view self.now.value.now) }
     {
         self.optional(self.get(name).map(whole_of))
-    }
-
-    /// The whole number from 0 to 255 of this name, where it is there.
-    #[tactic(auto, unfolding(crate::specs::Members::optional_small))]
-    pub(crate) fn optional_small(&self, name: &str) -> Result<Option<u8>, Fault>
-        ensures { result ≡ optional_small self.now.command name.now (view self.now.value.now) }
-    {
-        self.optional(self.get(name).map(small_of))
     }
 
     /// The whole number from 0 to 255 of this name.
@@ -222,7 +195,7 @@ fn has_only(members: &[(&str, Value)], names: &[&str]) -> bool
 }
 
 /// Whether the key is one of the names.
-fn is_one_of(key: &str, names: &[&str]) -> bool
+pub(crate) fn is_one_of(key: &str, names: &[&str]) -> bool
     ensures { result ≡ is_one_of names.now key.now }
 {
     names.iter().any(|name| *name == key)

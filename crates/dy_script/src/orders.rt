@@ -1,4 +1,4 @@
-ghost use Rattle.std.specs.Prelude.{◌≡◌};
+ghost use Rattle.std.specs.Prelude.{◌≡◌, ◌<◌, IfSome};
 ghost use Rattle.std.specs.Vec.{vec_items};
 ghost use Rattle.dy_script.specs.Members.{allow_only};
 ghost use Rattle.dy_script.specs.Orders.{command_parts, write_parts, put_names};
@@ -7,18 +7,99 @@ ghost use Rattle.dy_script.specs.Orders.{bytes_of, value_of, write_of};
 ghost use Rattle.dy_script.specs.Orders.{put_of, delete_of, get_of, set_mode_of, show_of};
 ghost use Rattle.dy_script.specs.Orders.{at_node, command_of};
 ghost use Rattle.dy_script.specs.inside.Documents.{view};
+ghost use Rattle.dy_script.specs.inside.Fields.{place_of, name_at, name_text, source_data};
 ghost use Rattle.dy_script.specs.inside.Readings.{IsReadingOf};
 
 use crate::commands::{Command, Write};
-use crate::members::{Members, whole_of};
 use crate::scripts::MAX_SCRIPT_SESSIONS;
+use crate::sources::{Order, Source};
 use dy_dots::Fault;
 use dy_modes::Mode;
 use json::Value;
 use std::alloc::Global;
 
+/// The name of a member that some command has, in the order of their texts.
+#[derive(Clone, Copy, Debug)]
+pub(crate) enum Name {
+    Context,
+    Do,
+    Key,
+    Mode,
+    Node,
+    Session,
+    Value,
+    Valuehex,
+    W,
+}
+
+/// How many names there are.
+pub(crate) const PLACES: usize = 9;
+
+impl Name {
+    /// The name that has this text.
+    pub(crate) fn named(text: &str) -> Option<Name>
+        ensures { IfSome result (λ name. text.now ≡ name_text name) }
+    {
+        // Those of puts and gets come first.
+        match text {
+            "do" => Some(Name::Do),
+            "key" => Some(Name::Key),
+            "value" => Some(Name::Value),
+            "context" => Some(Name::Context),
+            "session" => Some(Name::Session),
+            "w" => Some(Name::W),
+            "node" => Some(Name::Node),
+            "mode" => Some(Name::Mode),
+            "valuehex" => Some(Name::Valuehex),
+            _ => None,
+        }
+    }
+
+    /// Its place in an object of fields.
+    pub(crate) fn place(self) -> usize
+        ensures place { result ≡ place_of self }
+        ensures within { result < PLACES }
+    {
+        match self {
+            Name::Context => 0,
+            Name::Do => 1,
+            Name::Key => 2,
+            Name::Mode => 3,
+            Name::Node => 4,
+            Name::Session => 5,
+            Name::Value => 6,
+            Name::Valuehex => 7,
+            Name::W => 8,
+        }
+    }
+
+    /// Its text.
+    pub(crate) fn text(self) -> &'static str
+        ensures { result.now ≡ name_text self }
+    {
+        text_at(self.place())
+    }
+}
+
+/// The text of the name at this place.
+pub(crate) fn text_at(place: usize) -> &'static str
+    requires { place < PLACES }
+    ensures { result.now ≡ name_at place }
+{
+    match place {
+        0 => "context",
+        1 => "do",
+        2 => "key",
+        3 => "mode",
+        4 => "node",
+        5 => "session",
+        6 => "value",
+        7 => "valuehex",
+        _ => "w",
+    }
+}
+
 /// The command that the value says, on a ring of so many nodes.
-#[tactic(auto, unfolding(crate::specs::Orders::command_of, crate::specs::Orders::command_named))]
 pub(crate) fn command_of(
     alloc: Global,
     value: &Value,
@@ -27,84 +108,93 @@ pub(crate) fn command_of(
 ) -> Result<Command, Fault>
     ensures { IsReadingOf command_parts result (command_of nodes number (view value.now)) }
 {
-    let members = Members {
-        value,
+    let order = Order {
+        source: Source::Tree(value),
         command: number,
     };
-    let word = members.text("do")?;
+    command_in(alloc, order, nodes)
+}
+
+/// The command that the members say, on a ring of so many nodes.
+#[tactic(auto, unfolding(crate::specs::Orders::command_of, crate::specs::Orders::command_named))]
+pub(crate) fn command_in(alloc: Global, order: Order, nodes: usize) -> Result<Command, Fault>
+    ensures { IsReadingOf command_parts result
+        (command_of nodes order.entry.command (source_data order.entry.source)) }
+{
+    let word = order.text(Name::Do)?;
     match word {
-        "put" => put_of(alloc, members),
-        "delete" => delete_of(alloc, members),
-        "get" => get_of(alloc, members),
-        "fault" => set_mode_of(members, nodes),
-        "show" => show_of(alloc, members, nodes),
-        _ => at_node(word, members, nodes),
+        "put" => put_of(alloc, order),
+        "delete" => delete_of(alloc, order),
+        "get" => get_of(alloc, order),
+        "fault" => set_mode_of(order, nodes),
+        "show" => show_of(alloc, order, nodes),
+        _ => at_node(word, order, nodes),
     }
 }
 
 /// The command of this word that names a node alone.
 #[tactic(auto, unfolding(crate::specs::Orders::at_node))]
-fn at_node(word: &str, members: Members, nodes: usize) -> Result<Command, Fault>
+fn at_node(word: &str, order: Order, nodes: usize) -> Result<Command, Fault>
     ensures { IsReadingOf command_parts result
-        (at_node nodes members.entry.command (view members.entry.value.now) word.now) }
+        (at_node nodes order.entry.command (source_data order.entry.source) word.now) }
 {
     match word {
         "down" => Ok(Command::Down {
-            node: lone_node(members, nodes)?,
+            node: lone_node(order, nodes)?,
         }),
         "up" => Ok(Command::Up {
-            node: lone_node(members, nodes)?,
+            node: lone_node(order, nodes)?,
         }),
         "deliver" => Ok(Command::Deliver {
-            node: lone_node(members, nodes)?,
+            node: lone_node(order, nodes)?,
         }),
         "handoff" => Ok(Command::Handoff {
-            node: lone_node(members, nodes)?,
+            node: lone_node(order, nodes)?,
         }),
         _ => Err(Fault::UnknownCommand {
-            command: members.command,
+            command: order.command,
         }),
     }
 }
 
 /// The node of a command that names nothing else.
 #[tactic(auto, unfolding(crate::specs::Orders::lone_node))]
-fn lone_node(members: Members, nodes: usize) -> Result<usize, Fault>
-    ensures { result ≡ lone_node nodes members.entry.command (view members.entry.value.now) }
+fn lone_node(order: Order, nodes: usize) -> Result<usize, Fault>
+    ensures { result ≡ lone_node nodes order.entry.command (source_data order.entry.source) }
 {
-    members.allow_only(&["do", "node"])?;
-    node_named(members, nodes)
+    order.allow_only(&["do", "node"])?;
+    node_named(order, nodes)
 }
 
 /// The number of the node, which the ring must have.
 #[tactic(auto, unfolding(crate::specs::Orders::node_named))]
-fn node_named(members: Members, nodes: usize) -> Result<usize, Fault>
-    ensures { result ≡ node_named nodes members.entry.command (view members.entry.value.now) }
+fn node_named(order: Order, nodes: usize) -> Result<usize, Fault>
+    ensures { result ≡ node_named nodes order.entry.command (source_data order.entry.source) }
 {
-    match members.get("node").and_then(whole_of) {
+    match order.whole(Name::Node) {
         Some(number) if number < nodes as u64 => Ok(number as usize),
-        _ => Err(members.fault()),
+        _ => Err(order.fault()),
     }
 }
 
 /// The mode that the command names.
 #[tactic(auto, unfolding(crate::specs::Orders::mode_of))]
-fn mode_of(members: Members) -> Result<Mode, Fault>
-    ensures { result ≡ mode_of members.entry.command (view members.entry.value.now) }
+fn mode_of(order: Order) -> Result<Mode, Fault>
+    ensures { result ≡ mode_of order.entry.command (source_data order.entry.source) }
 {
-    match Mode::named(members.text("mode")?) {
+    match Mode::named(order.text(Name::Mode)?) {
         Some(mode) => Ok(mode),
-        None => Err(members.fault()),
+        None => Err(order.fault()),
     }
 }
 
 /// The number of the session, 0 where none is named.
 #[tactic(auto, unfolding(crate::specs::Orders::session_of))]
-fn session_of(members: Members) -> Result<u8, Fault>
-    ensures { result ≡ session_of members.entry.command (view members.entry.value.now) }
+fn session_of(order: Order) -> Result<u8, Fault>
+    ensures { result ≡ session_of order.entry.command (source_data order.entry.source) }
 {
-    match members.optional_small("session")? {
-        Some(number) if number >= MAX_SCRIPT_SESSIONS => Err(members.fault()),
+    match order.optional_small(Name::Session)? {
+        Some(number) if number >= MAX_SCRIPT_SESSIONS => Err(order.fault()),
         Some(number) => Ok(number),
         None => Ok(0),
     }
@@ -112,111 +202,111 @@ fn session_of(members: Members) -> Result<u8, Fault>
 
 /// A put, whose value is a text or hexadecimal digits.
 #[tactic(auto, unfolding(crate::specs::Orders::put_of))]
-fn put_of(alloc: Global, members: Members) -> Result<Command, Fault>
+fn put_of(alloc: Global, order: Order) -> Result<Command, Fault>
     ensures { IsReadingOf command_parts result
-        (put_of members.entry.command (view members.entry.value.now)) }
+        (put_of order.entry.command (source_data order.entry.source)) }
 {
-    allow_put(members)?;
-    let value = value_of(alloc, members)?;
-    let write = write_of(alloc, members)?;
+    allow_put(order)?;
+    let value = value_of(alloc, order)?;
+    let write = write_of(alloc, order)?;
     Ok(Command::Put { write, value })
 }
 
 /// Refuses a member that a put doesn't have.
 #[tactic(auto, unfolding(crate::specs::Orders::put_names))]
-fn allow_put(members: Members) -> Result<(), Fault>
-    ensures { result ≡ allow_only members.entry.command put_names (view members.entry.value.now) }
+fn allow_put(order: Order) -> Result<(), Fault>
+    ensures { result ≡ allow_only order.entry.command put_names (source_data order.entry.source) }
 {
-    members.allow_only(&["do", "key", "value", "valuehex", "context", "session", "w"])
+    order.allow_only(&["do", "key", "value", "valuehex", "context", "session", "w"])
 }
 
 /// A delete, which has no value.
 #[tactic(auto, unfolding(crate::specs::Orders::delete_of))]
-fn delete_of(alloc: Global, members: Members) -> Result<Command, Fault>
+fn delete_of(alloc: Global, order: Order) -> Result<Command, Fault>
     ensures { IsReadingOf command_parts result
-        (delete_of members.entry.command (view members.entry.value.now)) }
+        (delete_of order.entry.command (source_data order.entry.source)) }
 {
-    members.allow_only(&["do", "key", "context", "session", "w"])?;
-    let write = write_of(alloc, members)?;
+    order.allow_only(&["do", "key", "context", "session", "w"])?;
+    let write = write_of(alloc, order)?;
     Ok(Command::Delete { write })
 }
 
 /// A get of a session.
 #[tactic(auto, unfolding(crate::specs::Orders::get_of))]
-fn get_of(alloc: Global, members: Members) -> Result<Command, Fault>
+fn get_of(alloc: Global, order: Order) -> Result<Command, Fault>
     ensures { IsReadingOf command_parts result
-        (get_of members.entry.command (view members.entry.value.now)) }
+        (get_of order.entry.command (source_data order.entry.source)) }
 {
-    members.allow_only(&["do", "key", "session"])?;
-    let session = session_of(members)?;
-    let key = String::from_str(alloc, members.text("key")?)?;
+    order.allow_only(&["do", "key", "session"])?;
+    let session = session_of(order)?;
+    let key = String::from_str(alloc, order.text(Name::Key)?)?;
     Ok(Command::Get { key, session })
 }
 
 /// A node's new mode.
 #[tactic(auto, unfolding(crate::specs::Orders::set_mode_of))]
-fn set_mode_of(members: Members, nodes: usize) -> Result<Command, Fault>
+fn set_mode_of(order: Order, nodes: usize) -> Result<Command, Fault>
     ensures { IsReadingOf command_parts result
-        (set_mode_of nodes members.entry.command (view members.entry.value.now)) }
+        (set_mode_of nodes order.entry.command (source_data order.entry.source)) }
 {
-    members.allow_only(&["do", "node", "mode"])?;
-    let node = node_named(members, nodes)?;
-    let mode = mode_of(members)?;
+    order.allow_only(&["do", "node", "mode"])?;
+    let node = node_named(order, nodes)?;
+    let mode = mode_of(order)?;
     Ok(Command::SetMode { node, mode })
 }
 
 /// A question for what a node holds of a key.
 #[tactic(auto, unfolding(crate::specs::Orders::show_of))]
-fn show_of(alloc: Global, members: Members, nodes: usize) -> Result<Command, Fault>
+fn show_of(alloc: Global, order: Order, nodes: usize) -> Result<Command, Fault>
     ensures { IsReadingOf command_parts result
-        (show_of nodes members.entry.command (view members.entry.value.now)) }
+        (show_of nodes order.entry.command (source_data order.entry.source)) }
 {
-    members.allow_only(&["do", "node", "key"])?;
-    let node = node_named(members, nodes)?;
-    let key = String::from_str(alloc, members.text("key")?)?;
+    order.allow_only(&["do", "node", "key"])?;
+    let node = node_named(order, nodes)?;
+    let key = String::from_str(alloc, order.text(Name::Key)?)?;
     Ok(Command::Show { node, key })
 }
 
 /// The value of a put, given as a text or as hexadecimal digits.
 #[tactic(auto, unfolding(crate::specs::Orders::value_of, crate::specs::Orders::value_given))]
-fn value_of(alloc: Global, members: Members) -> Result<Vec<u8>, Fault>
+fn value_of(alloc: Global, order: Order) -> Result<Vec<u8>, Fault>
     ensures { IsReadingOf vec_items result
-        (value_of members.entry.command (view members.entry.value.now)) }
+        (value_of order.entry.command (source_data order.entry.source)) }
 {
-    let text = members.optional_text("value")?;
-    let digits = members.optional_text("valuehex")?;
+    let text = order.optional_text(Name::Value)?;
+    let digits = order.optional_text(Name::Valuehex)?;
     match (text, digits) {
         (Some(text), None) => Ok(Vec::from_slice(alloc, text.as_bytes())?),
-        (None, Some(digits)) => bytes_of(alloc, members, digits),
-        _ => Err(members.fault()),
+        (None, Some(digits)) => bytes_of(alloc, order, digits),
+        _ => Err(order.fault()),
     }
 }
 
 /// The bytes of hexadecimal digits.
 #[tactic(auto, unfolding(crate::specs::Orders::bytes_of))]
-fn bytes_of(alloc: Global, members: Members, digits: &str) -> Result<Vec<u8>, Fault>
-    ensures { IsReadingOf vec_items result (bytes_of members.entry.command digits.now) }
+fn bytes_of(alloc: Global, order: Order, digits: &str) -> Result<Vec<u8>, Fault>
+    ensures { IsReadingOf vec_items result (bytes_of order.entry.command digits.now) }
 {
     match hex::decode(alloc, digits) {
         Ok(bytes) => Ok(bytes),
         Err(hex::FromHexError::OutOfMemory) => Err(Fault::OutOfMemory),
-        Err(_) => Err(members.fault()),
+        Err(_) => Err(order.fault()),
     }
 }
 
 /// What a put and a delete say beside the value.
 #[tactic(auto, unfolding(crate::specs::Orders::write_of))]
-fn write_of(alloc: Global, members: Members) -> Result<Write, Fault>
+fn write_of(alloc: Global, order: Order) -> Result<Write, Fault>
     ensures { IsReadingOf write_parts result
-        (write_of members.entry.command (view members.entry.value.now)) }
+        (write_of order.entry.command (source_data order.entry.source)) }
 {
-    let session = session_of(members)?;
-    let w = members.optional_small("w")?;
-    let context = match members.optional_text("context")? {
+    let session = session_of(order)?;
+    let w = order.optional_small(Name::W)?;
+    let context = match order.optional_text(Name::Context)? {
         Some(text) => Some(String::from_str(alloc, text)?),
         None => None,
     };
-    let key = String::from_str(alloc, members.text("key")?)?;
+    let key = String::from_str(alloc, order.text(Name::Key)?)?;
     Ok(Write {
         key,
         context,

@@ -5,8 +5,8 @@ ghost use Rattle.dy_script.specs.inside.Readings.{IsReadingOf};
 
 use crate::commands::Command;
 use crate::documents::value_of;
-use crate::members::Members;
-use crate::orders::command_of;
+use crate::orders::{Name, command_in};
+use crate::sources::{Order, Source};
 use dy_dots::Fault;
 use json::{Scratch, Value};
 use std::alloc::Global;
@@ -47,15 +47,15 @@ pub fn read_request(
 fn request_of(alloc: Global, value: &Value, number: u32, nodes: usize) -> Result<Request, Fault>
     ensures { IsReadingOf request_parts result (request_of nodes number (view value.now)) }
 {
-    let members = Members {
-        value,
+    let order = Order {
+        source: Source::Tree(value),
         command: number,
     };
-    match members.text("do")? {
+    match order.text(Name::Do)? {
         "renew" => {
-            members.allow_only(&["do"])?;
+            order.allow_only(&["do"])?;
             Ok(Request::Renew)
         }
-        _ => Ok(Request::Do(command_of(alloc, value, number, nodes)?)),
+        _ => Ok(Request::Do(command_in(alloc, order, nodes)?)),
     }
 }

@@ -6,12 +6,16 @@ ghost use Rattle.dy_script.specs.Orders.{command_parts};
 ghost use Rattle.dy_script.specs.Reading.{script_parts, script_of_text};
 ghost use Rattle.dy_script.specs.inside.Streams.{IsRead, OpensScript, IsOwnScript, IsCommand};
 ghost use Rattle.dy_script.specs.inside.Streams.{AreCommands, IsRun};
+ghost use Rattle.dy_script.specs.inside.Fields.{AreTold, IsField, members_told};
 
 use crate::commands::Command;
-use crate::documents::{MAX_DEPTH, WRONG_SCRIPT, are_members_in_range, fault_of, is_in_range};
-use crate::orders::command_of;
+use crate::documents::{MAX_DEPTH, WRONG_SCRIPT, are_members_in_range, fault_of};
+use crate::fields::{Field, Fields};
+use crate::numbers::number_of;
+use crate::orders::{Name, command_in};
 use crate::reading::script_of;
 use crate::scripts::{MAX_COMMANDS, Script};
+use crate::sources::{Order, Source};
 use dy_dots::Fault;
 use json::{Reader, Scratch, Token, Value};
 use simdutf8::compat::from_utf8;
@@ -121,11 +125,46 @@ fn command_at(
     ensures { IfOk result
         (λ command. IsCommand nodes number reader.old (command_parts command) reader.new) }
 {
-    let value = value_at(alloc, reader, MAX_DEPTH - 2)?;
-    if !is_in_range(&value) {
+    let Some(fields) = fields_at(reader) else {
         return Err(WRONG_SCRIPT);
+    };
+    let order = Order {
+        source: Source::Told(&fields),
+        command: number,
+    };
+    command_in(alloc, order, nodes)
+}
+
+/// The members of the object that comes next, where each is one that some command has.
+fn fields_at<'a>(reader: &mut Reader<'a>) -> Option<Fields<'a>>
+    ensures { IfSome result (λ fields. AreTold reader.old (members_told fields) reader.new) }
+{
+    if !begins_object(reader) {
+        return None;
     }
-    command_of(alloc, &value, number, nodes)
+    let mut fields = Fields::new();
+    'members: loop {
+        match reader.next() {
+            Some(Token::Key(text)) => {
+                let name = Name::named(text)?;
+                let field = field_at(reader)?;
+                fields.set(name, field);
+            }
+            Some(Token::EndObject) => return Some(fields),
+            _ => return None,
+        }
+    }
+}
+
+/// The text or the whole number that comes next.
+fn field_at<'a>(reader: &mut Reader<'a>) -> Option<Field<'a>>
+    ensures { IfSome result (λ field. IsField reader.old field reader.new) }
+{
+    match reader.next() {
+        Some(Token::String(text)) => Some(Field::Text(text)),
+        Some(Token::Number(text)) => Some(Field::Whole(number_of(text)?.as_u64()?)),
+        _ => None,
+    }
 }
 
 /// The value that comes next, nested at most so deep.
