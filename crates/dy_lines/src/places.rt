@@ -1,5 +1,10 @@
+ghost use Rattle.std.specs.Prelude.{◌≡◌, IfSome, Some};
+ghost use Rattle.dy_core.specs.Steps.{place_for};
+ghost use Rattle.dy_lines.specs.Places.{answer_text, place_text};
+
 use crate::listed::Item;
 use dy_core::Place;
+use dy_dots::NodeId;
 use dy_transport::AnswerRead;
 use std::fmt;
 
@@ -8,22 +13,41 @@ use std::fmt;
 pub struct At(pub Place);
 
 impl fmt::Display for At {
-    ghost use Rattle.std.specs.Prelude.{Some};
-    ghost use Rattle.dy_lines.specs.Places.{place_text};
-
     ghost output = { λ at. Some (place_text at.0) };
 
     fn fmt<W: fmt::Write>(&self, f: &mut fmt::Formatter<W>) -> fmt::Result {
         let Place { holder, home } = self.0;
+        if holder == home {
+            if let Some(text) = own(home) {
+                return f.write_str(text);
+            }
+        }
         fmt::Display::fmt(&holder, f)?;
         f.write_str("/")?;
         fmt::Display::fmt(&home, f)
     }
 }
 
-impl Item for Place {
-    ghost use Rattle.dy_lines.specs.Places.{place_text};
+// The text of the node's own place, where its number has one digit.
+fn own(node: NodeId) -> Option<&'static str>
+    ensures { IfSome result (λ text. text.now ≡ place_text (place_for node node)) }
+{
+    match node.number() {
+        0 => Some("0/0"),
+        1 => Some("1/1"),
+        2 => Some("2/2"),
+        3 => Some("3/3"),
+        4 => Some("4/4"),
+        5 => Some("5/5"),
+        6 => Some("6/6"),
+        7 => Some("7/7"),
+        8 => Some("8/8"),
+        9 => Some("9/9"),
+        _ => None,
+    }
+}
 
+impl Item for Place {
     ghost text = { place_text };
 
     fn write<W: fmt::Write>(&self, f: &mut fmt::Formatter<W>) -> fmt::Result {
@@ -32,8 +56,6 @@ impl Item for Place {
 }
 
 impl Item for AnswerRead {
-    ghost use Rattle.dy_lines.specs.Places.{answer_text};
-
     ghost text = { answer_text };
 
     fn write<W: fmt::Write>(&self, f: &mut fmt::Formatter<W>) -> fmt::Result {
