@@ -1,5 +1,5 @@
 -- Every text of runs is read.
-use Rattle.std.proofs.Common.{◌≡◌, ℕ, ◌+◌, ◌-◌, ◌*◌, ◌/◌, ◌%◌, ◌≤◌, ◌==◌, Bool, true, false, not, List, [], ◌∷◌, ◌++◌, refl, sym, ap, ◌∙◌, arith, nat_eq, subst, Option, Some, None, codes, decimal, append_assoc, if◌then◌else◌, Result, Ok, Err, inl, inr}
+use Rattle.std.proofs.Common.{◌≡◌, ◌↔◌, ℕ, ◌+◌, ◌-◌, ◌*◌, ◌/◌, ◌%◌, ◌≤◌, ◌==◌, Bool, IsTrue, true, false, not, List, [], ◌∷◌, ◌++◌, refl, sym, ap, ◌∙◌, arith, nat_eq, subst, Option, Some, None, codes, decimal, append_assoc, if◌then◌else◌, Result, Ok, Err, inl, inr}
 use Rattle.std.proofs.lemmas.Bool.{not-true, not-false, eqb-true, lt-ltb, le-leb}
 use Rattle.std.proofs.lemmas.Fmt.{decimal_by_steps}
 use Rattle.std.specs.FinSet as set
@@ -95,7 +95,7 @@ text_reads r rest small =
     ∙ ap (λ b. if b then read_from [] r.node None 0 (run_text r ++ later_text r.node rest) else None) (lt-ltb r.node 32 small.0.0)
     ∙ later_reads [] r rest small
 
-no_true : false ≡ true → ⊥
+pub no_true : false ≡ true → ⊥
 no_true e = cc
 
 -- what reading a spelling of a set that a text may name comes to
@@ -125,11 +125,9 @@ found_runs bytes rs e is =
     let kept = allowed_kept rs e in
     (record { runs = rs; are_runs = own_runs rs kept.apart; are_dots = kept_dots rs _ kept refl; bytes_are = is }, allowed_readable rs e)
 
-pub same_text : (a b : List ℕ) (r : Bool) → r ≡ not (pointwise nat_eq a b) → r ≡ false → a ≡ b
-same_text a b r is e = (bytes_decides a b).0 (not-false _ (sym is ∙ e))
-
-pub other_text : (a b : List ℕ) (r : Bool) → r ≡ not (pointwise nat_eq a b) → r ≡ true → a ≡ b → ⊥
-other_text a b r is e same = no_true (sym (not-true _ (sym is ∙ e)) ∙ (bytes_decides a b).1 same)
+-- a comparison with what is the text decides whether the other is the text
+pub decided : (text bytes other : List ℕ) (r : Bool) → bytes ≡ text → r ≡ pointwise nat_eq bytes other → IsTrue r ↔ (text ≡ other)
+decided text bytes other r is compared = (λ yes. sym is ∙ (bytes_decides bytes other).0 (sym compared ∙ yes), λ same. compared ∙ (bytes_decides bytes other).1 (is ∙ same))
 
 dash : (bytes : List ℕ) → pointwise nat_eq bytes (45 ∷ []) ≡ true → bytes ≡ codes "-"
 dash bytes e = (bytes_decides bytes (45 ∷ [])).0 e

@@ -52,9 +52,13 @@ dot_code =
 abbrev pub dot_set_code : Coded DotSet
 dot_set_code = set.code dot_code
 
+-- the head of a dot of the node: the letter n, the node's number, and a colon
+abbrev pub head_text : ℕ → List ℕ
+head_text node = codes "n" ++ decimal node ++ codes ":"
+
 -- a dot is printed as n, its node, a colon and its counter
 abbrev pub dot_text : DotNumbers → List ℕ
-dot_text d = codes "n" ++ decimal d.node ++ codes ":" ++ decimal d.counter
+dot_text d = head_text d.node ++ decimal d.counter
 
 -- a dot put in its place among dots that rise
 abbrev pub placed : DotNumbers → List DotNumbers → List DotNumbers

@@ -152,8 +152,7 @@ impl Context {
         if !texts::are_allowed(runs.as_slice()) {
             return Err(Fault::ContextSyntax);
         }
-        let again = texts::text_of(alloc, runs.as_slice())?;
-        if again.as_str() != text {
+        if !texts::is_text_of(alloc, runs.as_slice(), text)? {
             return Err(Fault::ContextSyntax);
         }
         Ok(Context { runs })

@@ -6,7 +6,7 @@ ghost use Rattle.std.proofs.Common.{rules};
 ghost use Rattle.dy_dots.specs.Dots.{DotNumbers, dot_cmp, dot_code, dot_text, IsDot};
 ghost use Rattle.dy_dots.specs.declared.dots.TheConstants.{MAX_COUNTER};
 
-use crate::nodes::NodeId;
+use crate::nodes::{self, NodeId};
 use std::cmp::Ordering;
 use std::fmt;
 use std::marker::Model;
@@ -96,6 +96,7 @@ impl fmt::Display for Dot {
     ghost output = { λ dot. Some (dot_text dot) };
 
     fn fmt<W: fmt::Write>(&self, f: &mut fmt::Formatter<W>) -> fmt::Result {
-        write!(f, "n{}:{}", self.node, self.counter)
+        nodes::print_head(self.node, f)?;
+        fmt::Display::fmt(&self.counter, f)
     }
 }

@@ -1,4 +1,6 @@
 ghost use Rattle.std.specs.Prelude.{◌≡◌, ℕ, ◌<◌, ◌↔◌, IsSome, IfSome, Some, decimal};
+ghost use Rattle.std.specs.Fmt.{DisplaysOnOk};
+ghost use Rattle.dy_dots.specs.Dots.{head_text};
 ghost use Rattle.dy_dots.specs.declared.nodes.TheConstants.{MAX_NODES};
 
 use std::fmt;
@@ -55,22 +57,40 @@ impl NodeId {
     }
 }
 
-// The text of a number of one digit.
-fn digit(number: u8) -> Option<&'static str>
-    ensures { IfSome result (λ text. text.now ≡ decimal number) }
+// The texts of a number of one digit: by itself, and at the head of a dot.
+#[derive(Clone, Copy)]
+struct DigitTexts {
+    digit: &'static str,
+    head: &'static str,
+}
+
+// The texts of a number, where it has one digit.
+fn digit_texts(number: u8) -> Option<DigitTexts>
+    ensures { IfSome result (λ texts.
+        (texts.digit.now ≡ decimal number) × (texts.head.now ≡ head_text number)) }
 {
     match number {
-        0 => Some("0"),
-        1 => Some("1"),
-        2 => Some("2"),
-        3 => Some("3"),
-        4 => Some("4"),
-        5 => Some("5"),
-        6 => Some("6"),
-        7 => Some("7"),
-        8 => Some("8"),
-        9 => Some("9"),
+        0 => Some(DigitTexts { digit: "0", head: "n0:" }),
+        1 => Some(DigitTexts { digit: "1", head: "n1:" }),
+        2 => Some(DigitTexts { digit: "2", head: "n2:" }),
+        3 => Some(DigitTexts { digit: "3", head: "n3:" }),
+        4 => Some(DigitTexts { digit: "4", head: "n4:" }),
+        5 => Some(DigitTexts { digit: "5", head: "n5:" }),
+        6 => Some(DigitTexts { digit: "6", head: "n6:" }),
+        7 => Some(DigitTexts { digit: "7", head: "n7:" }),
+        8 => Some(DigitTexts { digit: "8", head: "n8:" }),
+        9 => Some(DigitTexts { digit: "9", head: "n9:" }),
         _ => None,
+    }
+}
+
+// Prints the head of the node's dots in one piece, where it can.
+pub(crate) fn print_head<W: fmt::Write>(node: NodeId, f: &mut fmt::Formatter<W>) -> fmt::Result
+    ensures { DisplaysOnOk W.write_str_gives f.old result (Some (head_text node)) f.new }
+{
+    match digit_texts(node.number) {
+        Some(texts) => f.write_str(texts.head),
+        None => write!(f, "n{}:", node.number),
     }
 }
 
@@ -78,8 +98,8 @@ impl fmt::Display for NodeId {
     ghost output = { λ node. Some (decimal node) };
 
     fn fmt<W: fmt::Write>(&self, f: &mut fmt::Formatter<W>) -> fmt::Result {
-        match digit(self.number) {
-            Some(text) => f.write_str(text),
+        match digit_texts(self.number) {
+            Some(texts) => f.write_str(texts.digit),
             None => fmt::Display::fmt(&self.number, f),
         }
     }

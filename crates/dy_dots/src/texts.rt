@@ -1,4 +1,4 @@
-ghost use Rattle.std.specs.Prelude.{◌≡◌, Some, None, IfOk, IfErr, string_bytes};
+ghost use Rattle.std.specs.Prelude.{◌≡◌, ◌↔◌, Some, None, IfOk, IfErr, IsTrue, string_bytes};
 ghost use Rattle.std.specs.Fmt.{DisplaysOnOk};
 ghost use Rattle.dy_dots.specs.Spelling.{runs_text};
 ghost use Rattle.dy_dots.specs.inside.Reading.{all_allowed, allowed, read_runs, IsUnread};
@@ -6,13 +6,18 @@ ghost use Rattle.dy_dots.specs.declared.texts.TheConstants.{MAX_CONTEXT_DOTS};
 
 use crate::dots::MAX_COUNTER;
 use crate::faults::Fault;
-use crate::nodes::{MAX_NODES, NodeId};
+use crate::nodes::{self, MAX_NODES, NodeId};
 use crate::runs::{Run, Runs};
+use arrayvec::ArrayString;
 use std::alloc::{AllocError, Global};
 use std::fmt;
+use std::fmt::Write;
 
 /// How many dots a text names at most.
 pub const MAX_CONTEXT_DOTS: u32 = 100_000;
+
+// How many bytes of a text are compared in place, at most.
+const SHORT_TEXT_BYTES: usize = 64;
 
 /// Prints the text of runs that rise.
 pub(crate) fn print_runs<W: fmt::Write>(runs: &[Run], f: &mut fmt::Formatter<W>) -> fmt::Result
@@ -22,7 +27,8 @@ pub(crate) fn print_runs<W: fmt::Write>(runs: &[Run], f: &mut fmt::Formatter<W>)
         return f.write_str("-");
     };
     let mut node = first.node;
-    write!(f, "n{node}:{first}")?;
+    nodes::print_head(node, f)?;
+    fmt::Display::fmt(first, f)?;
     for run in rest {
         if run.node == node {
             write!(f, ",{run}")?;
@@ -51,6 +57,20 @@ pub(crate) fn text_of(alloc: Global, runs: &[Run]) -> Result<String, AllocError>
     ensures { IfOk result (λ text. string_bytes text ≡ runs_text runs.now) }
 {
     Printed(runs).to_string(alloc)
+}
+
+/// Whether this is the text of the runs. A short one is compared in place.
+pub(crate) fn is_text_of(alloc: Global, runs: &[Run], text: &str) -> Result<bool, AllocError>
+    ensures { IfOk result (λ is. IsTrue is ↔ (runs_text runs.now ≡ text.now)) }
+{
+    let mut short = ArrayString::<SHORT_TEXT_BYTES>::new();
+    match write!(short, "{}", Printed(runs)) {
+        Ok(()) => Ok(short.as_str() == text),
+        Err(_) => {
+            let long = text_of(alloc, runs)?;
+            Ok(long.as_str() == text)
+        }
+    }
 }
 
 /// The runs that the bytes name, perhaps by other words than their own text.

@@ -3,7 +3,7 @@ use Rattle.std.proofs.Common.{ap, ◌∙◌, sym, inl, inr, refl, ◌⊎◌}
 use Rattle.dy_dots.specs.Spelling.{runs_text}
 use Rattle.dy_dots.specs.inside.Reading.{all_allowed, read_runs}
 use Rattle.dy_dots.proofs.Sizes.{allowed_kept}
-use Rattle.dy_dots.proofs.Readings.{not_dash, found_empty, refused_unread, refused_unfit, refused_other, found_runs, same_text, other_text}
+use Rattle.dy_dots.proofs.Readings.{not_dash, found_empty, refused_unread, refused_unfit, refused_other, found_runs, no_true}
 use Rattle.dy_dots.proofs.contexts.Context.read_text.Goals as goal
 
 pub returns-then-eq-clause-found : goal.returns-then-eq-clause-found
@@ -27,14 +27,14 @@ returns-then-not-are_allowed-clause-refused c =
           (ap (all_allowed 0 0 100000) (sym c.as_slice.ensures) ∙ sym c.are_allowed.ensures ∙ c.if-not-are_allowed.true),
     )
 
-pub returns-then-ne-clause-refused : goal.returns-then-ne-clause-refused
-returns-then-ne-clause-refused c =
+pub returns-then-not-branch-clause-refused : goal.returns-then-not-branch-clause-refused
+returns-then-not-branch-clause-refused c =
     inr (
       refl,
       refused_other c.args.text.now c.in-Ok.runs.items (not_dash _ (sym c.eq.ensures ∙ c.if-eq.false))
           (ap read_runs (sym c.as_bytes.ensures.value) ∙ c.in-Ok.ensures.found)
-          (λ same. other_text c.as_str.result.now c.args.text.now c.ne.result c.ne.ensures c.if-ne.true
-          (c.as_str.ensures.value ∙ c.in_ok-again.ensures ∙ ap runs_text c.as_slice-2.ensures ∙ same)),
+          (λ same. no_true (sym c.if-not-branch.true
+          ∙ c.in_ok-is_text_of.ensures.1 (ap runs_text c.as_slice-2.ensures ∙ same))),
     )
 
 pub invariant_of-result : goal.invariant_of-result
@@ -44,5 +44,4 @@ invariant_of-result c =
 pub returns-clause-found : goal.returns-clause-found
 returns-clause-found c =
     found_runs c.args.text.now c.in-Ok.runs.items (ap (all_allowed 0 0 100000) (sym c.as_slice.ensures) ∙ sym c.are_allowed.ensures ∙ c.if-not-are_allowed.false)
-    (sym (same_text c.as_str.result.now c.args.text.now c.ne.result c.ne.ensures c.if-ne.false)
-    ∙ c.as_str.ensures.value ∙ c.in_ok-again.ensures ∙ ap runs_text c.as_slice-2.ensures)
+    (sym (c.in_ok-is_text_of.ensures.0 c.if-not-branch.false) ∙ ap runs_text c.as_slice-2.ensures)
