@@ -3,6 +3,7 @@ ghost use Rattle.std.specs.Prelude.{IsOkUnless};
 ghost use Rattle.dy_siblings.specs.Siblings.{without};
 ghost use Rattle.dy_siblings.specs.inside.Lists.{items_of};
 
+use crate::merging;
 use crate::versions::Version;
 use dy_dots::{Dot, Fault};
 use std::alloc::Global;
@@ -33,6 +34,18 @@ impl Versions {
             return Versions::Many(many);
         }
         Versions::Few(many.pop())
+    }
+
+    /// A copy.
+    pub(crate) fn try_clone(&self, alloc: Global) -> Result<Versions, Fault>
+        ensures value { IfOk result (λ copy. items_of copy ≡ items_of self.now) }
+        ensures memory { IsOkUnless result Fault.OutOfMemory }
+    {
+        match self {
+            Versions::Few(Some(one)) => Ok(Versions::Few(Some(one.try_clone(alloc)?))),
+            Versions::Few(None) => Ok(Versions::Few(None)),
+            Versions::Many(many) => merging::copied(alloc, many.as_slice()),
+        }
     }
 
     /// Puts the version at this place among the others.

@@ -282,15 +282,9 @@ impl Row {
         ensures valid { IfOk result (λ row. IsSiblingSet row.key row.versions) }
         ensures memory { IsOkUnless result Fault.OutOfMemory }
     {
-        // Most rows have one version, whose key is the row's.
-        if let Versions::Few(Some(version)) = &self.versions {
-            let copy = version.try_clone(alloc)?;
-            let row = Row::of(alloc, copy)?;
-            return Ok(row);
-        }
         Ok(Row {
             key: self.key.try_clone(alloc)?,
-            versions: merging::copied(alloc, self.versions.as_slice())?,
+            versions: self.versions.try_clone(alloc)?,
             may_follow: self.may_follow,
         })
     }
