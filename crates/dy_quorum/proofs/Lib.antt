@@ -1,3 +1,4 @@
 pub mod Firsts
 pub mod Choices
 pub mod Homes
+pub mod Keeping

@@ -1,5 +1,5 @@
 ghost use Rattle.std.specs.Prelude.{◌≡◌, ◌<◌, ◌≤◌, ◌++◌, ◌∷◌, [], ◌↔◌, ℕ, length, IsTrue, IfOk};
-ghost use Rattle.std.specs.Prelude.{IsOkUnless, MatchBool, vec_capacity};
+ghost use Rattle.std.specs.Prelude.{IsOkUnless, MatchBool};
 ghost use Rattle.dy_dots.specs.declared.nodes.TheConstants.{MAX_NODES};
 ghost use Rattle.dy_quorum.specs.Tallies.{Counted, Agrees, DoAgree, FitsAll, IsChoice, CanChoose};
 ghost use Rattle.dy_quorum.specs.declared.tallies.TheConstants.{MAX_RECEIPTS};
@@ -25,11 +25,10 @@ pub struct Tally<J: Naming> {
     room: usize,
     added: Vec<Receipt<J>>,
     homes: Homes,
-    chosen: Vec<Receipt<J>>,
 }
 
 impl<J: Naming> Model for Tally<J> {
-    ghost use Rattle.std.specs.Prelude.{◌≡◌, ◌<◌, ◌≤◌, [], length, map, vec_capacity};
+    ghost use Rattle.std.specs.Prelude.{◌≡◌, ◌<◌, ◌≤◌, length, map, vec_capacity};
     ghost use Rattle.std.specs.List.{All};
     ghost use Rattle.dy_dots.specs.declared.nodes.TheConstants.{MAX_NODES};
     ghost use Rattle.dy_quorum.specs.Tallies.{Counted, DoAgree};
@@ -46,8 +45,6 @@ impl<J: Naming> Model for Tally<J> {
         × (length t.added.items ≤ t.room)
         × (t.room ≤ vec_capacity t.added)
         × All (λ r. r.home < MAX_NODES) t.added.items
-        × (t.room ≤ vec_capacity t.chosen)
-        × (t.chosen.items ≡ [])
         × DoAgree t.added.items };
 }
 
@@ -70,27 +67,28 @@ fn all_agree<J: Naming>(list: &[Receipt<J>], receipt: &Receipt<J>) -> bool
     true
 }
 
-// The first receipt of each home, in their order.
-fn first_of_each<J: Naming>(added: Vec<Receipt<J>>, mut chosen: Vec<Receipt<J>>) -> Vec<Receipt<J>>
-    requires chosen { length added.items ≤ vec_capacity chosen }
-    requires empty { chosen.items ≡ [] }
+// Leaves the first receipt of each home, in their order.
+fn first_of_each<J: Naming>(mut added: Vec<Receipt<J>>) -> Vec<Receipt<J>>
     ensures { result.items ≡ firsts added.items }
 {
     let mut homes = Homes::new();
-    for receipt in added {
-        let home = receipt.home();
+    let mut at = 0;
+    while at < added.len() {
+        let home = added[at].home();
         // It is a node's, so there are no more homes than places.
         let _number = home.number();
-        if !homes.contains(&home) {
+        if homes.contains(&home) {
+            added.remove(at);
+        } else {
             homes.push(home);
-            chosen.push_reserved(receipt);
+            at += 1;
         }
     }
-    chosen
+    added
 }
 
 impl<J: Naming> Tally<J> {
-    /// No receipts yet, of a put that needs w homes, and room for 64 of them and for the choice.
+    /// No receipts yet, of a put that needs w homes, and room for 64 of them.
     pub fn new(alloc: Global, w: usize) -> Result<Tally<J>, Fault>
         ensures memory { IsOkUnless result Fault.OutOfMemory }
         ensures value { IfOk result (λ t. t ≡ record { w = w; room = MAX_RECEIPTS; added = [] }) }
@@ -98,19 +96,17 @@ impl<J: Naming> Tally<J> {
         Tally::with_room(alloc, w, MAX_RECEIPTS)
     }
 
-    /// The same, with room for so many of them and for the choice.
+    /// The same, with room for so many of them.
     pub fn with_room(alloc: Global, w: usize, room: usize) -> Result<Tally<J>, Fault>
         ensures memory { IsOkUnless result Fault.OutOfMemory }
         ensures value { IfOk result (λ t. t ≡ record { w = w; room = room; added = [] }) }
     {
         let added = Vec::with_capacity(alloc, room)?;
-        let chosen = Vec::with_capacity(alloc, room)?;
         Ok(Tally {
             w,
             room,
             added,
             homes: Homes::new(),
-            chosen,
         })
     }
 
@@ -172,9 +168,8 @@ impl<J: Naming> Tally<J> {
             room: _,
             added,
             homes: _,
-            chosen,
         } = self;
-        let mut first = first_of_each(added, chosen);
+        let mut first = first_of_each(added);
         first.truncate(w);
         first
     }

@@ -37,9 +37,9 @@ invariant_of-self g c =
     let small = All-push (λ (r : ReceiptParts). r.home < MAX_NODES) c.self.inside.added.items c.args.receipt inv.4 node in
     rw (c.push_reserved.ensures.items, c.push_reserved.ensures.capacity) (elim c.if-not-contains.branch [
       | then-not-contains w ↦ rw (w.self-inside-is)
-          (rw (w.push.ensures.items, c.home-home.ensures) (homes_more (λ (r : ReceiptParts). r.home) c.self.inside.added.items c.args.receipt _ inv.0 (sym tested ∙ w.if-not-contains.true)), count_push _ _ inv.1 fits, omega arith, inv.3, small, inv.5, inv.6, agree_more _ _ inv.7 fits)
+          (rw (w.push.ensures.items, c.home-home.ensures) (homes_more (λ (r : ReceiptParts). r.home) c.self.inside.added.items c.args.receipt _ inv.0 (sym tested ∙ w.if-not-contains.true)), count_push _ _ inv.1 fits, omega arith, inv.3, small, agree_more _ _ inv.5 fits)
       | else-not-contains w ↦ rw (w.self-inside-is)
-          (homes_same (λ (r : ReceiptParts). r.home) c.self.inside.added.items c.args.receipt _ inv.0 (sym tested ∙ w.if-not-contains.false), count_push _ _ inv.1 fits, omega arith, inv.3, small, inv.5, inv.6, agree_more _ _ inv.7 fits)
+          (homes_same (λ (r : ReceiptParts). r.home) c.self.inside.added.items c.args.receipt _ inv.0 (sym tested ∙ w.if-not-contains.false), count_push _ _ inv.1 fits, omega arith, inv.3, small, agree_more _ _ inv.5 fits)
     ])
 
 -- so do those with one more
@@ -49,6 +49,6 @@ returns-clause-agree g c =
     let Q : Counted → Type 0 = λ t. FitsAll t.added c.args.receipt in
     let fits : FitsAll c.self.inside.added.items c.args.receipt = subst Q (sym c.self.view_is) c.requires.fits in
     rw c.push_reserved.ensures.items (elim c.if-not-contains.branch [
-      | then-not-contains w ↦ rw (w.self-inside-is) (agree_more _ _ inv.7 fits)
-      | else-not-contains w ↦ rw (w.self-inside-is) (agree_more _ _ inv.7 fits)
+      | then-not-contains w ↦ rw (w.self-inside-is) (agree_more _ _ inv.5 fits)
+      | else-not-contains w ↦ rw (w.self-inside-is) (agree_more _ _ inv.5 fits)
     ])

@@ -14,4 +14,4 @@ pub returns-clause-agree : goal.returns-clause-agree
 returns-clause-agree g c =
     let P : Counted → Type 0 = λ t. DoAgree t.added in
     let chosen = returns-clause-choice g c in
-    agree_among _ _ (subst P c.self.view_is c.self.invariant.7) chosen.among
+    agree_among _ _ (subst P c.self.view_is c.self.invariant.5) chosen.among
