@@ -1,3 +1,4 @@
+pub mod Hashing
 pub mod Leads
 pub mod Words
 pub mod Lones

@@ -1,11 +1,13 @@
 ghost use Rattle.std.specs.Prelude.{◌≡◌, ◌<◌, ◌≤◌, ◌==◌, ◌⊎◌, ◌↔◌, ℕ, List, length};
 ghost use Rattle.std.specs.Prelude.{IfOk, IfErr, IfSome, IfNone, IsErrOf, IsOk, IsOkUnless, IsSome};
 ghost use Rattle.std.specs.Cmp.{partial_order_from_own_ties};
-ghost use Rattle.std.specs.Cmp.Lexicographic.{pointwise, slice_cmp};
+ghost use Rattle.std.specs.Cmp.Lexicographic.{bytes_decides, pointwise, slice_cmp};
 ghost use Rattle.std.specs.Cmp.Rules.{comparing};
+ghost use Rattle.std.specs.Hash.{same_Alike};
 ghost use Rattle.std.specs.Ordering.{nat_cmp, as_partial_cmp};
 ghost use Rattle.std.proofs.Common.{rules};
 ghost use Rattle.dy_siblings.specs.Sizes.{IsKey};
+ghost use Rattle.dy_siblings.specs.inside.Hashed.{hashed};
 ghost use Rattle.dy_siblings.specs.inside.Leads.{AreBytes, IsKeyOf, bytes_of, front_of};
 ghost use Rattle.dy_siblings.specs.declared.keys.TheConstants.{MAX_KEY_BYTES, SHORT_KEY_BYTES};
 
@@ -15,6 +17,7 @@ use crate::{fronts, long_keys};
 use dy_dots::Fault;
 use std::alloc::Global;
 use std::cmp::Ordering;
+use std::hash::{Hash, Hasher};
 use std::marker::Model;
 use std::sync::Arc;
 
@@ -182,6 +185,21 @@ impl PartialEq for Key {
 
 impl Eq for Key {
     ghost laws = { Prim.search (comparing, rules) };
+}
+
+// A hasher takes sixteen bytes at a time, so that a short key is one step of it.
+impl Hash for Key {
+    ghost hash_input = { hashed };
+
+    ghost respects_eq = { (same_Alike hashed bytes_decides).fed };
+
+    #[inline(always)]
+    fn hash<H: Hasher>(&self, state: &mut H) {
+        match self.front() {
+            Some(front) => state.write(&front[..]),
+            None => state.write(self.as_bytes()),
+        }
+    }
 }
 
 impl Ord for Key {
