@@ -1,16 +1,13 @@
 -- A row that is merged into what is kept of its key.
 use Rattle.std.proofs.Common.{◌≡◌, ◌<◌, ℕ, Bool, true, false, ◌||◌, not, cond, List, [], ◌∷◌, length, Option, None, Some, arith}
 use Rattle.std.proofs.Common.{IsSome, IfSome, inr, refl, sym, ap, ◌∙◌, subst}
-use Rattle.std.specs.Ordering.{nat_cmp}
-use Rattle.std.specs.Cmp.Lexicographic.{slice_cmp}
 use Rattle.std.specs.List.{Contains}
-use Rattle.std.specs.BTreeMap.{is_at}
 use Rattle.std.specs.Map.{lookup}
 use Rattle.std.specs.FinMap as maps
 use Rattle.std.specs.FinSet as set
 use Rattle.std.proofs.lemmas.Bool.{true≢false}
 use Rattle.dy_dots.specs.Dots.{DotNumbers, same_dot}
-use Rattle.dy_siblings.specs.Siblings.{IsFollower, Siblings, merge, without}
+use Rattle.dy_siblings.specs.Siblings.{IsFollower, Siblings, merge, same_key, without}
 use Rattle.dy_siblings.specs.Versions.{VersionParts}
 use Rattle.dy_siblings.proofs.Members.{not_in_nil}
 use Rattle.dy_node_store.specs.Rows.{Rows, with_versions, without_dots, IsRowOf}
@@ -19,7 +16,7 @@ use Rattle.dy_node_store.specs.inside.Entries.{AreRows}
 use Rattle.dy_node_store.specs.declared.placed.Placed.{Placed}
 use Rattle.dy_node_store.specs.declared.placed.Placed.TheVariants.{Nothing, New, Over, Beside}
 use Rattle.dy_node_store.proofs.Maps.{insert_present}
-use Rattle.dy_node_store.proofs.RowLemmas.{IsRowOf-lookup, with_versions_filled}
+use Rattle.dy_node_store.proofs.RowLemmas.{with_versions_filled}
 
 -- there is a row, or there is none
 pub not_none : {X : Type 0} (x : X) → Some x ≡ None → ⊥
@@ -27,9 +24,9 @@ not_none x is = let both : false ≡ true = subst IsSome is refl in cc
 
 -- what is found at a key is a row of it
 pub found_row : (es : List (List ℕ × Siblings)) (k key : List ℕ) (row : Siblings) → AreRows es →
-    k ≡ key → lookup (is_at (slice_cmp nat_cmp k)) es ≡ Some row → IsRowOf key row
+    k ≡ key → lookup (same_key k) es ≡ Some row → IsRowOf key row
 found_row es k key row rows same there = subst (λ j. IsRowOf j row) same
-    (subst (λ o. IfSome o (IsRowOf k)) there (IsRowOf-lookup es k rows))
+    (subst (λ o. IfSome o (IsRowOf k)) there (rows.at k))
 
 first_of_both : {X : Type 0} (x y : X) → x ∷ [] ≡ y ∷ [] → x ≡ y
 first_of_both x y is = cc

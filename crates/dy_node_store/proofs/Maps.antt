@@ -1,4 +1,4 @@
--- A map of the kit, by its entries, as a finite map from the bytes of keys.
+-- An ordered map of the kit, by its entries, as a finite map from the bytes of keys.
 use Rattle.std.proofs.Common.{◌≡◌, ℕ, T, Bool, true, false, ◌&&◌, cond, List, [], ◌∷◌, Option, Some, None, refl, sym, ap, ◌∙◌}
 use Rattle.std.specs.declared.cmp.Ordering.TheVariants.{Less}
 use Rattle.std.specs.Ordering.{nat_cmp, eq_by_cmp}
@@ -7,7 +7,7 @@ use Rattle.std.specs.Cmp.Lexicographic.{slice_cmp, nat_list_cmp_total}
 use Rattle.std.specs.BTreeMap.{is_at}
 use Rattle.std.specs.List.{AllByRecursion}
 use Rattle.std.specs.List.Sorted.{IsStrictlySortedBy}
-use Rattle.std.specs.Map.{keys_of, lookup, remove_entry, set_value}
+use Rattle.std.specs.Map.{keys_of, lookup}
 use Rattle.std.specs.FinMap as maps
 use Rattle.std.specs.FinMap.Entries.{below_all, is_sorted, same_entries}
 use Rattle.std.proofs.lemmas.Map.Lookups.{exact_bytes}
@@ -42,11 +42,6 @@ module _ {X : Type 0} where
   inserted es fs k v answers = maps.same_map nat_list_cmp_total exact_bytes _ _ (λ q.
       get_lookup fs q ∙ answers q ∙ turned es k (Some v) q ∙ sym (maps.get-insert nat_list_cmp_total (maps.from_entries es) k v q))
 
-  -- entries that answer none at k are the map without it
-  pub removed : (es fs : List (List ℕ × X)) (k : List ℕ) → Answers es fs k None → maps.from_entries {R = slice_cmp nat_cmp} fs ≡ maps.remove (maps.from_entries es) k
-  removed es fs k answers = maps.same_map nat_list_cmp_total exact_bytes _ _ (λ q.
-      get_lookup fs q ∙ answers q ∙ turned es k None q ∙ sym (maps.get-remove nat_list_cmp_total (maps.from_entries es) k q))
-
   below_all_later : (x : List ℕ) (es : List (List ℕ × X)) → AllByRecursion (λ y. slice_cmp nat_cmp x y ≡ Less) (keys_of es) → T (below_all (slice_cmp nat_cmp) x es)
   below_all_later x [] below = tt
   below_all_later x (e ∷ es) below = rw below.0 (below_all_later x es below.1)
@@ -65,15 +60,6 @@ module _ {X : Type 0} where
   entries_rising es rise = same_entries (slice_cmp nat_cmp) nat_list_cmp_total exact_bytes _ _
       (maps.entries_sorted (maps.from_entries es)) (is_sorted_rising es rise) (λ q. sym (maps.get-entries (maps.from_entries es) q) ∙ maps.get-from_entries nat_list_cmp_total es q)
 
-  once : (a : Bool) (v w x : Option X) → cond a w (cond a v x) ≡ cond a w x
-  once true v w x = refl
-  once false v w x = refl
-
-  -- the later of two answers at one key counts
-  pub answers_again : (es fs gs : List (List ℕ × X)) (k : List ℕ) (v w : Option X) → Answers es fs k v → Answers fs gs k w → Answers es gs k w
-  answers_again es fs gs k v w first later q =
-      later q ∙ ap (cond (is_at (slice_cmp nat_cmp k) q) w) (first q) ∙ once (is_at (slice_cmp nat_cmp k) q) v w _
-
   -- to remove a key that has nothing changes nothing
   pub remove_absent : (m : maps.FinMap (slice_cmp nat_cmp) X) (k : List ℕ) → maps.get m k ≡ None → maps.remove m k ≡ m
   remove_absent m k none = maps.same_map nat_list_cmp_total exact_bytes _ _ (λ q.
@@ -91,12 +77,3 @@ module _ {X : Type 0} where
         | true ↦ λ tied. sym (ap (maps.get m) (tells_apart exact_bytes q k tied) ∙ there)
         | false ↦ λ _. refl
       ] refl)
-
--- an entry that was written over is removed as it was before
-pub remove_entry-set_value : {X : Type 0} (test : List ℕ → Bool) (es : List (List ℕ × X)) (w : X) → remove_entry test (set_value test es w) ≡ remove_entry test es
-remove_entry-set_value test [] w = refl
-remove_entry-set_value test (e ∷ es) w =
-    elim (test e.0) as (λ b. test e.0 ≡ b → remove_entry test (cond b ((e.0, w) ∷ es) (e ∷ set_value test es w)) ≡ cond b es (e ∷ remove_entry test es)) [
-      | true ↦ λ at. ap (λ b. cond b es ((e.0, w) ∷ remove_entry test es)) at
-      | false ↦ λ at. ap (λ b. cond b (set_value test es w) (e ∷ remove_entry test (set_value test es w))) at ∙ ap (λ fs. e ∷ fs) (remove_entry-set_value test es w)
-    ] refl

@@ -1,9 +1,13 @@
 ghost use Rattle.std.specs.Prelude.{◌≡◌, ◌≢◌, ◌<◌, ◌++◌, [], None, Some, length, map, IsSome};
 ghost use Rattle.std.specs.Prelude.{IfSome, IfOk, OnOk, OnErr, IsOk, IsOkUnless};
+ghost use Rattle.std.specs.Cmp.Lexicographic.{slice_cmp};
 ghost use Rattle.std.specs.Option.{option_copied};
+ghost use Rattle.std.specs.Ordering.{nat_cmp};
 ghost use Rattle.std.specs.FinMap as maps;
-ghost use Rattle.std.specs.List.{All};
-ghost use Rattle.dy_siblings.specs.Siblings.{AreOneByDot};
+ghost use Rattle.std.specs.List.{All, IsDistinct};
+ghost use Rattle.std.specs.List.Sorted.{IsPermutation, IsSortedByKey};
+ghost use Rattle.std.specs.Map.{keys_of, values_of};
+ghost use Rattle.dy_siblings.specs.Siblings.{AreOneByDot, same_key};
 ghost use Rattle.dy_node_store.specs.Rows.{with_versions, versions_of, without_dots, IsRowOf};
 ghost use Rattle.dy_node_store.specs.Rows.{IsKeptRow};
 ghost use Rattle.dy_node_store.specs.Absorbing.{IsAbsorbed};
@@ -12,7 +16,8 @@ use crate::placed::Placed;
 use dy_dots::{Dot, Fault};
 use dy_siblings::{Key, Row};
 use std::alloc::Global;
-use std::collections::BTreeMap;
+use std::cmp::Ordering;
+use std::collections::HashMap;
 use std::marker::Model;
 use std::mem;
 
@@ -20,7 +25,7 @@ use std::mem;
 #[derive(Drop)]
 pub struct RowMap {
     alloc: Global,
-    rows: BTreeMap<Key, Row>,
+    rows: HashMap<Key, Row>,
 }
 
 impl Model for RowMap {
@@ -44,7 +49,7 @@ impl RowMap {
     {
         RowMap {
             alloc,
-            rows: BTreeMap::new(alloc),
+            rows: HashMap::new(alloc),
         }
     }
 
@@ -167,12 +172,39 @@ impl RowMap {
         ensures kept { IfOk result (λ rows. All (λ row. IsKeptRow self.now row.now) rows.items) }
         ensures memory { IsOkUnless result Fault.OutOfMemory }
     {
-        let mut rows = Vec::with_capacity(alloc, self.rows.len())?;
-        for row in self.rows.values() {
-            rows.push(row)?;
-        }
+        let mut rows = rows_of(alloc, &self.rows)?;
+        sort(&mut rows);
         Ok(rows)
     }
+}
+
+// The rows of the entries, as these lie.
+fn rows_of<'a>(alloc: Global, entries: &'a HashMap<Key, Row>) -> Result<Vec<&'a Row>, Fault>
+    ensures rows { IfOk result
+        (λ rows. map (λ row. row.now) rows.items ≡ values_of entries.now.entries) }
+    ensures unique { IsDistinct same_key (keys_of entries.now.entries) }
+    ensures memory { IsOkUnless result Fault.OutOfMemory }
+{
+    let mut rows = Vec::with_capacity(alloc, entries.len())?;
+    for row in entries.values() {
+        rows.push(row)?;
+    }
+    Ok(rows)
+}
+
+// How a row's key stands to another's.
+fn compare(row: &Row, other: &Row) -> Ordering
+    ensures { result ≡ slice_cmp nat_cmp row.now.key other.now.key }
+{
+    row.key().cmp(other.key())
+}
+
+// Puts the rows in the order of their keys' bytes. Takes no memory.
+fn sort(rows: &mut Vec<&Row>)
+    ensures moved { IsPermutation rows.old.items rows.new.items }
+    ensures sorted { IsSortedByKey (λ row. row.now.key) (slice_cmp nat_cmp) rows.new.items }
+{
+    rows.sort_unstable_by(|row, other| compare(*row, *other));
 }
 
 // Merges the row into the first, where they differ, and a version is left. One version that follows

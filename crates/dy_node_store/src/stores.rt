@@ -15,7 +15,7 @@ use crate::row_maps::RowMap;
 use dy_dots::{Dot, Fault};
 use dy_siblings::{Key, Row};
 use std::alloc::Global;
-use std::collections::BTreeMap;
+use std::collections::HashMap;
 use std::marker::Model;
 
 /// A node's own rows, and apart from them the greatest counter that it has used of each key. What
@@ -23,7 +23,7 @@ use std::marker::Model;
 pub struct NodeStore {
     alloc: Global,
     rows: RowMap,
-    counters: BTreeMap<Key, u32>,
+    counters: HashMap<Key, u32>,
 }
 
 impl Drop for NodeStore {
@@ -56,7 +56,7 @@ impl NodeStore {
         NodeStore {
             alloc,
             rows: RowMap::new(alloc),
-            counters: BTreeMap::new(alloc),
+            counters: HashMap::new(alloc),
         }
     }
 

@@ -1,5 +1,5 @@
 -- By whether the key has a row.
-use Rattle.std.proofs.Common.{◌≡◌, ◌++◌, true, false, IsSome, IfSome, OnErr, Result, Ok, Err, refl, sym, ap, ◌∙◌, subst}
+use Rattle.std.proofs.Common.{◌≡◌, ◌++◌, true, false, Some, IsSome, IfSome, OnErr, Result, Ok, Err, refl, sym, ap, ◌∙◌, subst}
 use Rattle.std.specs.Option.{option_copied_mut}
 use Rattle.std.specs.Ordering.{nat_cmp}
 use Rattle.std.specs.Cmp.Lexicographic.{slice_cmp}
@@ -7,8 +7,9 @@ use Rattle.std.specs.FinMap as maps
 use Rattle.dy_siblings.specs.Siblings.{Siblings, AreOneByDot}
 use Rattle.dy_node_store.specs.Rows.{with_versions, versions_in, IsRowOf}
 use Rattle.dy_node_store.proofs.AbsorbLemmas.{absorbed_row, absorbed_rows, empty_adds, found_row, not_none}
-use Rattle.dy_node_store.proofs.Maps.{found, inserted, insert_present}
-use Rattle.dy_node_store.proofs.RowLemmas.{AreRows-set_value, has_version}
+use Rattle.dy_node_store.proofs.Hashed.{found, inserted}
+use Rattle.dy_node_store.proofs.Maps.{insert_present}
+use Rattle.dy_node_store.proofs.RowLemmas.{AreRows-changed, has_version}
 use Rattle.dy_node_store.proofs.row_maps.RowMap.absorb.Goals as goal
 
 -- what holds, holds of a refusal
@@ -31,8 +32,10 @@ pub invariant_of-self : goal.invariant_of-self
 invariant_of-self c =
     let row = found_row _ _ _ _ c.self.invariant refl
     (sym c.get_mut.ensures.value ∙ ap option_copied_mut c.in-Some.is) in
-    rw (c.get_mut.follows.holds c.merge_into.new.kept).0 (AreRows-set_value _ _ _ c.self.invariant
-    (subst (IsRowOf c.key.result.now) (sym c.in_err-placed-in-Some.ensures.err) row))
+    let present = subst IsSome (sym (ap option_copied_mut c.in-Some.is) ∙ c.get_mut.ensures.value) refl in
+    AreRows-changed _ _ _ (Some c.merge_into.new.kept) c.self.invariant
+    (subst (IsRowOf c.key.result.now) (sym c.in_err-placed-in-Some.ensures.err) row)
+    ((c.get_mut.follows.holds c.merge_into.new.kept).3 present).0
 
 pub returns-in_err-placed-in-Some-clause-err : goal.returns-in_err-placed-in-Some-clause-err
 returns-in_err-placed-in-Some-clause-err c =
@@ -54,10 +57,12 @@ pub invariant_of-self-in-Some : goal.invariant_of-self-in-Some
 invariant_of-self-in-Some c =
     let row = found_row _ _ _ _ c.self.invariant c.key.ensures
     (sym c.get_mut.ensures.value ∙ ap option_copied_mut c.in-Some.is) in
-    rw (c.get_mut.follows.holds c.merge_into.new.kept).0 (AreRows-set_value _ _ _ c.self.invariant
+    let present = subst IsSome (sym (ap option_copied_mut c.in-Some.is) ∙ c.get_mut.ensures.value) refl in
+    AreRows-changed _ _ _ (Some c.merge_into.new.kept) c.self.invariant
     (subst (λ k. IsRowOf k c.merge_into.new.kept) (sym c.key.ensures)
     (absorbed_row c.in-Some.kept.now c.merge_into.new.kept c.args.row.now
-    c.in_ok-placed-in-Some.placed row c.in_ok-placed-in-Some.ensures.ok)))
+    c.in_ok-placed-in-Some.placed row c.in_ok-placed-in-Some.ensures.ok))
+    ((c.get_mut.follows.holds c.merge_into.new.kept).3 present).0
 
 pub returns-in_ok-placed-in-Some-clause-ok : goal.returns-in_ok-placed-in-Some-clause-ok
 returns-in_ok-placed-in-Some-clause-ok c =

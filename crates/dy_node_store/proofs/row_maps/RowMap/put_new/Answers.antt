@@ -1,15 +1,15 @@
-use Rattle.std.proofs.Common.{sym, ◌∙◌}
+use Rattle.std.proofs.Common.{Some, sym, ◌∙◌}
 use Rattle.std.specs.FinMap as maps
-use Rattle.dy_node_store.proofs.Maps.{inserted}
-use Rattle.dy_node_store.proofs.RowLemmas.{AreRows-insert_entry, with_versions_filled}
+use Rattle.dy_node_store.proofs.Hashed.{inserted}
+use Rattle.dy_node_store.proofs.RowLemmas.{AreRows-changed, with_versions_filled}
 use Rattle.dy_node_store.proofs.row_maps.RowMap.put_new.Goals as goal
 
 -- the new row is one of its key
 pub invariant_of-self-2 : goal.invariant_of-self-2
 invariant_of-self-2 c =
     let same = c.in_ok-key.ensures.value ∙ c.key.ensures in
-    rw c.in_ok-insert.ensures.entries
-    (AreRows-insert_entry _ _ _ c.self.invariant (sym same, c.requires.filled))
+    AreRows-changed _ _ _ (Some c.args.row) c.self.invariant (sym same, c.requires.filled)
+    c.in_ok-insert.ensures.updates.0
 
 pub returns-clause-ok : goal.returns-clause-ok
 returns-clause-ok c =

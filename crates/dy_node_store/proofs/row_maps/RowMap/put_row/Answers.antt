@@ -4,7 +4,7 @@ use Rattle.std.specs.FinMap as maps
 use Rattle.std.specs.Option.{is_some}
 use Rattle.std.proofs.lemmas.Bool.{true≢false}
 use Rattle.dy_node_store.specs.Rows.{with_versions}
-use Rattle.dy_node_store.proofs.Maps.{found}
+use Rattle.dy_node_store.proofs.Hashed.{found}
 use Rattle.dy_node_store.proofs.row_maps.RowMap.put_row.Goals as goal
 
 none_is : {X : Type 0} (o : Option X) → is_some o ≡ false → o ≡ None

@@ -1,12 +1,12 @@
-use Rattle.std.proofs.Common.{refl, sym, ap, ◌∙◌}
+use Rattle.std.proofs.Common.{None, refl, sym, ap, ◌∙◌}
 use Rattle.std.specs.FinMap as maps
-use Rattle.dy_node_store.proofs.Maps.{found, removed}
-use Rattle.dy_node_store.proofs.RowLemmas.{AreRows-remove_entry}
+use Rattle.dy_node_store.proofs.Hashed.{found, removed}
+use Rattle.dy_node_store.proofs.RowLemmas.{AreRows-changed}
 use Rattle.dy_node_store.proofs.row_maps.RowMap.remove_row.Goals as goal
 
 -- rows stay rows where an entry goes
 pub invariant_of-self : goal.invariant_of-self
-invariant_of-self c = rw c.remove.ensures.entries (AreRows-remove_entry _ _ c.self.invariant)
+invariant_of-self c = AreRows-changed _ _ _ None c.self.invariant tt c.remove.ensures.updates.0
 
 pub returns-clause-value : goal.returns-clause-value
 returns-clause-value c = sym (found _ _ _ _ _ c.self.view_is refl c.remove.ensures.value)

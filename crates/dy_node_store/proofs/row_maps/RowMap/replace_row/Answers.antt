@@ -1,8 +1,8 @@
 use Rattle.std.proofs.Common.{◌≡◌, true, false, Some, IsSome, refl, sym, ap, ◌∙◌, subst}
 use Rattle.std.specs.Option.{option_copied_mut}
 use Rattle.std.specs.FinMap as maps
-use Rattle.dy_node_store.proofs.Maps.{found, inserted}
-use Rattle.dy_node_store.proofs.RowLemmas.{AreRows-set_value, with_versions_filled}
+use Rattle.dy_node_store.proofs.Hashed.{found, inserted}
+use Rattle.dy_node_store.proofs.RowLemmas.{AreRows-changed, with_versions_filled}
 use Rattle.dy_node_store.proofs.row_maps.RowMap.replace_row.Goals as goal
 
 -- the key has a row, so one is found
@@ -16,7 +16,9 @@ unreachable-requires c =
 pub invariant_of-self : goal.invariant_of-self
 invariant_of-self c =
     let written = c.get_mut.follows.holds c.replace.new.dest in
-    rw written.0 (AreRows-set_value _ _ _ c.self.invariant (rw c.replace.ensures.after (sym c.key.ensures, c.requires.filled)))
+    let present = subst IsSome (sym (ap option_copied_mut c.in-Some.is) ∙ c.get_mut.ensures.value) refl in
+    AreRows-changed _ _ _ (Some c.replace.new.dest) c.self.invariant
+    (rw c.replace.ensures.after (sym c.key.ensures, c.requires.filled)) (written.3 present).0
 
 pub returns-clause-value : goal.returns-clause-value
 returns-clause-value c =

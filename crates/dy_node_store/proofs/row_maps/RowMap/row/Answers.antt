@@ -1,8 +1,7 @@
 use Rattle.std.proofs.Common.{refl, sym, IfSome, Bor, Option, None, Some}
 use Rattle.std.specs.Option.{option_copied}
 use Rattle.dy_node_store.specs.Rows.{IsRowOf}
-use Rattle.dy_node_store.proofs.Maps.{found}
-use Rattle.dy_node_store.proofs.RowLemmas.{IsRowOf-lookup}
+use Rattle.dy_node_store.proofs.Hashed.{found}
 use Rattle.dy_node_store.proofs.row_maps.RowMap.row.Goals as goal
 
 -- a look-up among the entries is the map's
@@ -16,4 +15,4 @@ shown (Some x) P h = h
 
 -- and each entry is a row of its key
 pub returns-clause-valid : goal.returns-clause-valid
-returns-clause-valid c = shown _ (IsRowOf c.args.key.now) (rw c.get.ensures.value (IsRowOf-lookup _ c.args.key.now c.self.invariant))
+returns-clause-valid c = shown _ (IsRowOf c.args.key.now) (rw c.get.ensures.value (c.self.invariant.at c.args.key.now))

@@ -1,5 +1,5 @@
 use Rattle.std.proofs.Common.{◌<◌, ◌+◌, unwrap_or, refl, sym, ap, ◌∙◌, subst, arith}
-use Rattle.dy_node_store.proofs.Maps.{found}
+use Rattle.dy_node_store.proofs.Hashed.{found}
 use Rattle.dy_node_store.proofs.stores.NodeStore.next_counter.Goals as goal
 
 -- what is read is the greatest counter used

@@ -3,7 +3,7 @@ use Rattle.std.proofs.Common.{◌≡◌, ◌≤◌, unwrap_or, refl, sym, ap, �
 use Rattle.std.specs.Option.{option_copied_mut}
 use Rattle.std.specs.FinMap as maps
 use Rattle.dy_node_store.specs.Counters.{greatest_used}
-use Rattle.dy_node_store.proofs.Maps.{found, inserted}
+use Rattle.dy_node_store.proofs.Hashed.{found, inserted}
 use Rattle.dy_node_store.proofs.CounterLemmas.{le_greatest_used, greatest_used-le}
 use Rattle.dy_node_store.proofs.stores.NodeStore.use_counter.Goals as goal
 
