@@ -1,6 +1,6 @@
 -- Every text of runs is read.
-use Rattle.std.proofs.Common.{◌≡◌, ◌↔◌, ℕ, ◌+◌, ◌-◌, ◌*◌, ◌/◌, ◌%◌, ◌≤◌, ◌==◌, Bool, IsTrue, true, false, not, List, [], ◌∷◌, ◌++◌, refl, sym, ap, ◌∙◌, arith, nat_eq, subst, Option, Some, None, codes, decimal, append_assoc, if◌then◌else◌, Result, Ok, Err, inl, inr}
-use Rattle.std.proofs.lemmas.Bool.{not-true, not-false, eqb-true, lt-ltb, le-leb}
+use Rattle.std.proofs.Common.{◌≡◌, ◌↔◌, ℕ, ◌+◌, ◌-◌, ◌*◌, ◌/◌, ◌%◌, ◌≤◌, ◌==◌, Bool, IsTrue, true, false, List, [], ◌∷◌, ◌++◌, refl, sym, ap, ◌∙◌, arith, nat_eq, subst, Option, Some, None, codes, decimal, append_assoc, if◌then◌else◌, Result, Ok, Err, inl, inr}
+use Rattle.std.proofs.lemmas.Bool.{eqb-true, lt-ltb, le-leb}
 use Rattle.std.proofs.lemmas.Fmt.{decimal_by_steps}
 use Rattle.std.specs.FinSet as set
 use Rattle.std.specs.Cmp.Lexicographic.{pointwise, bytes_decides}

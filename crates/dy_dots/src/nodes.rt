@@ -70,16 +70,46 @@ fn digit_texts(number: u8) -> Option<DigitTexts>
         (texts.digit.now ≡ decimal number) × (texts.head.now ≡ head_text number)) }
 {
     match number {
-        0 => Some(DigitTexts { digit: "0", head: "n0:" }),
-        1 => Some(DigitTexts { digit: "1", head: "n1:" }),
-        2 => Some(DigitTexts { digit: "2", head: "n2:" }),
-        3 => Some(DigitTexts { digit: "3", head: "n3:" }),
-        4 => Some(DigitTexts { digit: "4", head: "n4:" }),
-        5 => Some(DigitTexts { digit: "5", head: "n5:" }),
-        6 => Some(DigitTexts { digit: "6", head: "n6:" }),
-        7 => Some(DigitTexts { digit: "7", head: "n7:" }),
-        8 => Some(DigitTexts { digit: "8", head: "n8:" }),
-        9 => Some(DigitTexts { digit: "9", head: "n9:" }),
+        0 => Some(DigitTexts {
+            digit: "0",
+            head: "n0:",
+        }),
+        1 => Some(DigitTexts {
+            digit: "1",
+            head: "n1:",
+        }),
+        2 => Some(DigitTexts {
+            digit: "2",
+            head: "n2:",
+        }),
+        3 => Some(DigitTexts {
+            digit: "3",
+            head: "n3:",
+        }),
+        4 => Some(DigitTexts {
+            digit: "4",
+            head: "n4:",
+        }),
+        5 => Some(DigitTexts {
+            digit: "5",
+            head: "n5:",
+        }),
+        6 => Some(DigitTexts {
+            digit: "6",
+            head: "n6:",
+        }),
+        7 => Some(DigitTexts {
+            digit: "7",
+            head: "n7:",
+        }),
+        8 => Some(DigitTexts {
+            digit: "8",
+            head: "n8:",
+        }),
+        9 => Some(DigitTexts {
+            digit: "9",
+            head: "n9:",
+        }),
         _ => None,
     }
 }
