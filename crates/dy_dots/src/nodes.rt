@@ -64,52 +64,29 @@ struct DigitTexts {
     head: &'static str,
 }
 
+// These texts.
+fn texts(digit: &'static str, head: &'static str) -> DigitTexts
+    ensures { (result.digit.now ≡ digit.now) × (result.head.now ≡ head.now) }
+{
+    DigitTexts { digit, head }
+}
+
 // The texts of a number, where it has one digit.
 fn digit_texts(number: u8) -> Option<DigitTexts>
     ensures { IfSome result (λ texts.
         (texts.digit.now ≡ decimal number) × (texts.head.now ≡ head_text number)) }
 {
     match number {
-        0 => Some(DigitTexts {
-            digit: "0",
-            head: "n0:",
-        }),
-        1 => Some(DigitTexts {
-            digit: "1",
-            head: "n1:",
-        }),
-        2 => Some(DigitTexts {
-            digit: "2",
-            head: "n2:",
-        }),
-        3 => Some(DigitTexts {
-            digit: "3",
-            head: "n3:",
-        }),
-        4 => Some(DigitTexts {
-            digit: "4",
-            head: "n4:",
-        }),
-        5 => Some(DigitTexts {
-            digit: "5",
-            head: "n5:",
-        }),
-        6 => Some(DigitTexts {
-            digit: "6",
-            head: "n6:",
-        }),
-        7 => Some(DigitTexts {
-            digit: "7",
-            head: "n7:",
-        }),
-        8 => Some(DigitTexts {
-            digit: "8",
-            head: "n8:",
-        }),
-        9 => Some(DigitTexts {
-            digit: "9",
-            head: "n9:",
-        }),
+        0 => Some(texts("0", "n0:")),
+        1 => Some(texts("1", "n1:")),
+        2 => Some(texts("2", "n2:")),
+        3 => Some(texts("3", "n3:")),
+        4 => Some(texts("4", "n4:")),
+        5 => Some(texts("5", "n5:")),
+        6 => Some(texts("6", "n6:")),
+        7 => Some(texts("7", "n7:")),
+        8 => Some(texts("8", "n8:")),
+        9 => Some(texts("9", "n9:")),
         _ => None,
     }
 }
