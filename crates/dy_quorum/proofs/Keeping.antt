@@ -77,9 +77,9 @@ taken_out all now homes at x k inside is node has =
     let same = firsts_same (λ (r : ReceiptParts). r.home) k.seen x known in
     let here : now ≡ fs ++ x ∷ n.more = k.now_are ∙ ap (λ l. fs ++ l) n.rest_is in
     let cut : remove now at ≡ fs ++ n.more =
-        ap (λ l. remove l at) here ∙ ap (λ i. remove (fs ++ x ∷ n.more) i) k.at_is
-        ∙ ap (λ l. l ++ drop (suc (length fs)) (fs ++ x ∷ n.more)) (before fs (x ∷ n.more))
-        ∙ ap (λ l. fs ++ l) (behind fs x n.more) in
+    ap (λ l. remove l at) here ∙ ap (λ i. remove (fs ++ x ∷ n.more) i) k.at_is
+    ∙ ap (λ l. l ++ drop (suc (length fs)) (fs ++ x ∷ n.more)) (before fs (x ∷ n.more))
+    ∙ ap (λ l. fs ++ l) (behind fs x n.more) in
     record {
       seen = k.seen ++ x ∷ [];
       rest = n.more;

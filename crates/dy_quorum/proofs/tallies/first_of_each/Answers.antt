@@ -1,4 +1,4 @@
-use Rattle.std.proofs.Common.{◌<◌, arith, rules, sym, ◌∙◌, length}
+use Rattle.std.proofs.Common.{◌<◌, arith, rules, sym, ◌∙◌}
 use Rattle.dy_dots.specs.declared.nodes.TheConstants.{MAX_NODES}
 use Rattle.dy_quorum.proofs.Keeping.{all_seen, has_room, left_in, none_seen, taken_out}
 use Rattle.dy_quorum.proofs.tallies.first_of_each.Goals as goal

@@ -1,11 +1,8 @@
-use Rattle.std.proofs.Common.{length-append, ◌≡◌, ◌<◌, ◌+◌, ◌++◌, ◌∷◌, [], arith, sym, ◌∙◌, ap, subst, length}
-use Rattle.std.proofs.lemmas.List.{length-map}
+use Rattle.std.proofs.Common.{length-append, ◌≡◌, ◌<◌, ◌+◌, ◌++◌, ◌∷◌, [], arith, sym, ◌∙◌, subst, length}
 use Rattle.std.proofs.lemmas.List.Elements.{All-push}
 use Rattle.dy_dots.specs.declared.nodes.TheConstants.{MAX_NODES}
 use Rattle.dy_shares.specs.Shares.{ReceiptParts}
 use Rattle.dy_quorum.specs.Tallies.{Counted, FitsAll}
-use Rattle.dy_quorum.specs.declared.tallies.TheConstants.{MAX_RECEIPTS}
-use Rattle.dy_quorum.specs.inside.Counting.{firsts}
 use Rattle.dy_quorum.proofs.Firsts.{homes_same, homes_more, room_for}
 use Rattle.dy_quorum.proofs.Choices.{agree_more, count_push}
 use Rattle.dy_quorum.proofs.tallies.Tally.add.Goals as goal
