@@ -1,4 +1,5 @@
 pub mod Besides
+pub mod ByHolder
 pub mod Coverage
 pub mod Dotting
 pub mod Gathering

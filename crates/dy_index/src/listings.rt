@@ -11,7 +11,7 @@ ghost use Rattle.dy_index.specs.Indexes.{IsIndex, part_at};
 ghost use Rattle.dy_index.specs.inside.Listed.{held_in_all, settled_keys};
 
 use crate::parts::KeyPart;
-use crate::{custodies, lists};
+use crate::{custodies, holders};
 use dy_core::Holding;
 use dy_dots::Fault;
 use dy_siblings::Key;
@@ -56,7 +56,7 @@ pub fn held(alloc: Global, keys: &BTreeMap<Key, KeyPart>) -> Result<Vec<Holding>
     ensures memory { IsOkUnless result Fault.OutOfMemory }
 {
     let listed = held_of(alloc, keys)?;
-    let held = lists::ordered(listed)?;
+    let held = holders::ordered(alloc, listed)?;
     Ok(held)
 }
 

@@ -2,13 +2,10 @@ use Rattle.std.proofs.Common.{subst}
 use Rattle.std.proofs.lemmas.Cmp.{nat_list_cmp_total}
 use Rattle.std.proofs.lemmas.Map.Views.{btree_map_get_iff}
 use Rattle.dy_core.specs.Orders.{holding_cmp}
-use Rattle.dy_core.proofs.Held.{holding_cmp_total, keys_tie}
+use Rattle.dy_core.proofs.Held.{keys_tie}
 use Rattle.dy_index.specs.Lists.{IsInOrder}
 use Rattle.dy_index.proofs.Listing.{holdings_listed}
 use Rattle.dy_index.proofs.listings.held.Goals as goal
-
-pub ordered-requires : goal.ordered-requires
-ordered-requires c = holding_cmp_total
 
 pub returns-clause-ok : goal.returns-clause-ok
 returns-clause-ok c = λ w index.
