@@ -6,11 +6,8 @@ use Rattle.std.specs.List.{All, Contains, IsDistinct}
 use Rattle.std.proofs.lemmas.List.Elements.{All-contains, Contains-append_cases}
 use Rattle.std.proofs.lemmas.List.{take_more}
 use Rattle.std.proofs.lemmas.Option.{slice_get_within, get_or_from_slice_get}
-use Rattle.std.specs.Ordering.{nat_cmp}
-use Rattle.std.specs.Cmp.Lexicographic.{slice_cmp}
-use Rattle.std.specs.BTreeMap.{is_at}
 use Rattle.dy_dots.specs.declared.dots.Dot.{Dot}
-use Rattle.dy_siblings.specs.Siblings.{Siblings}
+use Rattle.dy_siblings.specs.Siblings.{Siblings, same_key}
 use Rattle.dy_siblings.specs.declared.versions.Version.{Version}
 use Rattle.dy_preference.specs.Preferences.{may_hold, homes_of}
 use Rattle.dy_core.specs.declared.steps.Step.{Step}
@@ -117,7 +114,7 @@ module _ (ring : Tokens) (n r : ℕ) (log : List Entry) (options : Options)
 
   -- with a part that is as good as it was written back
   pub book_rewritten : (k key : List ℕ) → k ≡ key → (p : KeyPart) (fs : List (List ℕ × KeyPart)) →
-      ((q : List ℕ) → part_at fs q ≡ cond (is_at (slice_cmp nat_cmp k) q) (Some p) (part_at es q)) →
+      ((q : List ℕ) → part_at fs q ≡ cond (same_key k q) (Some p) (part_at es q)) →
       (log2 : List Entry) → log2 ≡ log → IsPart (world_after (steps_of log2)) key (Some p) →
       IsBook ring n r log2 options versions fs
   book_rewritten k key key_is p fs written log2 log_is here =
@@ -139,7 +136,7 @@ module _ (ring : Tokens) (n r : ℕ) (log : List Entry) (options : Options)
     pub issue_book : length (world_after (steps_of log)).versions < options.versions_limit →
         length log + 2 ≤ options.steps_limit →
         (k : List ℕ) → k ≡ v.key → (p : KeyPart) (fs : List (List ℕ × KeyPart)) →
-        ((q : List ℕ) → part_at fs q ≡ cond (is_at (slice_cmp nat_cmp k) q) (Some p) (part_at es q))
+        ((q : List ℕ) → part_at fs q ≡ cond (same_key k q) (Some p) (part_at es q))
         →
         (log2 : List Entry) → log2 ≡ log ++ map untold (issue_steps node home v) →
         IsPart (world_after (steps_of log2)) v.key (Some p) →
@@ -155,7 +152,7 @@ module _ (ring : Tokens) (n r : ℕ) (log : List Entry) (options : Options)
         (omega (arith, count, room)) (omega (arith, are, versions_left))
         (ap (λ m. m + 1) are ∙ sym more)
         (issue_index layout log book.legal node home v next counter_few may es fs p
-        (λ q. written q ∙ ap (λ j. cond (is_at (slice_cmp nat_cmp j) q) (Some p) (part_at es q))
+        (λ q. written q ∙ ap (λ j. cond (same_key j q) (Some p) (part_at es q))
         key_is)
         (subst (λ (l : List Entry). IsPart (world_after (steps_of l)) v.key (Some p)) log_is here)
         book.index))
@@ -166,7 +163,7 @@ module _ (ring : Tokens) (n r : ℕ) (log : List Entry) (options : Options)
     -- after a hold
     pub hold_book : length log + 1 ≤ options.steps_limit →
         (k : List ℕ) → k ≡ row.key → (p : KeyPart) (fs : List (List ℕ × KeyPart)) →
-        ((q : List ℕ) → part_at fs q ≡ cond (is_at (slice_cmp nat_cmp k) q) (Some p) (part_at es q))
+        ((q : List ℕ) → part_at fs q ≡ cond (same_key k q) (Some p) (part_at es q))
         →
         (log2 : List Entry) → log2 ≡ log ++ map untold (Hold (place_for holder home) row ∷ []) →
         IsPart (world_after (steps_of log2)) row.key (Some p) →
@@ -181,7 +178,7 @@ module _ (ring : Tokens) (n r : ℕ) (log : List Entry) (options : Options)
         (book.versions_are ∙ sym
         (ap length (hold_versions layout log book.legal holder home row of_row may)))
         (hold_index layout log book.legal holder home row of_row may es fs p
-        (λ q. written q ∙ ap (λ j. cond (is_at (slice_cmp nat_cmp j) q) (Some p) (part_at es q))
+        (λ q. written q ∙ ap (λ j. cond (same_key j q) (Some p) (part_at es q))
         key_is)
         (subst (λ (l : List Entry). IsPart (world_after (steps_of l)) row.key (Some p)) log_is here)
         book.index))

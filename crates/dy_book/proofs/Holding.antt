@@ -3,10 +3,7 @@ use Rattle.std.proofs.Common.{◌≡◌, ◌≢◌, ℕ, ◌+◌, ◌<◌, cond,
 use Rattle.std.proofs.Common.{◌++◌, map, length, Some, IsTrue, refl, sym, ap, ◌∙◌, subst}
 use Rattle.std.proofs.Common.{arith}
 use Rattle.std.specs.List.{Contains}
-use Rattle.std.specs.Ordering.{nat_cmp}
-use Rattle.std.specs.Cmp.Lexicographic.{slice_cmp}
-use Rattle.std.specs.BTreeMap.{is_at}
-use Rattle.dy_siblings.specs.Siblings.{Siblings, AreOneByDot, IsSameRow, merge}
+use Rattle.dy_siblings.specs.Siblings.{Siblings, AreOneByDot, IsSameRow, merge, same_key}
 use Rattle.dy_siblings.specs.declared.versions.Version.{Version}
 use Rattle.dy_preference.specs.Preferences.{may_hold}
 use Rattle.dy_core.specs.Worlds.{Layout, AreMadeOf, empty_world}
@@ -87,7 +84,7 @@ module _ (layout : Layout) (log : List Entry) (legal : IsLegal layout (steps_of 
       holder home row of_row old new are same c holder_is home_is key_is merged placed)
 
   pub hold_index : (es fs : List (List ℕ × KeyPart)) (p : KeyPart) →
-      ((q : List ℕ) → part_at fs q ≡ cond (is_at (slice_cmp nat_cmp row.key) q) (Some p)
+      ((q : List ℕ) → part_at fs q ≡ cond (same_key row.key q) (Some p)
       (part_at es q)) →
       IsPart (world_after (steps_of (log ++ map untold (Hold (place_for holder home) row ∷ []))))
       row.key (Some p) →
@@ -169,7 +166,7 @@ module _ (layout : Layout) (log : List Entry) (legal : IsLegal layout (steps_of 
       next.is_made room old new are own others c holder_is home_is key_is merged placed)
 
   pub issue_index : (es fs : List (List ℕ × KeyPart)) (p : KeyPart) →
-      ((q : List ℕ) → part_at fs q ≡ cond (is_at (slice_cmp nat_cmp v.key) q) (Some p)
+      ((q : List ℕ) → part_at fs q ≡ cond (same_key v.key q) (Some p)
       (part_at es q)) →
       IsPart (world_after (steps_of (log ++ map untold (issue_steps node home v)))) v.key (Some p) →
       IsIndex (world_after (steps_of log)) es →

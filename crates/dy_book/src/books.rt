@@ -20,7 +20,7 @@ use dy_ring::Ring;
 use dy_shares::{Blank, Ledger, Naming, NodeShare, Receipt, Seen, SessionShare, Since};
 use dy_siblings::{Key, Version};
 use std::alloc::Global;
-use std::collections::BTreeMap;
+use std::collections::HashMap;
 use std::marker::Model;
 
 /// The custody book: the log of steps, the book's part of each share, and by key what the world
@@ -30,7 +30,7 @@ pub struct Book<J: Naming> {
     pub(crate) options: Options,
     pub(crate) ledger: Ledger<J>,
     pub(crate) versions: usize,
-    pub(crate) keys: BTreeMap<Key, KeyPart>,
+    pub(crate) keys: HashMap<Key, KeyPart>,
 }
 
 impl<J: Naming> Model for Book<J> {
@@ -85,7 +85,7 @@ impl<J: Naming> Book<J> {
             options,
             ledger,
             versions: 0,
-            keys: BTreeMap::new(alloc),
+            keys: HashMap::new(alloc),
         };
         Ok((book, shares))
     }

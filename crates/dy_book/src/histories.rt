@@ -11,13 +11,13 @@ use dy_index::KeyPart;
 use dy_shares::KeptStep;
 use dy_siblings::Key;
 use std::alloc::Global;
-use std::collections::BTreeMap;
+use std::collections::HashMap;
 
 /// The steps of a book that was closed, to be read by their numbers.
 #[derive(Debug)]
 pub struct History {
     pub(crate) trail: Vec<KeptStep>,
-    pub(crate) keys: BTreeMap<Key, KeyPart>,
+    pub(crate) keys: HashMap<Key, KeyPart>,
 }
 
 impl Drop for History {
@@ -33,7 +33,7 @@ impl History {
     {
         History {
             trail: Vec::new(alloc),
-            keys: BTreeMap::new(alloc),
+            keys: HashMap::new(alloc),
         }
     }
 

@@ -16,7 +16,7 @@ use dy_index::KeyPart;
 use dy_shares::{Naming, NodeShare, Receipt, StepRef};
 use dy_siblings::Key;
 use std::alloc::Global;
-use std::collections::BTreeMap;
+use std::collections::HashMap;
 
 // A release of each receipt's dot.
 fn steps_of_release<'a, J: Naming>(
@@ -38,7 +38,7 @@ fn steps_of_release<'a, J: Naming>(
 
 // Each receipt's dot leaves what the holder holds for its home. Takes no memory.
 fn give_up_all<J: Naming>(
-    keys: &mut BTreeMap<Key, KeyPart>,
+    keys: &mut HashMap<Key, KeyPart>,
     holder: NodeId,
     receipts: &[Receipt<J>],
 )

@@ -14,12 +14,12 @@ use dy_index::KeyPart;
 use dy_shares::{KeptStep, Naming};
 use dy_siblings::{Key, Row, Version};
 use std::alloc::Global;
-use std::collections::BTreeMap;
+use std::collections::HashMap;
 
 // The row of the key whose dots these runs are. A key has one version of a dot.
 fn row_of(
     alloc: Global,
-    keys: &BTreeMap<Key, KeyPart>,
+    keys: &HashMap<Key, KeyPart>,
     key: &Key,
     runs: &[Run],
 ) -> Result<Row, Fault>
@@ -59,7 +59,7 @@ fn issue_of(alloc: Global, version: &Version) -> Result<Step, Fault>
 // The step that is kept so, by the log's index.
 pub(crate) fn step_of(
     alloc: Global,
-    keys: &BTreeMap<Key, KeyPart>,
+    keys: &HashMap<Key, KeyPart>,
     kept: &KeptStep,
 ) -> Result<Step, Fault>
     requires logged { (s : OneStep) × IsLogged keys.now.entries s × Keeps kept.now s }

@@ -2,12 +2,9 @@
 use Rattle.std.proofs.Common.{◌≡◌, ◌≢◌, ℕ, ◌+◌, ◌<◌, cond, List, [], ◌∷◌, ◌++◌, Some, refl, sym, ap}
 use Rattle.std.proofs.Common.{◌∙◌, subst, arith}
 use Rattle.std.specs.List.{Contains}
-use Rattle.std.specs.Ordering.{nat_cmp}
-use Rattle.std.specs.Cmp.Lexicographic.{slice_cmp}
-use Rattle.std.specs.BTreeMap.{is_at}
 use Rattle.std.proofs.lemmas.List.Elements.{All-cons}
 use Rattle.dy_dots.specs.Dots.{DotSet}
-use Rattle.dy_siblings.specs.Siblings.{Siblings, AreOneByDot, IsSameRow, merge}
+use Rattle.dy_siblings.specs.Siblings.{Siblings, AreOneByDot, IsSameRow, merge, same_key}
 use Rattle.dy_siblings.specs.declared.versions.Version.{Version}
 use Rattle.dy_siblings.proofs.Members.{in_head}
 use Rattle.dy_core.specs.Worlds.{Layout, World, AreMadeOf, row_at}
@@ -57,7 +54,7 @@ module _ (layout : Layout) (w : World) (sound : IsSound layout w) (holder home :
 
   -- the index with that part
   pub index_held : (es fs : List (List ℕ × KeyPart)) (p : KeyPart) →
-      ((q : List ℕ) → part_at fs q ≡ cond (is_at (slice_cmp nat_cmp row.key) q) (Some p)
+      ((q : List ℕ) → part_at fs q ≡ cond (same_key row.key q) (Some p)
       (part_at es q)) →
       IsPart (after_hold w holder home row) row.key (Some p) → IsIndex w es →
       IsIndex (after_hold w holder home row) fs
@@ -115,7 +112,7 @@ module _ (layout : Layout) (w : World) (sound : IsSound layout w) (node home : �
 
   -- the index with that part
   pub index_issued : (es fs : List (List ℕ × KeyPart)) (p : KeyPart) →
-      ((q : List ℕ) → part_at fs q ≡ cond (is_at (slice_cmp nat_cmp v.key) q) (Some p)
+      ((q : List ℕ) → part_at fs q ≡ cond (same_key v.key q) (Some p)
       (part_at es q)) →
       IsPart (after_hold (after_issue w v) node home (alone v)) v.key (Some p) → IsIndex w es →
       IsIndex (after_hold (after_issue w v) node home (alone v)) fs

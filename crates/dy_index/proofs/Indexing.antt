@@ -3,14 +3,10 @@ use Rattle.std.proofs.Common.{◌≡◌, ◌≢◌, ℕ, Bool, true, false, cond
 use Rattle.std.proofs.Common.{◌++◌, Option, None, Some, refl, sym, ap, ◌∙◌, subst}
 use Rattle.std.proofs.Common.{⊎_elim}
 use Rattle.std.specs.Option.{is_some}
-use Rattle.std.specs.Ordering.{nat_cmp, is_eq}
-use Rattle.std.specs.Cmp.{tied_itself}
-use Rattle.std.specs.Cmp.Lexicographic.{slice_cmp, nat_list_cmp_total}
-use Rattle.std.specs.BTreeMap.{is_at}
-use Rattle.std.proofs.lemmas.Map.Lookups.{exact_bytes}
-use Rattle.std.proofs.lemmas.Map.Views.{tells_apart}
 use Rattle.std.proofs.lemmas.Bool.{cases_Bool, true≢false, eqb-true, eq-eqb}
+use Rattle.dy_siblings.specs.Siblings.{same_key}
 use Rattle.dy_siblings.specs.declared.versions.Version.{Version}
+use Rattle.dy_siblings.proofs.SameKeys.{same_key_is, same_key_self}
 use Rattle.dy_core.specs.Worlds.{World}
 use Rattle.dy_core.specs.declared.holdings.Holding.{Holding}
 use Rattle.dy_index.specs.declared.parts.KeyPart.{KeyPart}
@@ -25,30 +21,29 @@ none_is (Some x) e = cc
 
 -- a part written at a key, where the other keys keep theirs
 pub index_written : (w x : World) (es fs : List (List ℕ × KeyPart)) (key : List ℕ) (p : KeyPart) →
-    ((q : List ℕ) → part_at fs q ≡ cond (is_at (slice_cmp nat_cmp key) q) (Some p) (part_at es q)) →
+    ((q : List ℕ) → part_at fs q ≡ cond (same_key key q) (Some p) (part_at es q)) →
     IsPart x key (Some p) →
     ((q : List ℕ) → q ≢ key → (made : ℕ → List Version) (places : List Holding) →
     AreOfKey w q made places → AreOfKey x q made places) →
     IsIndex w es → IsIndex x fs
 index_written w x es fs key p written here others index q =
-    go (is_at (slice_cmp nat_cmp key) q) refl
+    go (same_key key q) refl
   where
-    go : (b : Bool) → is_at (slice_cmp nat_cmp key) q ≡ b → IsPart x q (part_at fs q)
+    go : (b : Bool) → same_key key q ≡ b → IsPart x q (part_at fs q)
     go true at =
-        let same : key ≡ q = tells_apart exact_bytes key q at in
+        let same : key ≡ q = same_key_is key q at in
         subst (IsPart x q) (sym (written q ∙ ap (λ b. cond b (Some p) (part_at es q)) at))
         (subst (λ k. IsPart x k (Some p)) same here)
     go false at =
         let apart : q ≢ key =
-        λ same. true≢false (sym (ap is_eq (tied_itself nat_list_cmp_total key))
-        ∙ (ap (is_at (slice_cmp nat_cmp key)) (sym same) ∙ at)) in
+        λ same. true≢false (sym (same_key_self key) ∙ (ap (same_key key) (sym same) ∙ at)) in
         subst (IsPart x q) (sym (written q ∙ ap (λ b. cond b (Some p) (part_at es q)) at))
         (others q apart (made_in (part_at es q)) (places_in (part_at es q)) (index q))
 
 -- a part without anything is as good as none
 pub index_with_empty : (es fs : List (List ℕ × KeyPart)) (key : List ℕ) (p : KeyPart) →
     part_at es key ≡ None → p.made.items ≡ [] → p.places.items ≡ [] →
-    ((q : List ℕ) → part_at fs q ≡ cond (is_at (slice_cmp nat_cmp key) q) (Some p) (part_at es q)) →
+    ((q : List ℕ) → part_at fs q ≡ cond (same_key key q) (Some p) (part_at es q)) →
     (w : World) → IsIndex w es → IsIndex w fs
 index_with_empty es fs key p none no_made no_places written w index =
     index_written w w es fs key p written

@@ -14,9 +14,10 @@ use Rattle.dy_core.specs.inside.Meanings.{is_nothing, row_in}
 use Rattle.dy_core.specs.Orders.{holding_cmp}
 use Rattle.dy_core.specs.declared.holdings.Holding.{Holding}
 use Rattle.dy_siblings.proofs.Members.{not_in_nil, in_head, in_tail, in_cases}
-use Rattle.dy_core.proofs.Held.{Spot, at_from, spots_tie, row_in-of, row_in-from}
+use Rattle.dy_core.proofs.Held.{Spot, at_from, keys_tie, spots_tie, row_in-of, row_in-from}
 use Rattle.dy_core.proofs.Keeping.{all_from}
 use Rattle.dy_index.specs.Lists.{IsInOrder}
+use Rattle.dy_index.specs.inside.Entries.{AreByKey, entry_cmp}
 use Rattle.dy_index.specs.inside.Held.{is_some, listed_from}
 use Rattle.dy_index.specs.Indexes.{IsIndex, IsPart, part_at, places_in}
 use Rattle.dy_index.specs.inside.Listed.{held_in_all}
@@ -125,13 +126,36 @@ some_of (x ∷ vs) v there = refl
 own_spot : (h : Holding) → Spot h.holder h.home h.row.key h
 own_spot h = record { holder_is = refl; home_is = refl; key_is = refl }
 
--- what the index has, in order, is what is held
-pub holdings_listed : (w : World) (entries : List (List ℕ × KeyPart)) → IsIndex w entries →
+same_part : (p q : KeyPart) → Some p ≡ Some q → p ≡ q
+same_part p q is = cc
+
+-- the entries of the index, sorted by their keys
+pub entries_in_order : (entries : List (List ℕ × KeyPart)) →
     All (λ e. part_at entries e.0 ≡ Some e.1) entries →
     ((key : List ℕ) (p : KeyPart) → part_at entries key ≡ Some p → Contains entries (key, p)) →
-    (held : List Holding) → IsInOrder holding_cmp (held_in_all [] entries) held →
+    (es : List (List ℕ × KeyPart)) → IsInOrder entry_cmp entries es → AreByKey entries es
+entries_in_order entries found has es order =
+    record {
+      found = all_from (λ e. part_at entries e.0 ≡ Some e.1) es
+          (λ e there. found_at e (order.is_item e there));
+      has = λ key p is.
+          let t = order.tied (key, p) (has key p is) in
+          let same : key ≡ t.0.0 = keys_tie key t.0.0 t.2 in
+          let own = found_at t.0 (order.is_item t.0 t.1) in
+          let part = same_part p t.0.1 (sym is ∙ (ap (part_at entries) same ∙ own)) in
+          subst (Contains es) (λ i. (sym same i, sym part i)) t.1;
+      in_order = order.in_order;
+    }
+  where
+    found_at : (e : List ℕ × KeyPart) → Contains entries e → part_at entries e.0 ≡ Some e.1
+    found_at e there = All-contains (λ e. part_at entries e.0 ≡ Some e.1) entries e found there
+
+-- what the entries of the index have, in order, is what is held
+pub holdings_listed : (w : World) (entries : List (List ℕ × KeyPart)) → IsIndex w entries →
+    (es : List (List ℕ × KeyPart)) → AreByKey entries es →
+    (held : List Holding) → IsInOrder holding_cmp (held_in_all [] es) held →
     ListsHoldings w held
-holdings_listed w entries index found has held order =
+holdings_listed w entries index es by_key held order =
     record {
       each = all_from (λ h. IsSameRow h.row.versions (row_at w h.holder h.home h.row.key)) held
           (λ h there. row_of h (listed h there));
@@ -142,16 +166,16 @@ holdings_listed w entries index found has held order =
       in_order = order.in_order;
     }
   where
-    listed : (h : Holding) → Contains held h → IsListed entries h
+    listed : (h : Holding) → Contains held h → IsListed es h
     listed h there = ⊎_elim (λ none. absurd (not_in_nil h none)) (λ is. is)
-        (all_from_entries entries [] h (order.is_item h there))
+        (all_from_entries es [] h (order.is_item h there))
 
-    row_of : (h : Holding) → IsListed entries h →
+    row_of : (h : Holding) → IsListed es h →
         IsSameRow h.row.versions (row_at w h.holder h.home h.row.key)
     row_of h is =
         let e = is.entry in
         let part = subst (IsPart w e.0)
-        (All-contains (λ e. part_at entries e.0 ≡ Some e.1) entries e found is.in_list)
+        (All-contains (λ e. part_at entries e.0 ≡ Some e.1) es e by_key.found is.in_list)
         (index e.0) in
         let key_is : h.row.key ≡ e.0 =
         All-contains (λ h. h.row.key ≡ e.0) e.1.places.items h part.of_key is.in_places in
@@ -172,10 +196,10 @@ holdings_listed w entries index found has held order =
         let row_is = row_in-of holder home key p.places.items part.in_order h f.1
         (at_from holder home key h f.2) in
         let t = order.tied h
-        (all_have entries [] h
+        (all_have es [] h
         (record {
           entry = (key, p);
-          in_list = has key p is;
+          in_list = by_key.has key p is;
           in_places = f.1;
           has_one = some_of h.row.versions v (subst (λ vs. Contains vs v) row_is there);
         })) in

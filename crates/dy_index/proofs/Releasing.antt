@@ -5,12 +5,6 @@ use Rattle.std.proofs.Common.{None, Some, refl, sym, ap, ◌∙◌, subst, ⊎_e
 use Rattle.std.specs.List.{AllByRecursion}
 use Rattle.std.specs.List.Sorted.{IsStrictlySortedBy}
 use Rattle.std.specs.declared.cmp.Ordering.TheVariants.{Less}
-use Rattle.std.specs.Ordering.{nat_cmp, is_eq}
-use Rattle.std.specs.Cmp.{tied_itself}
-use Rattle.std.specs.Cmp.Lexicographic.{slice_cmp, nat_list_cmp_total}
-use Rattle.std.specs.BTreeMap.{is_at as is_key}
-use Rattle.std.proofs.lemmas.Map.Lookups.{exact_bytes}
-use Rattle.std.proofs.lemmas.Map.Views.{tells_apart}
 use Rattle.std.proofs.lemmas.Bool.{cases_Bool, and_parts, and_from, and_left, and_right}
 use Rattle.std.proofs.lemmas.Bool.{true≢false, not-true, not_from_false}
 use Rattle.std.proofs.lemmas.List.Elements.{All-contains}
@@ -18,7 +12,7 @@ use Rattle.std.proofs.lemmas.List.{take_more, take_more_set, drop-set-lt, map-ap
 use Rattle.std.proofs.lemmas.Grind.{drop_more_same}
 use Rattle.dy_dots.specs.Dots.{same_dot}
 use Rattle.dy_dots.specs.declared.dots.Dot.{Dot}
-use Rattle.dy_siblings.specs.Siblings.{IsSameRow, without}
+use Rattle.dy_siblings.specs.Siblings.{IsSameRow, same_key, without}
 use Rattle.dy_siblings.specs.declared.versions.Version.{Version}
 use Rattle.dy_core.specs.Worlds.{World, row_at}
 use Rattle.dy_core.specs.Steps.{same_place, after_release}
@@ -26,6 +20,7 @@ use Rattle.dy_core.specs.inside.Meanings.{is_at, row_in}
 use Rattle.dy_core.specs.Orders.{holding_cmp}
 use Rattle.dy_core.specs.declared.holdings.Holding.{Holding}
 use Rattle.dy_siblings.proofs.Members.{filter_in, filter_from, map_from}
+use Rattle.dy_siblings.proofs.SameKeys.{same_key_is, same_key_self}
 use Rattle.dy_core.proofs.Standing.{stands_from, stands_in, place_is}
 use Rattle.dy_core.proofs.Merging.{same_row_on}
 use Rattle.dy_core.proofs.Keeping.{all_from}
@@ -188,7 +183,7 @@ module _ (holder home : ℕ) (key : List ℕ) (d : Dot) where
   pub release_written : (w : World) (es fs : List (List ℕ × KeyPart)) (old new : KeyPart) →
       part_at es key ≡ Some old → new.made.items ≡ old.made.items →
       new.places.items ≡ map (released holder home key d) old.places.items →
-      ((q : List ℕ) → part_at fs q ≡ cond (is_key (slice_cmp nat_cmp key) q) (Some new)
+      ((q : List ℕ) → part_at fs q ≡ cond (same_key key q) (Some new)
       (part_at es q)) →
       IsIndex w es → IsIndex (after_release w holder home key d) fs
   release_written w es fs old new there made_is placed written index =
@@ -211,19 +206,18 @@ module _ (holder home : ℕ) (key : List ℕ) (d : Dot) where
   -- nothing is known of the key
   pub release_none : (w : World) (es : List (List ℕ × KeyPart)) → part_at es key ≡ None →
       IsIndex w es → IsIndex (after_release w holder home key d) es
-  release_none w es none index q = go (is_key (slice_cmp nat_cmp key) q) refl
+  release_none w es none index q = go (same_key key q) refl
     where
-      go : (b : Bool) → is_key (slice_cmp nat_cmp key) q ≡ b →
+      go : (b : Bool) → same_key key q ≡ b →
           IsPart (after_release w holder home key d) q (part_at es q)
       go true at =
-          let same : key ≡ q = tells_apart exact_bytes key q at in
+          let same : key ≡ q = same_key_is key q at in
           subst (λ k. IsPart (after_release w holder home key d) k (part_at es k)) same
           (subst (IsPart (after_release w holder home key d) key) (sym none)
           (release_own w (made_in None) [] (subst (IsPart w key) none (index key))))
       go false at =
           let apart : q ≢ key =
-          λ same. true≢false (sym (ap is_eq (tied_itself nat_list_cmp_total key))
-          ∙ (ap (is_key (slice_cmp nat_cmp key)) (sym same) ∙ at)) in
+          λ same. true≢false (sym (same_key_self key) ∙ (ap (same_key key) (sym same) ∙ at)) in
           release_other w q apart (made_in (part_at es q)) (places_in (part_at es q)) (index q)
 
 -- ---- a loop that writes

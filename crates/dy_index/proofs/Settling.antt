@@ -2,10 +2,7 @@
 use Rattle.std.proofs.Common.{◌≡◌, ℕ, ◌<◌, ◌≤◌, zero, suc, Bool, true, false, cond, ◌&&◌, not, eqb}
 use Rattle.std.proofs.Common.{◌⊎◌, List, [], ◌∷◌, length, Option, None, Some, refl, sym, ap, ◌∙◌}
 use Rattle.std.proofs.Common.{subst, inl, inr, ⊎_elim, arith}
-use Rattle.std.specs.List.{All, AllByRecursion, Contains, list_any}
-use Rattle.std.specs.List.Sorted.{IsStrictlySortedBy}
-use Rattle.std.specs.declared.cmp.Ordering.TheVariants.{Less}
-use Rattle.std.specs.Map.{keys_of}
+use Rattle.std.specs.List.{All, Contains, list_any}
 use Rattle.std.proofs.lemmas.Bool.{cases_Bool, and_parts, and_from, true≢false, not-true}
 use Rattle.std.proofs.lemmas.Bool.{not_from_false, eqb-true, eqb-false}
 use Rattle.std.proofs.lemmas.List.{get_or_default}
@@ -26,9 +23,9 @@ use Rattle.dy_siblings.proofs.SameKeys.{same_key_is}
 use Rattle.dy_core.proofs.Standing.{stands_from, stands_in}
 use Rattle.dy_core.proofs.Kept.{IsSound}
 use Rattle.dy_core.proofs.OverLogs.{log_sound}
-use Rattle.dy_core.proofs.Held.{at_from, row_in-of, row_in-from}
+use Rattle.dy_core.proofs.Held.{at_from, keys_tie, row_in-of, row_in-from}
 use Rattle.dy_index.specs.inside.Held.{has_some, is_hint_here}
-use Rattle.dy_index.specs.Lists.{list_at}
+use Rattle.dy_index.specs.Lists.{IsInOrder, list_at}
 use Rattle.dy_index.specs.Indexes.{IsIndex, IsPart, made_in, part_at}
 use Rattle.dy_index.specs.inside.Listed.{settled_keys}
 use Rattle.dy_index.specs.inside.Listed.{settled_part}
@@ -80,27 +77,6 @@ keys_has (x ∷ es) e there passes =
     go false is (inl same) below =
         absurd (true≢false (sym passes ∙ ap (λ y. settled_part y.1) same ∙ is))
     go false is (inr later) below = below later
-
-all_keys : (P : List ℕ → Type 0) (es : List (List ℕ × KeyPart)) → AllByRecursion P (keys_of es) →
-    AllByRecursion P (settled_keys es)
-all_keys P [] all = tt
-all_keys P (e ∷ es) all = go (settled_part e.1) (all_keys P es all.1)
-  where
-    go : (b : Bool) → AllByRecursion P (settled_keys es) →
-        AllByRecursion P (cond b (e.0 ∷ settled_keys es) (settled_keys es))
-    go true rest = (all.0, rest)
-    go false rest = rest
-
-sorted_keys : (es : List (List ℕ × KeyPart)) → IsStrictlySortedBy key_cmp (keys_of es) →
-    IsStrictlySortedBy key_cmp (settled_keys es)
-unfolding IsStrictlySortedBy
-sorted_keys [] sorted = tt
-sorted_keys (e ∷ es) sorted = go (settled_part e.1) (sorted_keys es sorted.1)
-  where
-    go : (b : Bool) → IsStrictlySortedBy key_cmp (settled_keys es) →
-        IsStrictlySortedBy key_cmp (cond b (e.0 ∷ settled_keys es) (settled_keys es))
-    go true rest = (all_keys (λ k. key_cmp e.0 k ≡ Less) es sorted.0, rest)
-    go false rest = rest
 
 first_in : (vs : List Version) → not (is_nothing vs) ≡ true → (v : Version) × Contains vs v
 first_in [] e = absurd (true≢false (sym e))
@@ -209,18 +185,18 @@ module _ (layout : Layout) (w : World) (sound : IsSound layout w) (key : List �
       eqb-false h.holder h.home (not-true (eqb h.holder h.home) parts.0)
       (settled h.holder h.home first.0.dot s.is_held))
 
--- the settled keys of the index are those of the world
+-- the settled keys of the index, in order, are those of the world
 pub settled_listed : (layout : Layout) (steps : List Step) → IsLegal layout steps →
     (entries : List (List ℕ × KeyPart)) → IsIndex (world_after steps) entries →
     All (λ e. part_at entries e.0 ≡ Some e.1) entries →
     ((key : List ℕ) (p : KeyPart) → part_at entries key ≡ Some p → Contains entries (key, p)) →
-    IsStrictlySortedBy key_cmp (keys_of entries) →
-    ListsSettled (world_after steps) (settled_keys entries)
-settled_listed layout steps legal entries index found has sorted =
+    (keys : List (List ℕ)) → IsInOrder key_cmp (settled_keys entries) keys →
+    ListsSettled (world_after steps) keys
+settled_listed layout steps legal entries index found has keys order =
     record {
       same = λ key. (
         (λ there.
-            let s = keys_from entries key there in
+            let s = keys_from entries key (order.is_item key there) in
             let part = subst (λ k. IsPart w k (Some s.entry.1)) s.key_is
             (subst (IsPart w s.entry.0)
             (All-contains (λ e. part_at entries e.0 ≡ Some e.1) entries s.entry found s.in_list)
@@ -237,14 +213,15 @@ settled_listed layout steps legal entries index found has sorted =
             (in_made w.versions key v.dot.node v h.0.1 (by_from v v.dot.node key refl h.0.2)) in
             let e = entry_at entries has key (part_at entries key) refl v v.dot.node there in
             let part = subst (IsPart w key) e.1 (index key) in
-            keys_has entries (key, e.0) e.2
+            let t = order.tied key (keys_has entries (key, e.0) e.2
             (and_from (list_any has_some e.0.made.items)
             (not (list_any is_hint_here e.0.places.items))
             (version_from layout w sound key e.0 part v h.0.1 h.0.2)
             (not_from_false (list_any is_hint_here e.0.places.items)
-            (settled_from layout w sound key e.0 part h.1)))),
+            (settled_from layout w sound key e.0 part h.1)))) in
+            subst (Contains keys) (sym (keys_tie key t.0 t.2)) t.1),
       );
-      in_order = sorted_keys entries sorted;
+      in_order = order.in_order;
     }
   where
     w : World

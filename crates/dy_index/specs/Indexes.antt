@@ -2,11 +2,8 @@
 use Rattle.std.specs.Prelude.{◌≡◌, ℕ, List, [], Option, None, Some}
 use Rattle.std.specs.List.{All}
 use Rattle.std.specs.List.Sorted.{IsStrictlySortedBy}
-use Rattle.std.specs.Ordering.{nat_cmp}
-use Rattle.std.specs.Cmp.Lexicographic.{slice_cmp}
-use Rattle.std.specs.BTreeMap.{is_at}
 use Rattle.std.specs.Map.{lookup}
-use Rattle.dy_siblings.specs.Siblings.{IsSameRow}
+use Rattle.dy_siblings.specs.Siblings.{IsSameRow, same_key}
 use Rattle.dy_siblings.specs.declared.versions.Version.{Version}
 use Rattle.dy_core.specs.Worlds.{Layout, World, row_at}
 use Rattle.dy_core.specs.Logs.{IsLegal, world_after}
@@ -23,7 +20,7 @@ made_by p node = list_at p.made.items node
 
 -- what the index has of a key, where it has anything
 abbrev pub part_at : List (List ℕ × KeyPart) → List ℕ → Option KeyPart
-part_at entries key = lookup (is_at (slice_cmp nat_cmp key)) entries
+part_at entries key = lookup (same_key key) entries
 
 -- the versions of a node, where there is a part
 abbrev pub made_in : Option KeyPart → ℕ → List Version

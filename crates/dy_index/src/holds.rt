@@ -9,10 +9,10 @@ use crate::parts::KeyPart;
 use dy_dots::{Fault, NodeId};
 use dy_siblings::{Key, Row};
 use std::alloc::Global;
-use std::collections::BTreeMap;
+use std::collections::HashMap;
 
 // Makes a part for the key, where there is none yet.
-fn make_part(alloc: Global, keys: &mut BTreeMap<Key, KeyPart>, key: &Key) -> Result<(), Fault>
+fn make_part(alloc: Global, keys: &mut HashMap<Key, KeyPart>, key: &Key) -> Result<(), Fault>
     ensures same { (w : World) → IsIndex w keys.old.entries → IsIndex w keys.new.entries }
     ensures has { OnOk result (IsSome (part_at keys.new.entries key.now)) }
     ensures memory { IsOkUnless result Fault.OutOfMemory }
@@ -28,7 +28,7 @@ fn make_part(alloc: Global, keys: &mut BTreeMap<Key, KeyPart>, key: &Key) -> Res
 /// Makes a part for the key of a row without versions, if there is none yet.
 pub fn make_part_of(
     alloc: Global,
-    keys: &mut BTreeMap<Key, KeyPart>,
+    keys: &mut HashMap<Key, KeyPart>,
     row: &Row,
 ) -> Result<(), Fault>
     ensures same { (w : World) → IsIndex w keys.old.entries → IsIndex w keys.new.entries }

@@ -3,6 +3,7 @@
 
 mod custodies;
 mod dots;
+mod entries;
 mod holders;
 mod holds;
 mod incomings;

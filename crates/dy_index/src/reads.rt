@@ -16,7 +16,7 @@ use dy_core::Place;
 use dy_dots::{Dot, Fault, NodeId};
 use dy_siblings::{Key, Row, Version};
 use std::alloc::Global;
-use std::collections::BTreeMap;
+use std::collections::HashMap;
 
 /// The greatest counter that the node used for the key, 0 where there is none. Takes no memory.
 pub fn last(part: Option<&KeyPart>, node: NodeId) -> usize
@@ -102,7 +102,7 @@ pub fn covering(
 }
 
 /// A copy of the key. A long one shares its bytes with the index, where the index has it.
-pub fn own_copy(alloc: Global, keys: &BTreeMap<Key, KeyPart>, key: &Key) -> Result<Key, Fault>
+pub fn own_copy(alloc: Global, keys: &HashMap<Key, KeyPart>, key: &Key) -> Result<Key, Fault>
     ensures value { IfOk result (λ copy. copy ≡ key.now) }
     ensures memory { IsOkUnless result Fault.OutOfMemory }
 {

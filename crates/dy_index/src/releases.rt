@@ -7,10 +7,10 @@ use crate::custodies;
 use crate::parts::KeyPart;
 use dy_dots::{Dot, NodeId};
 use dy_siblings::Key;
-use std::collections::BTreeMap;
+use std::collections::HashMap;
 
 /// The dot leaves what the holder holds for the home. Takes no memory.
-pub fn give_up(keys: &mut BTreeMap<Key, KeyPart>, holder: NodeId, home: NodeId, key: &Key, dot: Dot)
+pub fn give_up(keys: &mut HashMap<Key, KeyPart>, holder: NodeId, home: NodeId, key: &Key, dot: Dot)
     ensures { (w : World) → IsIndex w keys.old.entries →
         IsIndex (after_release w holder home key.now dot) keys.new.entries }
 {

@@ -4,7 +4,7 @@
 use Rattle.std.proofs.Common.{◌≡◌, ◌++◌, map, unwrap_or, Some, OnOk, OnErr, sym, ap, ◌∙◌, subst}
 use Rattle.std.proofs.Common.{arith}
 use Rattle.std.proofs.lemmas.Grind.{common_steps}
-use Rattle.std.specs.BTreeMap.Entry.{map_with_value}
+use Rattle.std.specs.HashMap.Entry.{map_with_value}
 use Rattle.dy_core.specs.Worlds.{layout_of}
 use Rattle.dy_core.specs.Steps.{version_made}
 use Rattle.dy_core.specs.Logs.{world_after, IsLegal}
