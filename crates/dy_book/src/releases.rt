@@ -37,11 +37,7 @@ fn steps_of_release<'a, J: Naming>(
 }
 
 // Each receipt's dot leaves what the holder holds for its home. Takes no memory.
-fn give_up_all<J: Naming>(
-    keys: &mut HashMap<Key, KeyPart>,
-    holder: NodeId,
-    receipts: &[Receipt<J>],
-)
+fn give_up_all<J: Naming>(keys: &mut HashMap<Key, KeyPart>, holder: NodeId, receipts: &[Receipt<J>])
     ensures { (w : World) → IsIndex w keys.old.entries →
         IsIndex (world_from w (release_steps holder receipts.now)) keys.new.entries }
 {

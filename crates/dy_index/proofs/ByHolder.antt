@@ -127,8 +127,8 @@ fill_ends hs lists filled =
     (λ i h. (
       (λ there. let f = filled.own i h there in (f.0, omega (arith, f.1))),
       (λ own.
-      let same : h.holder ≡ i = omega (arith, own.1) in
-      subst (λ m. Contains (list_of lists m) h) same (placed h own.0)),
+          let same : h.holder ≡ i = omega (arith, own.1) in
+          subst (λ m. Contains (list_of lists m) h) same (placed h own.0)),
     ))
     (λ h there. let lt = has_list lists h.holder h (placed h there) in omega (arith, lt))
   where

@@ -46,10 +46,7 @@ impl<'a> Ranked for Entry<'a> {
 }
 
 // The entries, as the map has them.
-fn entries_of<'a>(
-    alloc: Global,
-    keys: &'a HashMap<Key, KeyPart>,
-) -> Result<Vec<Entry<'a>>, Fault>
+fn entries_of<'a>(alloc: Global, keys: &'a HashMap<Key, KeyPart>) -> Result<Vec<Entry<'a>>, Fault>
     ensures ok { IfOk result (λ entries. entries.items ≡ keys.now.entries) }
     ensures found { OnOk result
         (All (λ e. part_at keys.now.entries e.0 ≡ Some e.1) keys.now.entries) }

@@ -26,11 +26,7 @@ fn make_part(alloc: Global, keys: &mut HashMap<Key, KeyPart>, key: &Key) -> Resu
 }
 
 /// Makes a part for the key of a row without versions, if there is none yet.
-pub fn make_part_of(
-    alloc: Global,
-    keys: &mut HashMap<Key, KeyPart>,
-    row: &Row,
-) -> Result<(), Fault>
+pub fn make_part_of(alloc: Global, keys: &mut HashMap<Key, KeyPart>, row: &Row) -> Result<(), Fault>
     ensures same { (w : World) → IsIndex w keys.old.entries → IsIndex w keys.new.entries }
     ensures has { OnOk result (row.now.versions ≡ [] →
         IsSome (part_at keys.new.entries row.now.key)) }

@@ -25,8 +25,7 @@ loop-holder-preserved c = λ held are.
     let parts = subst (AreByHolder inv.0 held) c.in-Some.ensures.steps.0 inv.1 in
     let sorted = c.in_ok-sorted.sorted.items in
     let order = subst (λ xs. IsInOrder holding_cmp xs sorted) c.holder.view_is
-    c.in_ok-sorted.ensures.ok in
-    (
+    c.in_ok-sorted.ensures.ok in (
       inv.0 + 1,
       parts.1,
       subst (IsInOrder holding_cmp (held_below (inv.0 + 1) held)) (sym c.in_ok-append.ensures.items)
