@@ -1,7 +1,9 @@
 // How puts are acknowledged.
-ghost use Rattle.std.specs.Prelude.{◌≡◌, ◌≢◌, ◌+◌, ◌<◌, ◌≤◌, ◌↔◌, ◌⊎◌, ◌∷◌, ℕ, List, [], map};
-ghost use Rattle.std.specs.Prelude.{length, nat_eq, IfErr, OnOk, OnErr, IsErrOf};
-ghost use Rattle.std.specs.List.{IsDistinct};
+ghost use Rattle.std.specs.{
+  Prelude.{◌≡◌, ◌≢◌, ◌+◌, ◌<◌, ◌≤◌, ◌↔◌, ◌⊎◌, ◌∷◌, ℕ, List, [], map, length, nat_eq, IfErr, OnOk},
+  Prelude.{OnErr, IsErrOf},
+  List.{IsDistinct},
+};
 ghost use Rattle.dy_dots.specs.declared.dots.Dot.{Dot as DotParts};
 ghost use Rattle.dy_core.specs.declared.steps.Step.TheVariants.{Ack};
 ghost use Rattle.dy_shares.specs.Shares.{NodeStays, SessionBelongsTo, SessionStays};

@@ -1,17 +1,22 @@
-ghost use Rattle.std.specs.Prelude.{◌≡◌, ◌↔◌, ◌+◌, ◌<◌, ◌≤◌, [], length, IfOk, OnOk};
-ghost use Rattle.std.specs.Prelude.{OnErr, IsErrOf, IsOkUnless, MatchBool, MatchOption, false};
-ghost use Rattle.std.specs.Option.{option_copied};
-ghost use Rattle.std.specs.List.{Contains};
+ghost use Rattle.std.specs.{
+  Prelude.{◌≡◌, ◌↔◌, ◌+◌, ◌<◌, ◌≤◌, [], length, IfOk, OnOk, OnErr, IsErrOf, IsOkUnless, MatchBool},
+  Prelude.{MatchOption, false},
+  Option.{option_copied},
+  List.{Contains},
+};
 ghost use Rattle.dy_dots.specs.declared.dots.TheConstants.{MAX_COUNTER};
-ghost use Rattle.dy_core.specs.Worlds.{is_issued, layout_of};
-ghost use Rattle.dy_core.specs.Logs.{IsAnswer, IsLegal};
-ghost use Rattle.dy_core.specs.Covers.{AcksAreCovered};
+ghost use Rattle.dy_core.specs.{
+  Worlds.{is_issued, layout_of},
+  Logs.{IsAnswer, IsLegal},
+  Covers.{AcksAreCovered},
+};
 ghost use Rattle.dy_index.specs.Indexes.{IsPartAfter};
-ghost use Rattle.dy_shares.specs.declared.ledgers.TheConstants.{MAX_SESSIONS};
-ghost use Rattle.dy_shares.specs.Shares.{BelongsTo, HasAll, IsMissing, IsReceipt};
-ghost use Rattle.dy_shares.specs.Shares.{SessionBelongsTo, first_parts, first_session, steps_of};
-ghost use Rattle.dy_book.specs.Limits.{AreLimits, IsQuorum};
-ghost use Rattle.dy_book.specs.Books.{with_session, world_of};
+ghost use Rattle.dy_shares.specs.{
+  declared.ledgers.TheConstants.{MAX_SESSIONS},
+  Shares.{BelongsTo, HasAll, IsMissing, IsReceipt, SessionBelongsTo, first_parts, first_session},
+  Shares.{steps_of},
+};
+ghost use Rattle.dy_book.specs.{Limits.{AreLimits, IsQuorum}, Books.{with_session, world_of}};
 
 use crate::options::Options;
 use dy_dots::{Dot, Fault, NodeId};
@@ -34,8 +39,7 @@ pub struct Book<J: Naming> {
 }
 
 impl<J: Naming> Model for Book<J> {
-    ghost use Rattle.dy_book.specs.Books.{BookParts, book_code};
-    ghost use Rattle.dy_book.specs.inside.Kept.{IsBook};
+    ghost use Rattle.dy_book.specs.{Books.{BookParts, book_code}, inside.Kept.{IsBook}};
 
     ghost Value = { BookParts };
 

@@ -1,12 +1,14 @@
 // How a book ends.
-ghost use Rattle.std.specs.Prelude.{◌≡◌, ◌↔◌, ◌⊎◌, [], map, IfOk};
-ghost use Rattle.std.specs.Prelude.{IfErr, IsErr, IsOkUnless};
-ghost use Rattle.std.specs.List.{All};
+ghost use Rattle.std.specs.{
+  Prelude.{◌≡◌, ◌↔◌, ◌⊎◌, [], map, IfOk, IfErr, IsErr, IsOkUnless},
+  List.{All},
+};
 ghost use Rattle.dy_core.specs.Listings.{ListsCovers, ListsHoldings, ListsSettled};
 ghost use Rattle.dy_shares.specs.Shares.{IsMissing};
-ghost use Rattle.dy_book.specs.Audits.{AreTold, HasNoStep, IsAuditOf, ListsCovered, TellsNow};
-ghost use Rattle.dy_book.specs.Audits.{count_acks, count_gets};
-ghost use Rattle.dy_book.specs.Books.{world_of};
+ghost use Rattle.dy_book.specs.{
+  Audits.{AreTold, HasNoStep, IsAuditOf, ListsCovered, TellsNow, count_acks, count_gets},
+  Books.{world_of},
+};
 
 use crate::audits::{AckedAt, Audit};
 use crate::books::Book;

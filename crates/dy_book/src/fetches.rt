@@ -2,9 +2,11 @@
 ghost use Rattle.std.specs.Prelude.{◌≡◌, ◌+◌, ◌<◌, ◌↔◌, ◌⊎◌, ◌∷◌, ℕ, [], length, IfOk, IfErr};
 ghost use Rattle.std.specs.Prelude.{OnOk, OnErr, IsErrOf, IsOkUnless};
 ghost use Rattle.dy_siblings.specs.Siblings.{IsSameRow};
-ghost use Rattle.dy_core.specs.Worlds.{row_at};
-ghost use Rattle.dy_core.specs.Steps.{place_for};
-ghost use Rattle.dy_core.specs.declared.steps.Step.TheVariants.{Fetch};
+ghost use Rattle.dy_core.specs.{
+  Worlds.{row_at},
+  Steps.{place_for},
+  declared.steps.Step.TheVariants.{Fetch},
+};
 ghost use Rattle.dy_index.specs.Readings.{ListsDots};
 ghost use Rattle.dy_shares.specs.Shares.{NodeStays, SessionStays};
 ghost use Rattle.dy_book.specs.Books.{HasRoom, LacksRoom, with_untold, world_of};

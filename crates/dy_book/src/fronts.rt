@@ -1,8 +1,7 @@
 // The steps of an open book as they are kept, and beginnings of its log.
 ghost use Rattle.std.specs.Prelude.{◌≡◌};
 ghost use mathlib.Core.List.{IsPrefix};
-ghost use Rattle.dy_shares.specs.Shares.{steps_of};
-ghost use Rattle.dy_shares.specs.Trails.{AreKept};
+ghost use Rattle.dy_shares.specs.{Shares.{steps_of}, Trails.{AreKept}};
 
 use crate::books::Book;
 use dy_shares::{Front, KeptStep, Naming};

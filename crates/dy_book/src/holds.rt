@@ -1,25 +1,25 @@
 // How holds are added to the book.
-ghost use Rattle.std.specs.Prelude.{◌≡◌, ◌≢◌, ◌<◌, ◌↔◌, ◌⊎◌, ◌++◌, ◌∷◌, ℕ, [], Some, map};
-ghost use Rattle.std.specs.Prelude.{IsTrue, IfOk, IfErr, OnOk, OnErr, IsErrOf, IsOkUnless};
-ghost use Rattle.std.specs.Prelude.{MatchOption};
-ghost use Rattle.std.specs.List.{All};
-ghost use Rattle.std.specs.List.Sorted.{IsStrictlySortedBy};
+ghost use Rattle.std.specs.{
+  Prelude.{◌≡◌, ◌≢◌, ◌<◌, ◌↔◌, ◌⊎◌, ◌++◌, ◌∷◌, ℕ, [], Some, map, IsTrue, IfOk, IfErr, OnOk, OnErr},
+  Prelude.{IsErrOf, IsOkUnless, MatchOption},
+  List.{All},
+  List.Sorted.{IsStrictlySortedBy},
+};
 ghost use Rattle.dy_dots.specs.declared.dots.Dot.{Dot as DotParts};
 ghost use Rattle.dy_siblings.specs.Siblings.{AreOneByDot};
 ghost use Rattle.dy_preference.specs.Preferences.{homes_of, may_hold};
-ghost use Rattle.dy_core.specs.Worlds.{AreMadeOf, layout_of};
-ghost use Rattle.dy_core.specs.Steps.{place_for};
-ghost use Rattle.dy_core.specs.Logs.{IsLegal, world_after};
-ghost use Rattle.dy_core.specs.Orders.{holding_cmp};
-ghost use Rattle.dy_core.specs.inside.Meanings.{row_in};
-ghost use Rattle.dy_core.specs.declared.steps.Step.TheVariants.{Hold};
-ghost use Rattle.dy_index.specs.Indexes.{IsPart};
-ghost use Rattle.dy_index.specs.Merges.{IsHeldAt};
-ghost use Rattle.dy_index.specs.Readings.{IsLeastNotIssued};
+ghost use Rattle.dy_core.specs.{
+  Worlds.{AreMadeOf, layout_of},
+  Steps.{place_for},
+  Logs.{IsLegal, world_after},
+  Orders.{holding_cmp},
+  inside.Meanings.{row_in},
+  declared.steps.Step.TheVariants.{Hold},
+};
+ghost use Rattle.dy_index.specs.{Indexes.{IsPart}, Merges.{IsHeldAt}, Readings.{IsLeastNotIssued}};
 ghost use Rattle.dy_shares.specs.Shares.{BelongsTo, MayFollow, NodeStays, SessionStays, node_of};
 ghost use Rattle.dy_shares.specs.Shares.{steps_of, untold, with_entries, with_steps};
-ghost use Rattle.dy_book.specs.Books.{HasRoom, LacksRoom, receipts_of};
-ghost use Rattle.dy_book.specs.Books.{with_untold, world_of};
+ghost use Rattle.dy_book.specs.Books.{HasRoom, LacksRoom, receipts_of, with_untold, world_of};
 
 use crate::books::Book;
 use crate::receipts::{give_receipts, more_keys};

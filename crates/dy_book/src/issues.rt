@@ -3,9 +3,11 @@ ghost use Rattle.std.specs.Prelude.{◌≡◌, ◌≢◌, ◌<◌, ℕ, Some, ma
 ghost use Rattle.std.specs.Prelude.{IsOkUnless};
 ghost use Rattle.dy_dots.specs.declared.dots.TheConstants.{MAX_COUNTER};
 ghost use Rattle.dy_preference.specs.Preferences.{homes_of, may_hold};
-ghost use Rattle.dy_core.specs.Worlds.{layout_of};
-ghost use Rattle.dy_core.specs.Steps.{version_made};
-ghost use Rattle.dy_core.specs.Logs.{IsLegal, world_after};
+ghost use Rattle.dy_core.specs.{
+  Worlds.{layout_of},
+  Steps.{version_made},
+  Logs.{IsLegal, world_after},
+};
 ghost use Rattle.dy_index.specs.Indexes.{IsPart};
 ghost use Rattle.dy_shares.specs.Shares.{BelongsTo, NodeStays, SessionStays};
 ghost use Rattle.dy_shares.specs.Shares.{receipt_parts, steps_of, untold, with_entries, with_steps};

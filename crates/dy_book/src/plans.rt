@@ -1,9 +1,7 @@
 // Which version an issue would add.
-ghost use Rattle.std.specs.Prelude.{◌≡◌, ◌+◌, ◌<◌, ◌↔◌, ◌⊎◌, IfOk};
-ghost use Rattle.std.specs.Prelude.{IfErr, IsErrOf, MatchOption};
+ghost use Rattle.std.specs.Prelude.{◌≡◌, ◌+◌, ◌<◌, ◌↔◌, ◌⊎◌, IfOk, IfErr, IsErrOf, MatchOption};
 ghost use Rattle.dy_dots.specs.declared.dots.Dot.{Dot as DotParts};
-ghost use Rattle.dy_core.specs.Steps.{IsKnown, version_made};
-ghost use Rattle.dy_core.specs.Listings.{IsLeastUnknown};
+ghost use Rattle.dy_core.specs.{Steps.{IsKnown, version_made}, Listings.{IsLeastUnknown}};
 ghost use Rattle.dy_book.specs.Books.{HasVersionsLeft, LacksRoom, MayIssue, world_of};
 
 use crate::books::Book;

@@ -1,7 +1,8 @@
 // The receipts of a row that is held: one for each of its versions.
-ghost use Rattle.std.specs.Prelude.{◌≡◌, ◌-◌, ◌<◌, ◌≤◌, [], length, vec_capacity, IfOk, IfSome};
-ghost use Rattle.std.specs.Prelude.{IsSome, IsOkUnless};
-ghost use Rattle.std.specs.List.{All};
+ghost use Rattle.std.specs.{
+  Prelude.{◌≡◌, ◌-◌, ◌<◌, ◌≤◌, [], length, vec_capacity, IfOk, IfSome, IsSome, IsOkUnless},
+  List.{All},
+};
 ghost use Rattle.dy_siblings.specs.declared.keys.TheConstants.{SHORT_KEY_BYTES};
 ghost use Rattle.dy_shares.specs.Shares.{IsReceipt, receipt_parts, steps_of};
 ghost use Rattle.dy_book.specs.Books.{receipts_of};

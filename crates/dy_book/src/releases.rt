@@ -1,9 +1,9 @@
 // How hints are given up.
-ghost use Rattle.std.specs.Prelude.{◌≡◌, ◌≢◌, ◌↔◌, ◌⊎◌, ℕ, [], length, IfOk, IfErr, OnOk, OnErr};
-ghost use Rattle.std.specs.Prelude.{IsErrOf, IsOk, IsOkUnless};
-ghost use Rattle.std.specs.List.{All};
-ghost use Rattle.dy_core.specs.Worlds.{World};
-ghost use Rattle.dy_core.specs.Logs.{world_from};
+ghost use Rattle.std.specs.{
+  Prelude.{◌≡◌, ◌≢◌, ◌↔◌, ◌⊎◌, ℕ, [], length, IfOk, IfErr, OnOk, OnErr, IsErrOf, IsOk, IsOkUnless},
+  List.{All},
+};
+ghost use Rattle.dy_core.specs.{Worlds.{World}, Logs.{world_from}};
 ghost use Rattle.dy_index.specs.Indexes.{IsIndex};
 ghost use Rattle.dy_shares.specs.Shares.{BelongsTo, NodeStays, SessionStays, steps_of, with_steps};
 ghost use Rattle.dy_book.specs.Books.{AreOfDistinctDots, HasRoom, LacksRoom, MayRelease};

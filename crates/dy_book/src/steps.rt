@@ -1,10 +1,11 @@
 // How the steps of a log are read.
 ghost use Rattle.std.specs.Prelude.{◌≡◌, ◌≤◌, ◌-◌, Some, length, slice_get, IfOk, IsOkUnless};
 ghost use Rattle.dy_siblings.specs.Siblings.{Siblings};
-ghost use Rattle.dy_core.specs.declared.steps.Step.{Step as OneStep};
-ghost use Rattle.dy_core.specs.declared.steps.Step.TheVariants.{Issue};
-ghost use Rattle.dy_shares.specs.Shares.{steps_of};
-ghost use Rattle.dy_shares.specs.Trails.{HasRuns, Keeps};
+ghost use Rattle.dy_core.specs.{
+  declared.steps.Step.{Step as OneStep},
+  declared.steps.Step.TheVariants.{Issue},
+};
+ghost use Rattle.dy_shares.specs.{Shares.{steps_of}, Trails.{HasRuns, Keeps}};
 ghost use Rattle.dy_book.specs.inside.Readings.{IsLogged, IsLoggedRow};
 
 use crate::books::Book;

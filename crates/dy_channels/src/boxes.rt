@@ -1,6 +1,8 @@
 ghost use Rattle.std.specs.Prelude.{◌≡◌, ◌<◌, ◌+◌, true, false, IfOk, IsOkUnless};
-ghost use Rattle.crossbeam_channel.specs.Claims.{view};
-ghost use Rattle.crossbeam_channel.specs.Ends.{receives_on, ruled_capacity, sends_on};
+ghost use Rattle.crossbeam_channel.specs.{
+  Claims.{view},
+  Ends.{receives_on, ruled_capacity, sends_on},
+};
 
 use crate::ends::{Receiver, Sender, channel};
 use crossbeam_utils::sync::Unparker;

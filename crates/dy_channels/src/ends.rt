@@ -1,6 +1,8 @@
 ghost use Rattle.std.specs.Prelude.{◌≡◌, ◌<◌, ◌+◌, true, false, IfNone, IfOk, IfSome, IsOkUnless};
-ghost use Rattle.crossbeam_channel.specs.Claims.{IsSeatAt, view};
-ghost use Rattle.crossbeam_channel.specs.Ends.{receives_on, ruled_capacity, sends_on};
+ghost use Rattle.crossbeam_channel.specs.{
+  Claims.{IsSeatAt, view},
+  Ends.{receives_on, ruled_capacity, sends_on},
+};
 
 use crate::rules::{Apart, Counted};
 use crossbeam_channel::{Pass, RuledReceiver, RuledSender, TryRecvError, bounded_with};

@@ -1,13 +1,15 @@
-ghost use Rattle.std.specs.Prelude.{◌≡◌, ◌≤◌, ◌⊎◌, List, [], ℕ, IfOk, IsTrue, OnErr, OnOk};
-ghost use Rattle.std.specs.Io.Buffered.{writer_buffer, writer_contents};
-ghost use Rattle.std.specs.Io.KnownBytes.{Appends};
+ghost use Rattle.std.specs.{
+  Prelude.{◌≡◌, ◌≤◌, ◌⊎◌, List, [], ℕ, IfOk, IsTrue, OnErr, OnOk},
+  Io.Buffered.{writer_buffer, writer_contents},
+  Io.KnownBytes.{Appends},
+};
 ghost use Rattle.dy_jobs.specs.Jobs.{has_script};
-ghost use Rattle.dy_cli.specs.Ends.{IsEnd, IsUnread};
-ghost use Rattle.dy_cli.specs.Jobs.{AreRead, IsRingOfText, IsRunOf, IsServiceOf, IsStormLines};
-ghost use Rattle.dy_cli.specs.Jobs.{IsWritten};
-ghost use Rattle.dy_cli.specs.Refusals.{AreRefused, HasClusterFault, HasRingFault};
-ghost use Rattle.dy_cli.specs.Refusals.{HasServiceFault, IsCause, IsHaltedBy, IsHaltedFor};
-ghost use Rattle.dy_cli.specs.Refusals.{RefusesCluster, RefusesRing, Stops};
+ghost use Rattle.dy_cli.specs.{
+  Ends.{IsEnd, IsUnread},
+  Jobs.{AreRead, IsRingOfText, IsRunOf, IsServiceOf, IsStormLines, IsWritten},
+  Refusals.{AreRefused, HasClusterFault, HasRingFault, HasServiceFault, IsCause, IsHaltedBy},
+  Refusals.{IsHaltedFor, RefusesCluster, RefusesRing, Stops},
+};
 
 use crate::ends::Ended;
 use crate::refusing::{refuse_file, refuse_stopped};

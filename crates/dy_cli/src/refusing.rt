@@ -1,9 +1,9 @@
-ghost use Rattle.std.specs.Prelude.{List, OnOk, Some, ◌≡◌, ◌≢◌, ◌⊎◌, ◌++◌, ℕ, codes};
-ghost use Rattle.std.specs.Io.KnownBytes.{Appends};
-ghost use Rattle.std.specs.IoError.{error_kind};
-ghost use Rattle.dy_lines.specs.Refusals.{refusal_text};
-ghost use Rattle.dy_lines.specs.Stops.{stopped_text};
-ghost use Rattle.dy_lines.specs.Texts.{line};
+ghost use Rattle.std.specs.{
+  Prelude.{List, OnOk, Some, ◌≡◌, ◌≢◌, ◌⊎◌, ◌++◌, ℕ, codes},
+  Io.KnownBytes.{Appends},
+  IoError.{error_kind},
+};
+ghost use Rattle.dy_lines.specs.{Refusals.{refusal_text}, Stops.{stopped_text}, Texts.{line}};
 ghost use Rattle.dy_cli.specs.Ends.{IsStatusOf, IsTold};
 
 use crate::ends::Ended;

@@ -1,9 +1,6 @@
-ghost use Rattle.std.specs.Prelude.{◌≡◌, ◌<◌};
-ghost use Rattle.std.specs.declared.marker.Brand.{Brand as BrandParts};
-ghost use Rattle.dy_cluster.specs.Settings.{Setting, setting};
-ghost use Rattle.dy_cluster.specs.Tellings.{IsUntold};
-ghost use Rattle.dy_clients.specs.Runs.{EndsRun};
-ghost use Rattle.dy_clients.specs.Tellings.{ClientSaying};
+ghost use Rattle.std.specs.{Prelude.{◌≡◌, ◌<◌}, declared.marker.Brand.{Brand as BrandParts}};
+ghost use Rattle.dy_cluster.specs.{Settings.{Setting, setting}, Tellings.{IsUntold}};
+ghost use Rattle.dy_clients.specs.{Runs.{EndsRun}, Tellings.{ClientSaying}};
 
 use crate::accesses::Access;
 use crate::clients_done::ClientsDone;

@@ -1,15 +1,19 @@
 // A cluster for one client on the caller's own thread.
-ghost use Rattle.std.specs.Prelude.{◌≡◌, ◌⊎◌, [], ◌∷◌, IfOk, IfErr, IsErrOf};
-ghost use Rattle.std.specs.declared.marker.Brand.{Brand as BrandParts};
+ghost use Rattle.std.specs.{
+  Prelude.{◌≡◌, ◌⊎◌, [], ◌∷◌, IfOk, IfErr, IsErrOf},
+  declared.marker.Brand.{Brand as BrandParts},
+};
 ghost use Rattle.dy_dots.specs.declared.faults.Fault.{Fault as FaultParts};
 ghost use Rattle.dy_book.specs.Limits.{AreLimits, IsQuorum};
 ghost use Rattle.dy_shares.specs.Shares.{SessionPart};
-ghost use Rattle.dy_cluster.specs.Ends.{IsClosed};
-ghost use Rattle.dy_cluster.specs.Named.{NamesBook};
-ghost use Rattle.dy_cluster.specs.Refusals.{IsOpenRefusal};
-ghost use Rattle.dy_cluster.specs.Settings.{Setting, setting};
-ghost use Rattle.dy_cluster.specs.Stores.{TellsStores};
-ghost use Rattle.dy_cluster.specs.Tellings.{IsUntold};
+ghost use Rattle.dy_cluster.specs.{
+  Ends.{IsClosed},
+  Named.{NamesBook},
+  Refusals.{IsOpenRefusal},
+  Settings.{Setting, setting},
+  Stores.{TellsStores},
+  Tellings.{IsUntold},
+};
 ghost use Rattle.dy_clients.specs.Refusals.{IsRunRefusal};
 
 use crate::accesses::Access;

@@ -1,11 +1,11 @@
 // Seats: the clients' numbers, sessions and answers.
-ghost use Rattle.std.specs.Prelude.{◌≡◌, ◌≤◌, ◌<◌, ◌+◌, [], length, vec_len, vec_capacity};
-ghost use Rattle.std.specs.Prelude.{true, false, IsTrue, IsSome};
-ghost use Rattle.std.specs.List.{All};
-ghost use Rattle.std.specs.Option.{ForSome};
+ghost use Rattle.std.specs.{
+  Prelude.{◌≡◌, ◌≤◌, ◌<◌, ◌+◌, [], length, vec_len, vec_capacity, true, false, IsTrue, IsSome},
+  List.{All},
+  Option.{ForSome},
+};
 ghost use Rattle.dy_dots.specs.declared.nodes.TheConstants.{MAX_NODES};
-ghost use Rattle.dy_cluster.specs.Settings.{setting};
-ghost use Rattle.dy_cluster.specs.Tellings.{IsUntold};
+ghost use Rattle.dy_cluster.specs.{Settings.{setting}, Tellings.{IsUntold}};
 ghost use Rattle.dy_clients.specs.Tellings.{AreAnswered, ClientSaying, SaysToo, as_answered};
 
 use crate::accesses::Access;

@@ -1,15 +1,20 @@
 // Clients in threads of their own, beside the nodes' workers or without.
-ghost use Rattle.std.specs.Prelude.{◌≡◌, ◌↔◌, [], length, IsTrue};
-ghost use Rattle.std.specs.Prelude.{IfOk, IfErr, IsOk, IsOkUnless};
-ghost use Rattle.std.specs.List.{All};
-ghost use Rattle.std.specs.declared.marker.Brand.{Brand as BrandParts};
-ghost use Rattle.dy_cluster.specs.Named.{NamesBook};
-ghost use Rattle.dy_cluster.specs.Settings.{setting};
-ghost use Rattle.dy_cluster.specs.Stores.{TellsStores};
-ghost use Rattle.dy_cluster.specs.Tellings.{IsUntold};
-ghost use Rattle.dy_clients.specs.Refusals.{IsRunRefusal};
-ghost use Rattle.dy_clients.specs.Runs.{EndsRun, HaveRun};
-ghost use Rattle.dy_clients.specs.Tellings.{AreAnswered, SaysToo, as_answered};
+ghost use Rattle.std.specs.{
+  Prelude.{◌≡◌, ◌↔◌, [], length, IsTrue, IfOk, IfErr, IsOk, IsOkUnless},
+  List.{All},
+  declared.marker.Brand.{Brand as BrandParts},
+};
+ghost use Rattle.dy_cluster.specs.{
+  Named.{NamesBook},
+  Settings.{setting},
+  Stores.{TellsStores},
+  Tellings.{IsUntold},
+};
+ghost use Rattle.dy_clients.specs.{
+  Refusals.{IsRunRefusal},
+  Runs.{EndsRun, HaveRun},
+  Tellings.{AreAnswered, SaysToo, as_answered},
+};
 
 use crate::clients::Client;
 use crate::clients_done::ClientsDone;

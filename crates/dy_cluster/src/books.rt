@@ -1,8 +1,6 @@
 // The book of a cluster: how it opens, and what it lists.
 ghost use Rattle.std.specs.Prelude.{◌≡◌, length, IfOk, IsOkUnless};
-ghost use Rattle.dy_cluster.specs.Ends.{IsOpenAudit};
-ghost use Rattle.dy_cluster.specs.Firsts.{AreFirstFrom};
-ghost use Rattle.dy_cluster.specs.Named.{NamesBook};
+ghost use Rattle.dy_cluster.specs.{Ends.{IsOpenAudit}, Firsts.{AreFirstFrom}, Named.{NamesBook}};
 
 use crate::openings::Opened;
 use dy_book::{Audit, Book, Options};

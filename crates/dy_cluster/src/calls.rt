@@ -4,15 +4,18 @@ ghost use Rattle.dy_dots.specs.declared.nodes.TheConstants.{MAX_NODES};
 ghost use Rattle.dy_shares.specs.Shares.{since_of, with_get};
 ghost use Rattle.dy_reads.specs.Lists.{homes_in};
 ghost use Rattle.dy_quorum.specs.Gatherings.{first_answers};
-ghost use Rattle.dy_coord.specs.Calls.{IsFresh};
-ghost use Rattle.dy_coord.specs.Gets.{IsGetRefused, IsGot};
-ghost use Rattle.dy_coord.specs.PutDones.{IsPutDone};
-ghost use Rattle.dy_coord.specs.PutEnds.{PutEnds};
-ghost use Rattle.dy_repair.specs.Repairs.{IsRepaired};
-ghost use Rattle.dy_repair.specs.Stales.{AreCurrent};
-ghost use Rattle.dy_cluster.specs.Connections.{IsMended};
-ghost use Rattle.dy_cluster.specs.Lists.{list_of};
-ghost use Rattle.dy_cluster.specs.inside.Calls.{GetsBy, IsUnasked, KeepsTries, PutsBy};
+ghost use Rattle.dy_coord.specs.{
+  Calls.{IsFresh},
+  Gets.{IsGetRefused, IsGot},
+  PutDones.{IsPutDone},
+  PutEnds.{PutEnds},
+};
+ghost use Rattle.dy_repair.specs.{Repairs.{IsRepaired}, Stales.{AreCurrent}};
+ghost use Rattle.dy_cluster.specs.{
+  Connections.{IsMended},
+  Lists.{list_of},
+  inside.Calls.{GetsBy, IsUnasked, KeepsTries, PutsBy},
+};
 
 use crate::clusters::Cluster;
 use crate::kept_lists::KeptLists;

@@ -1,6 +1,5 @@
 // Puts what was present in a closed cluster into another one.
-ghost use Rattle.std.specs.Prelude.{◌≡◌, map, IfOk, IfErr, OnOk};
-ghost use Rattle.std.specs.Prelude.{IsOkUnless, Err};
+ghost use Rattle.std.specs.Prelude.{◌≡◌, map, IfOk, IfErr, OnOk, IsOkUnless, Err};
 ghost use Rattle.std.specs.FinSet as set;
 ghost use Rattle.dy_cluster.specs.Carrying.{AreCarried, EndsBehindNothing, IsCarried, StopsAt};
 ghost use Rattle.dy_cluster.specs.Carrying.{IsCarriedOver, StopsCarrying};

@@ -1,12 +1,14 @@
 ghost use Rattle.std.specs.Prelude.{◌≡◌, ◌≤◌, ◌⊎◌, ◌↔◌, ◌++◌, ◌∷◌, [], length, vec_len};
 ghost use Rattle.std.specs.Prelude.{vec_capacity, IfOk, IfErr, OnErr, IsOkUnless};
 ghost use Rattle.dy_dots.specs.declared.nodes.TheConstants.{MAX_NODES};
+ghost use Rattle.dy_cluster.specs.{
+  Ends.{IsClosed, IsOpenAudit},
+  Named.{NamesBook},
+  Stores.{TellsStores},
+};
 ghost use Rattle.dy_shares.specs.Shares.{IsMissing, SessionPart};
 ghost use Rattle.dy_book.specs.Limits.{IsQuorum};
 ghost use Rattle.dy_transport.specs.Told.{nothing_told};
-ghost use Rattle.dy_cluster.specs.Ends.{IsClosed, IsOpenAudit};
-ghost use Rattle.dy_cluster.specs.Named.{NamesBook};
-ghost use Rattle.dy_cluster.specs.Stores.{TellsStores};
 
 use crate::books::{OpenBook, audit_of, open_book};
 use crate::locks::{lock_all, rejoin_all, retire_all};

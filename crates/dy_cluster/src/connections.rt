@@ -5,12 +5,13 @@ ghost use Rattle.dy_shares.specs.Shares.{since_of, with_get};
 ghost use Rattle.dy_transport.specs.Told.{Told};
 ghost use Rattle.dy_reads.specs.Lists.{homes_in};
 ghost use Rattle.dy_quorum.specs.Gatherings.{first_answers};
-ghost use Rattle.dy_coord.specs.Gets.{IsGot};
-ghost use Rattle.dy_coord.specs.PutDones.{IsPutDone};
+ghost use Rattle.dy_coord.specs.{Gets.{IsGot}, PutDones.{IsPutDone}};
 ghost use Rattle.dy_repair.specs.Stales.{AreCurrent};
-ghost use Rattle.dy_cluster.specs.Connections.{IsMended, IsRefusedAnew, PutEndsAnew};
-ghost use Rattle.dy_cluster.specs.Lists.{list_of};
-ghost use Rattle.dy_cluster.specs.Tellings.{IsUntold};
+ghost use Rattle.dy_cluster.specs.{
+  Connections.{IsMended, IsRefusedAnew, PutEndsAnew},
+  Lists.{list_of},
+  Tellings.{IsUntold},
+};
 
 use crate::clusters::Cluster;
 use crate::kept_lists::KeptLists;

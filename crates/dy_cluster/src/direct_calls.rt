@@ -1,15 +1,16 @@
 ghost use Rattle.std.specs.Prelude.{◌≡◌, ◌≤◌, [], IfOk, IfErr, OnErr, IsOkUnless};
+ghost use Rattle.dy_coord.specs.{
+  Gets.{IsGetRefused, IsGot},
+  PutDones.{IsPutDone},
+  PutEnds.{PutEnds},
+};
 ghost use Rattle.dy_dots.specs.declared.nodes.TheConstants.{MAX_NODES};
 ghost use Rattle.dy_shares.specs.Shares.{since_of, with_get};
 ghost use Rattle.dy_transport.specs.Told.{nothing_told};
 ghost use Rattle.dy_reads.specs.Lists.{homes_in};
 ghost use Rattle.dy_quorum.specs.Gatherings.{first_answers};
-ghost use Rattle.dy_coord.specs.Gets.{IsGetRefused, IsGot};
-ghost use Rattle.dy_coord.specs.PutDones.{IsPutDone};
-ghost use Rattle.dy_coord.specs.PutEnds.{PutEnds};
 ghost use Rattle.dy_repair.specs.Stales.{AreCurrent};
-ghost use Rattle.dy_cluster.specs.Connections.{IsMended};
-ghost use Rattle.dy_cluster.specs.Lists.{list_of};
+ghost use Rattle.dy_cluster.specs.{Connections.{IsMended}, Lists.{list_of}};
 
 use crate::clusters::Cluster;
 use crate::kept_lists::KeptLists;
@@ -33,9 +34,9 @@ pub struct DirectCalls<'a, J: Naming> {
 impl<'a, J: Naming> Model for DirectCalls<'a, J> {
     ghost use Rattle.std.specs.Coded.{codes};
     ghost use Rattle.dy_dots.specs.Dots.{dot_set_code};
+    ghost use Rattle.dy_transport.specs.Told.{Told};
     ghost use Rattle.dy_siblings.specs.Siblings.{siblings_code};
     ghost use Rattle.dy_shares.specs.Codes.{answer_code, receipt_parts_code as receipt_code};
-    ghost use Rattle.dy_transport.specs.Told.{Told};
 
     ghost Value = { Told J };
 

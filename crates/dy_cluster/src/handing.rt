@@ -4,9 +4,11 @@ ghost use Rattle.std.specs.Prelude.{IfOk, IfErr, IsErrOf, IsOkUnless};
 ghost use Rattle.std.specs.FinMap as maps;
 ghost use Rattle.dy_transport.specs.Told.{Told};
 ghost use Rattle.dy_handoff.specs.Passes.{IsPass};
-ghost use Rattle.dy_cluster.specs.Deliveries.{IsDelivery, IsDeliveryRefusal};
-ghost use Rattle.dy_cluster.specs.Named.{IsNodeOf};
-ghost use Rattle.dy_cluster.specs.Shows.{IsShow};
+ghost use Rattle.dy_cluster.specs.{
+  Deliveries.{IsDelivery, IsDeliveryRefusal},
+  Named.{IsNodeOf},
+  Shows.{IsShow},
+};
 
 use crate::clusters::Cluster;
 use dy_dots::{Fault, NodeId};

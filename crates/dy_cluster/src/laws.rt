@@ -1,34 +1,44 @@
 //! What the nodes of a closed cluster keep, and what its sessions were sure to read. Each is a
 //! function that does nothing.
-ghost use Rattle.std.specs.Prelude.{◌≡◌, ◌<◌, ◌≤◌, ◌+◌, ℕ, ◌↔◌, List, IsTrue, false, length};
-ghost use Rattle.std.specs.Prelude.{take};
-ghost use Rattle.std.specs.List.{All, Contains};
+ghost use Rattle.std.specs.{
+  Prelude.{◌≡◌, ◌<◌, ◌≤◌, ◌+◌, ℕ, ◌↔◌, List, IsTrue, false, length, take},
+  List.{All, Contains},
+};
 ghost use Rattle.dy_dots.specs.declared.dots.Dot.{Dot};
-ghost use Rattle.dy_siblings.specs.Siblings.{AreOneByDot, covers, newest};
-ghost use Rattle.dy_siblings.specs.Versions.{precedes};
-ghost use Rattle.dy_siblings.specs.declared.versions.Version.{Version};
+ghost use Rattle.dy_siblings.specs.{
+  Siblings.{AreOneByDot, covers, newest},
+  Versions.{precedes},
+  declared.versions.Version.{Version},
+};
 ghost use Rattle.dy_ring.specs.Rings.{Tokens};
-ghost use Rattle.dy_core.specs.Covers.{CoverThemselves};
-ghost use Rattle.dy_core.specs.Logs.{Answer, AnswerAgain, rows_of, world_after};
-ghost use Rattle.dy_core.specs.Worlds.{IsSettled};
-ghost use Rattle.dy_core.specs.declared.acks.Acked.{Acked};
+ghost use Rattle.dy_core.specs.{
+  Covers.{CoverThemselves},
+  Logs.{Answer, AnswerAgain, rows_of, world_after},
+  Worlds.{IsSettled},
+  declared.acks.Acked.{Acked},
+};
 ghost use Rattle.dy_shares.specs.Shares.{GetTold, IsAckSpent, IsOfHomes, SessionPart, steps_of};
-ghost use Rattle.dy_book.specs.Audits.{IsTold, ListsAck, TellsHeld};
-ghost use Rattle.dy_book.specs.declared.audits.Audit.{Audit};
+ghost use Rattle.dy_book.specs.{
+  Audits.{IsTold, ListsAck, TellsHeld},
+  declared.audits.Audit.{Audit},
+};
 ghost use Rattle.dy_transport.specs.Told.{Told};
-ghost use Rattle.dy_coord.specs.Gets.{IsGot};
-ghost use Rattle.dy_coord.specs.Sure.{IsSureOf, ack_of, get_of};
-ghost use Rattle.dy_coord.specs.declared.get_done.GetDone.{GetDone};
-ghost use Rattle.dy_coord.specs.declared.put_results.PutDone.{PutDone};
-ghost use Rattle.dy_cluster.specs.Carrying.{IsAmong};
-ghost use Rattle.dy_cluster.specs.Ends.{AtRest, IsClosed, IsEndOf, IsOpenAudit};
-ghost use Rattle.dy_cluster.specs.Guarantees.{GivesNothingDeleted, IsRead, NeverGoesBack};
-ghost use Rattle.dy_cluster.specs.Guarantees.{ReadsOwnWrites, ReadsWritesOf};
-ghost use Rattle.dy_cluster.specs.Lists.{list_of};
-ghost use Rattle.dy_cluster.specs.PresentValues.{ArePresent, KeepsVersion, versions_held};
-ghost use Rattle.dy_cluster.specs.Stores.{AreCovering, IsKept, TellsAcks};
-ghost use Rattle.dy_cluster.specs.declared.resting.Closed.{Closed};
-ghost use Rattle.dy_cluster.specs.declared.values.PresentValue.{PresentValue as PresentParts};
+ghost use Rattle.dy_coord.specs.{
+  Gets.{IsGot},
+  Sure.{IsSureOf, ack_of, get_of},
+  declared.get_done.GetDone.{GetDone},
+  declared.put_results.PutDone.{PutDone},
+};
+ghost use Rattle.dy_cluster.specs.{
+  Carrying.{IsAmong},
+  Ends.{AtRest, IsClosed, IsEndOf, IsOpenAudit},
+  Guarantees.{GivesNothingDeleted, IsRead, NeverGoesBack, ReadsOwnWrites, ReadsWritesOf},
+  Lists.{list_of},
+  PresentValues.{ArePresent, KeepsVersion, versions_held},
+  Stores.{AreCovering, IsKept, TellsAcks},
+  declared.resting.Closed.{Closed},
+  declared.values.PresentValue.{PresentValue as PresentParts},
+};
 
 use dy_shares::Naming;
 use dy_shares::laws::told_acks_are_logged;

@@ -1,8 +1,7 @@
 // How nodes go into their locks, and out of them.
 ghost use Rattle.std.specs.Prelude.{◌≡◌, ◌≤◌, ◌<◌, ◌+◌, [], length, vec_len, vec_capacity};
 ghost use Rattle.dy_node.specs.Nodes.{first_state};
-ghost use Rattle.dy_cluster.specs.Ends.{GoTogether, GoesWith};
-ghost use Rattle.dy_cluster.specs.Firsts.{AreFirstFrom};
+ghost use Rattle.dy_cluster.specs.{Ends.{GoTogether, GoesWith}, Firsts.{AreFirstFrom}};
 
 use dy_node::{Node, Rest};
 use dy_shares::{Naming, NodeShare};

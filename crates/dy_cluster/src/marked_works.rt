@@ -1,14 +1,17 @@
 // A cluster that is opened for a work that reads its steps.
-ghost use Rattle.std.specs.Prelude.{◌≡◌, ◌⊎◌, [], List, IfOk, IfErr, IsErrOf};
-ghost use Rattle.std.specs.declared.marker.Brand.{Brand as BrandParts};
+ghost use Rattle.std.specs.{
+  Prelude.{◌≡◌, ◌⊎◌, [], List, IfOk, IfErr, IsErrOf},
+  declared.marker.Brand.{Brand as BrandParts},
+};
 ghost use Rattle.dy_dots.specs.declared.faults.Fault.{Fault as FaultParts};
 ghost use Rattle.dy_book.specs.Limits.{AreLimits, IsQuorum};
-ghost use Rattle.dy_shares.specs.Shares.{SessionPart};
-ghost use Rattle.dy_shares.specs.declared.entries.Entry.{Entry};
-ghost use Rattle.dy_cluster.specs.Marks.{IsClosedBehind};
-ghost use Rattle.dy_cluster.specs.Named.{NamesBook};
-ghost use Rattle.dy_cluster.specs.Refusals.{IsOpenRefusal};
-ghost use Rattle.dy_cluster.specs.Settings.{Setting, setting};
+ghost use Rattle.dy_shares.specs.{Shares.{SessionPart}, declared.entries.Entry.{Entry}};
+ghost use Rattle.dy_cluster.specs.{
+  Marks.{IsClosedBehind},
+  Named.{NamesBook},
+  Refusals.{IsOpenRefusal},
+  Settings.{Setting, setting},
+};
 
 use crate::clusters::Cluster;
 use crate::marks::Mark;

@@ -22,8 +22,7 @@ pub struct Mark<J: Naming> {
 
 impl<J: Naming> Model for Mark<J> {
     ghost use Rattle.std.specs.Prelude.{◌≡◌, List, length};
-    ghost use Rattle.dy_shares.specs.Codes.{entries_code};
-    ghost use Rattle.dy_shares.specs.declared.entries.Entry.{Entry};
+    ghost use Rattle.dy_shares.specs.{Codes.{entries_code}, declared.entries.Entry.{Entry}};
     ghost use Rattle.dy_cluster.specs.Marks.{log_of};
 
     ghost Value = { List Entry };

@@ -1,6 +1,5 @@
 // The nodes' mailboxes, transports over them, and workers.
-ghost use Rattle.std.specs.Prelude.{◌≡◌, length, IfOk, IsOkUnless};
-ghost use Rattle.std.specs.List.{range_with_len};
+ghost use Rattle.std.specs.{Prelude.{◌≡◌, length, IfOk, IsOkUnless}, List.{range_with_len}};
 ghost use Rattle.dy_dots.specs.declared.nodes.TheConstants.{MAX_NODES};
 ghost use Rattle.dy_transport.specs.Told.{nothing_told};
 

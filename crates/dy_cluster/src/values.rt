@@ -1,7 +1,9 @@
 // The present values of what is held.
 ghost use Rattle.std.specs.Prelude.{◌≡◌, ◌++◌, OnOk, IfOk, IsOkUnless, flat_map};
-ghost use Rattle.dy_cluster.specs.PresentValues.{ArePresent, present_cmp};
-ghost use Rattle.dy_cluster.specs.inside.Pasts.{values_in};
+ghost use Rattle.dy_cluster.specs.{
+  PresentValues.{ArePresent, present_cmp},
+  inside.Pasts.{values_in},
+};
 ghost use Rattle.dy_index.specs.Lists.{IsInOrder};
 
 use crate::pasts::{Pasts, pasts_of};

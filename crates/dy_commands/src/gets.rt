@@ -1,11 +1,15 @@
 ghost use Rattle.std.specs.Prelude.{◌≡◌, ◌↔◌, ℕ, List, Result, false};
-ghost use Rattle.dy_dots.specs.declared.nodes.TheConstants.{MAX_NODES};
-ghost use Rattle.dy_dots.specs.declared.faults.Fault.{Fault as FaultParts};
-ghost use Rattle.dy_commands.specs.Answers.{TellsGet};
-ghost use Rattle.dy_commands.specs.Commands.{IsTogether};
-ghost use Rattle.dy_commands.specs.Seats.{IsOpen, IsOpened, seat_of};
-ghost use Rattle.dy_commands.specs.Texts.{IsKeyJudged};
-ghost use Rattle.dy_commands.specs.Writes.{IsRead, ReadsJudged};
+ghost use Rattle.dy_dots.specs.{
+  declared.nodes.TheConstants.{MAX_NODES},
+  declared.faults.Fault.{Fault as FaultParts},
+};
+ghost use Rattle.dy_commands.specs.{
+  Answers.{TellsGet},
+  Commands.{IsTogether},
+  Seats.{IsOpen, IsOpened, seat_of},
+  Texts.{IsKeyJudged},
+  Writes.{IsRead, ReadsJudged},
+};
 
 use crate::givens::read_key;
 use crate::runners::Runner;

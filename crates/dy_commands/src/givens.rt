@@ -1,8 +1,7 @@
 // What a command is given, its texts judged: the sizes of the key and of the value first.
 ghost use Rattle.std.specs.Prelude.{◌≡◌, ◌<◌, ◌⊎◌, ◌↔◌, Some, None, IfOk, IfErr, IsErrOf};
 ghost use Rattle.std.specs.Prelude.{length, IsTrue, option_map, string_bytes};
-ghost use Rattle.dy_siblings.specs.Sizes.{IsKey};
-ghost use Rattle.dy_siblings.specs.declared.values.TheConstants.{MAX_VALUE_BYTES};
+ghost use Rattle.dy_siblings.specs.{Sizes.{IsKey}, declared.values.TheConstants.{MAX_VALUE_BYTES}};
 ghost use Rattle.dy_commands.specs.Texts.{IsGiven, IsGivenRefused, IsKeyJudged};
 
 use dy_dots::{Context, Fault};

@@ -1,12 +1,11 @@
 // What a command does at one node.
 ghost use Rattle.std.specs.Prelude.{◌≡◌, None, IfErr, IfOk, IsOkUnless, OnOk, List, map, ℕ};
-ghost use Rattle.dy_siblings.specs.Siblings.{Siblings};
-ghost use Rattle.dy_siblings.specs.Sizes.{IsKey};
-ghost use Rattle.dy_cluster.specs.Named.{IsNodeOf};
-ghost use Rattle.dy_cluster.specs.Shows.{IsShow};
-ghost use Rattle.dy_commands.specs.Answers.{IsDeliveryTold, IsPassTold, IsShowTold};
-ghost use Rattle.dy_commands.specs.Answers.{kept_row};
-ghost use Rattle.dy_commands.specs.Texts.{IsKeyRefused};
+ghost use Rattle.dy_siblings.specs.{Siblings.{Siblings}, Sizes.{IsKey}};
+ghost use Rattle.dy_cluster.specs.{Named.{IsNodeOf}, Shows.{IsShow}};
+ghost use Rattle.dy_commands.specs.{
+  Answers.{IsDeliveryTold, IsPassTold, IsShowTold, kept_row},
+  Texts.{IsKeyRefused},
+};
 
 use crate::givens::read_key;
 use crate::writes::refused;

@@ -1,9 +1,11 @@
 ghost use Rattle.std.specs.Prelude.{◌≡◌, ◌↔◌, None, false};
 ghost use Rattle.dy_dots.specs.declared.nodes.TheConstants.{MAX_NODES};
-ghost use Rattle.dy_commands.specs.Answers.{TellsPut};
-ghost use Rattle.dy_commands.specs.Commands.{IsTogether};
-ghost use Rattle.dy_commands.specs.Seats.{IsOpen, IsOpened, seat_of};
-ghost use Rattle.dy_commands.specs.Writes.{IsWritten, RunsJudged};
+ghost use Rattle.dy_commands.specs.{
+  Answers.{TellsPut},
+  Commands.{IsTogether},
+  Seats.{IsOpen, IsOpened, seat_of},
+  Writes.{IsWritten, RunsJudged},
+};
 
 use crate::givens::Given;
 use crate::runners::Runner;

@@ -1,5 +1,4 @@
-ghost use Rattle.std.specs.Prelude.{◌≡◌, ◌↔◌, map, IfOk, IsOkUnless, IsTrue};
-ghost use Rattle.std.specs.List.{All};
+ghost use Rattle.std.specs.{Prelude.{◌≡◌, ◌↔◌, map, IfOk, IsOkUnless, IsTrue}, List.{All}};
 ghost use Rattle.dy_siblings.specs.Siblings.{IsSiblingSet, present_values};
 ghost use Rattle.dy_coord.specs.Sure.{IsSureOf};
 

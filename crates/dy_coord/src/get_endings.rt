@@ -1,6 +1,7 @@
-ghost use Rattle.std.specs.Prelude.{◌≡◌, ◌<◌, ◌≤◌, [], ℕ, List, length, map, nat_eq};
-ghost use Rattle.std.specs.Prelude.{IfOk, IfErr, OnOk, OnErr, IsOkUnless};
-ghost use Rattle.std.specs.List.{All, IsDistinct};
+ghost use Rattle.std.specs.{
+  Prelude.{◌≡◌, ◌<◌, ◌≤◌, [], ℕ, List, length, map, nat_eq, IfOk, IfErr, OnOk, OnErr, IsOkUnless},
+  List.{All, IsDistinct},
+};
 ghost use Rattle.dy_siblings.specs.Siblings.{IsSameRow, context_of, newest};
 ghost use Rattle.dy_core.specs.Logs.{rows_of};
 ghost use Rattle.dy_shares.specs.Shares.{since_of, with_get};

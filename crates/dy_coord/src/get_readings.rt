@@ -1,18 +1,22 @@
-ghost use Rattle.std.specs.Prelude.{◌≡◌, ◌<◌, ◌≤◌, ◌+◌, ◌*◌, ℕ, List, [], ◌∷◌, ◌++◌, map};
-ghost use Rattle.std.specs.Prelude.{length, IfNone, IfSome};
-ghost use Rattle.std.specs.List.{All, Contains};
+ghost use Rattle.std.specs.{
+  Prelude.{◌≡◌, ◌<◌, ◌≤◌, ◌+◌, ◌*◌, ℕ, List, [], ◌∷◌, ◌++◌, map, length, IfNone, IfSome},
+  List.{All, Contains},
+};
+ghost use Rattle.dy_transport.specs.{
+  Asking.{IsSeenAt},
+  Snapshots.{snapshot_of},
+  Told.{Told},
+  declared.asked.What.TheVariants.{Fetch},
+};
 ghost use Rattle.dy_dots.specs.declared.nodes.TheConstants.{MAX_NODES};
 ghost use Rattle.dy_preference.specs.Preferences.{IsPreferred, home_for};
 ghost use Rattle.dy_quorum.specs.Gatherings.{first_answers};
-ghost use Rattle.dy_transport.specs.Asking.{IsSeenAt};
-ghost use Rattle.dy_transport.specs.Snapshots.{snapshot_of};
-ghost use Rattle.dy_transport.specs.Told.{Told};
-ghost use Rattle.dy_transport.specs.declared.asked.What.TheVariants.{Fetch};
-ghost use Rattle.dy_reads.specs.Lists.{homes_in};
-ghost use Rattle.dy_reads.specs.Rules.{IsReadOut, HasRead, as_read};
-ghost use Rattle.dy_coord.specs.Gets.{StopsSoon, seen_in, seens_of};
-ghost use Rattle.dy_coord.specs.inside.GetParts.{Collects};
-ghost use Rattle.dy_coord.specs.inside.Reads.{MayRead};
+ghost use Rattle.dy_reads.specs.{Lists.{homes_in}, Rules.{IsReadOut, HasRead, as_read}};
+ghost use Rattle.dy_coord.specs.{
+  Gets.{StopsSoon, seen_in, seens_of},
+  inside.GetParts.{Collects},
+  inside.Reads.{MayRead},
+};
 
 use crate::get_tasks::GetTask;
 use dy_core::Place;

@@ -1,12 +1,10 @@
-ghost use Rattle.std.specs.Prelude.{◌≡◌, ◌≢◌, ◌≤◌, ◌*◌, [], length, IfOk, IfErr, OnErr};
-ghost use Rattle.std.specs.Prelude.{IsOkUnless};
+ghost use Rattle.std.specs.Prelude.{◌≡◌, ◌≢◌, ◌≤◌, ◌*◌, [], length, IfOk, IfErr, OnErr, IsOkUnless};
 ghost use Rattle.dy_dots.specs.declared.faults.Fault.TheVariants.{NotEnough};
 ghost use Rattle.dy_preference.specs.Preferences.{IsPreferred};
 ghost use Rattle.dy_shares.specs.Shares.{since_of, with_get};
 ghost use Rattle.dy_quorum.specs.Gatherings.{first_answers};
 ghost use Rattle.dy_transport.specs.Told.{Told};
-ghost use Rattle.dy_coord.specs.Calls.{IsFresh};
-ghost use Rattle.dy_coord.specs.Gets.{IsGetRefused, IsGot};
+ghost use Rattle.dy_coord.specs.{Calls.{IsFresh}, Gets.{IsGetRefused, IsGot}};
 
 use crate::get_done::GetDone;
 use crate::get_endings::finish;

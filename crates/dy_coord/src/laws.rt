@@ -1,30 +1,35 @@
 //! The laws of puts and gets. Each is a function that does nothing, and its contract is the law.
-ghost use Rattle.std.specs.Prelude.{◌≡◌, ◌<◌, ◌≤◌, ◌↔◌, ℕ, List, Option, Result, Ok, Err, IfErr};
-ghost use Rattle.std.specs.Prelude.{IsTrue, length};
-ghost use Rattle.std.specs.List.{All, Contains};
+ghost use Rattle.std.specs.{
+  Prelude.{◌≡◌, ◌<◌, ◌≤◌, ◌↔◌, ℕ, List, Option, Result, Ok, Err, IfErr, IsTrue, length},
+  List.{All, Contains},
+};
 ghost use Rattle.std.specs.FinSet as set;
-ghost use Rattle.dy_dots.specs.Dots.{DotSet};
-ghost use Rattle.dy_dots.specs.declared.dots.Dot.{Dot};
-ghost use Rattle.dy_dots.specs.declared.faults.Fault.TheVariants.{NotEnough};
-ghost use Rattle.dy_siblings.specs.Siblings.{covers, newest};
-ghost use Rattle.dy_siblings.specs.Versions.{are_concurrent, history_of, in_history};
-ghost use Rattle.dy_siblings.specs.declared.versions.Version.{Version};
+ghost use Rattle.dy_dots.specs.{
+  Dots.{DotSet},
+  declared.dots.Dot.{Dot},
+  declared.faults.Fault.TheVariants.{NotEnough},
+};
+ghost use Rattle.dy_siblings.specs.{
+  Siblings.{covers, newest},
+  Versions.{are_concurrent, history_of, in_history},
+  declared.versions.Version.{Version},
+};
 ghost use Rattle.dy_preference.specs.Preferences.{Preferred, home_for, is_home};
-ghost use Rattle.dy_core.specs.Worlds.{row_at};
-ghost use Rattle.dy_core.specs.Logs.{AreOfHomes, rows_of, world_after};
+ghost use Rattle.dy_core.specs.{Worlds.{row_at}, Logs.{AreOfHomes, rows_of, world_after}};
 ghost use Rattle.dy_shares.specs.Shares.{SessionPart};
 ghost use Rattle.dy_quorum.specs.Gatherings.{first_answers};
 ghost use Rattle.dy_node.specs.declared.begun.Begun.{Begun};
-ghost use Rattle.dy_transport.specs.Refusals.{IsOfStep};
-ghost use Rattle.dy_transport.specs.Told.{Told};
+ghost use Rattle.dy_transport.specs.{Refusals.{IsOfStep}, Told.{Told}};
 ghost use Rattle.dy_reads.specs.Lists.{homes_in};
-ghost use Rattle.dy_coord.specs.Following.{IsNamed, IsUnnamed};
-ghost use Rattle.dy_coord.specs.Puts.{AreStoredFor};
-ghost use Rattle.dy_coord.specs.PutEnds.{IsPut};
-ghost use Rattle.dy_coord.specs.Gets.{IsGot};
-ghost use Rattle.dy_coord.specs.declared.get_done.GetDone.{GetDone};
-ghost use Rattle.dy_coord.specs.declared.put_results.PutDone.{PutDone};
-ghost use Rattle.dy_coord.specs.declared.put_results.PutFault.{PutFault};
+ghost use Rattle.dy_coord.specs.{
+  Following.{IsNamed, IsUnnamed},
+  Puts.{AreStoredFor},
+  PutEnds.{IsPut},
+  Gets.{IsGot},
+  declared.get_done.GetDone.{GetDone},
+  declared.put_results.PutDone.{PutDone},
+  declared.put_results.PutFault.{PutFault},
+};
 
 use dy_shares::Naming;
 

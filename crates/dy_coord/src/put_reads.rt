@@ -1,17 +1,17 @@
-ghost use Rattle.std.specs.Prelude.{◌≡◌, ◌≤◌, ◌+◌, ◌*◌, ◌++◌, ℕ, IsTrue, length, map};
-ghost use Rattle.std.specs.List.{All};
+ghost use Rattle.std.specs.{Prelude.{◌≡◌, ◌≤◌, ◌+◌, ◌*◌, ◌++◌, ℕ, IsTrue, length, map}, List.{All}};
+ghost use Rattle.dy_transport.specs.{Snapshots.{snapshot_of}, Told.{Told}};
 ghost use Rattle.dy_dots.specs.Dots.{same_dot};
 ghost use Rattle.dy_siblings.specs.Siblings.{has_dot};
 ghost use Rattle.dy_preference.specs.Preferences.{IsPreferred};
-ghost use Rattle.dy_transport.specs.Snapshots.{snapshot_of};
-ghost use Rattle.dy_transport.specs.Told.{Told};
 ghost use Rattle.dy_transport.specs.declared.asked.What.TheVariants as what;
 ghost use Rattle.dy_quorum.specs.Tallies.{DoAgree};
 ghost use Rattle.dy_reads.specs.Rules.{HasRead, IsReadOut, MayStandIn, as_read, nodes_asked};
 ghost use Rattle.dy_reads.specs.declared.requests.Request.TheVariants as request;
-ghost use Rattle.dy_coord.specs.Puts.{receipts_read};
-ghost use Rattle.dy_coord.specs.inside.PutReads.{HasOwnReceipt, last_of, receipt_at};
-ghost use Rattle.dy_coord.specs.inside.Reads.{MayRead};
+ghost use Rattle.dy_coord.specs.{
+  Puts.{receipts_read},
+  inside.PutReads.{HasOwnReceipt, last_of, receipt_at},
+  inside.Reads.{MayRead},
+};
 
 use dy_dots::Dot;
 use dy_node::Answer;

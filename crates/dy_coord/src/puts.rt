@@ -1,20 +1,23 @@
 ghost use Rattle.std.specs.Prelude.{◌≡◌, ◌<◌, ◌≤◌, ◌+◌, ◌*◌, [], ℕ, length, IsTrue, IfOk};
 ghost use Rattle.std.specs.Prelude.{◌≢◌, IsOkUnless, IfErr, OnErr};
 ghost use Rattle.dy_dots.specs.declared.faults.Fault.TheVariants as Fault;
-ghost use Rattle.dy_dots.specs.declared.faults.Fault.TheVariants.{NotEnough};
-ghost use Rattle.dy_dots.specs.declared.nodes.TheConstants.{MAX_NODES};
+ghost use Rattle.dy_dots.specs.{
+  declared.faults.Fault.TheVariants.{NotEnough},
+  declared.nodes.TheConstants.{MAX_NODES},
+};
 ghost use Rattle.dy_siblings.specs.Siblings.{has_dot};
 ghost use Rattle.dy_preference.specs.Preferences.{IsPreferred, home_for, preference_of};
 ghost use Rattle.dy_shares.specs.Shares.{receipt_parts};
 ghost use Rattle.dy_book.specs.Books.{AreOf};
-ghost use Rattle.dy_transport.specs.Told.{Told};
-ghost use Rattle.dy_transport.specs.declared.transports.TheConstants.{SPARE_TRIES};
-ghost use Rattle.dy_coord.specs.Calls.{IsFresh};
-ghost use Rattle.dy_coord.specs.inside.PutReads.{with_tries};
+ghost use Rattle.dy_transport.specs.{Told.{Told}, declared.transports.TheConstants.{SPARE_TRIES}};
+ghost use Rattle.dy_coord.specs.{
+  Calls.{IsFresh},
+  inside.PutReads.{with_tries},
+  Puts.{Spreads},
+  PutEnds.{EndsAfter, PutEnds, PutRuns},
+  PutDones.{IsPutDone},
+};
 ghost use Rattle.dy_reads.specs.Lists.{homes_in};
-ghost use Rattle.dy_coord.specs.Puts.{Spreads};
-ghost use Rattle.dy_coord.specs.PutEnds.{EndsAfter, PutEnds, PutRuns};
-ghost use Rattle.dy_coord.specs.PutDones.{IsPutDone};
 
 use crate::put_reads::{most_answers, read_put};
 use crate::put_results::{PutDone, PutFault};

@@ -1,13 +1,17 @@
-ghost use Rattle.std.specs.Prelude.{◌≡◌, ◌≢◌, ◌↔◌, ◌<◌, ◌≤◌, IsTrue, IfOk, IsOkUnless};
-ghost use Rattle.std.specs.List.{All, Contains};
+ghost use Rattle.std.specs.{
+  Prelude.{◌≡◌, ◌≢◌, ◌↔◌, ◌<◌, ◌≤◌, IsTrue, IfOk, IsOkUnless},
+  List.{All, Contains},
+};
 ghost use Rattle.dy_dots.specs.declared.dots.TheConstants.{MAX_COUNTER};
 ghost use Rattle.dy_siblings.specs.Siblings.{has_dot};
 ghost use Rattle.dy_preference.specs.Preferences.{homes_of, may_hold};
-ghost use Rattle.dy_core.specs.Worlds.{AreMadeOf, layout_of};
-ghost use Rattle.dy_core.specs.Covers.{CoversAt, HasCover};
-ghost use Rattle.dy_core.specs.Steps.{IsAllowed, IsKnown};
-ghost use Rattle.dy_core.specs.Logs.{world_after};
-ghost use Rattle.dy_core.specs.inside.Meanings.{CanChoose, apart_from};
+ghost use Rattle.dy_core.specs.{
+  Worlds.{AreMadeOf, layout_of},
+  Covers.{CoversAt, HasCover},
+  Steps.{IsAllowed, IsKnown},
+  Logs.{world_after},
+  inside.Meanings.{CanChoose, apart_from},
+};
 
 use crate::holdings;
 use crate::places::Place;

@@ -1,13 +1,17 @@
 ghost use Rattle.std.specs.Prelude.{◌≡◌, ◌≤◌, ◌++◌, ◌∷◌, [], List, IfOk, OnOk, OnErr, IsOkUnless};
 ghost use Rattle.std.specs.Prelude.{◌<◌, vec_len, vec_capacity};
-ghost use Rattle.dy_siblings.specs.Siblings.{IsSameRow};
-ghost use Rattle.dy_core.specs.Worlds.{Layout, layout_of};
-ghost use Rattle.dy_core.specs.Steps.{IsAllowed, row_answered, key_of};
-ghost use Rattle.dy_core.specs.Logs.{IsLegal, world_after, with_step};
-ghost use Rattle.dy_core.specs.inside.Meanings.{IsAfter};
-ghost use Rattle.dy_core.specs.declared.acks.Acked.{Acked as AckedParts};
-ghost use Rattle.dy_core.specs.declared.steps.Step.{Step as StepParts};
-ghost use Rattle.dy_siblings.specs.declared.versions.Version.{Version as VersionParts};
+ghost use Rattle.dy_siblings.specs.{
+  Siblings.{IsSameRow},
+  declared.versions.Version.{Version as VersionParts},
+};
+ghost use Rattle.dy_core.specs.{
+  Worlds.{Layout, layout_of},
+  Steps.{IsAllowed, row_answered, key_of},
+  Logs.{IsLegal, world_after, with_step},
+  inside.Meanings.{IsAfter},
+  declared.acks.Acked.{Acked as AckedParts},
+  declared.steps.Step.{Step as StepParts},
+};
 
 use crate::acks::Acked;
 use crate::holdings::{self, Holding};

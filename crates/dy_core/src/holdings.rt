@@ -1,10 +1,13 @@
-ghost use Rattle.std.specs.Prelude.{◌≡◌, ◌++◌, [], IfOk, OnOk, OnErr, MatchOption, IsOkUnless};
+ghost use Rattle.std.specs.{
+  Prelude.{◌≡◌, ◌++◌, [], IfOk, OnOk, OnErr, MatchOption, IsOkUnless},
+  List.{Contains, list_any},
+};
 ghost use Rattle.dy_siblings.specs.Siblings.{Siblings, AreOneByDot, IsSameRow, merge, without};
-ghost use Rattle.std.specs.List.{Contains, list_any};
-ghost use Rattle.dy_core.specs.Orders.{key_cmp, gathered};
-ghost use Rattle.dy_core.specs.inside.Meanings.{is_hint, kept, others};
-ghost use Rattle.dy_core.specs.inside.Meanings.{row_in, settled_in};
-ghost use Rattle.dy_core.specs.declared.holdings.Holding.{Holding as HoldingParts};
+ghost use Rattle.dy_core.specs.{
+  Orders.{key_cmp, gathered},
+  inside.Meanings.{is_hint, kept, others, row_in, settled_in},
+  declared.holdings.Holding.{Holding as HoldingParts},
+};
 
 use crate::lists::{self, Ranked};
 use crate::placed::Placed;

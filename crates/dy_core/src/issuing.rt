@@ -1,10 +1,16 @@
-ghost use Rattle.std.specs.Prelude.{◌≡◌, ◌+◌, ◌<◌, IfOk, IsOkUnless, MatchOption, false};
-ghost use Rattle.std.specs.List.{Contains};
+ghost use Rattle.std.specs.{
+  Prelude.{◌≡◌, ◌+◌, ◌<◌, IfOk, IsOkUnless, MatchOption, false},
+  List.{Contains},
+};
 ghost use Rattle.std.specs.FinSet as set;
-ghost use Rattle.dy_dots.specs.declared.dots.Dot.{Dot as DotParts};
-ghost use Rattle.dy_dots.specs.declared.dots.TheConstants.{MAX_COUNTER};
-ghost use Rattle.dy_core.specs.Worlds.{is_issued};
-ghost use Rattle.dy_core.specs.inside.Meanings.{is_by, is_named, last_in, named_in};
+ghost use Rattle.dy_dots.specs.{
+  declared.dots.Dot.{Dot as DotParts},
+  declared.dots.TheConstants.{MAX_COUNTER},
+};
+ghost use Rattle.dy_core.specs.{
+  Worlds.{is_issued},
+  inside.Meanings.{is_by, is_named, last_in, named_in},
+};
 
 use crate::steps;
 use dy_dots::{Context, Dot, Fault, NodeId};

@@ -1,26 +1,26 @@
 //! The laws of every legal log. Each is a function that does nothing, and its contract is the law.
-ghost use Rattle.std.specs.Prelude.{◌≡◌, ℕ, ◌+◌, ◌<◌, ◌≤◌, ◌↔◌, ◌&&◌, IsTrue, List, ◌++◌, take};
-ghost use Rattle.std.specs.Prelude.{length, map, nat_eq, false, Option};
-ghost use Rattle.std.specs.List.{All, Contains, IsDistinct, filter};
+ghost use Rattle.std.specs.{
+  Prelude.{◌≡◌, ℕ, ◌+◌, ◌<◌, ◌≤◌, ◌↔◌, ◌&&◌, IsTrue, List, ◌++◌, take, length, map, nat_eq, false, Option},
+  List.{All, Contains, IsDistinct, filter},
+};
 ghost use Rattle.std.specs.FinSet as set;
-ghost use Rattle.dy_dots.specs.Dots.{DotSet, same_dot};
-ghost use Rattle.dy_dots.specs.declared.dots.Dot.{Dot};
-ghost use Rattle.dy_siblings.specs.Siblings.{Siblings, IsSameRow, same_key, covers, newest, merge};
-ghost use Rattle.dy_siblings.specs.Siblings.{without};
-ghost use Rattle.dy_siblings.specs.Versions.{precedes};
-ghost use Rattle.dy_siblings.specs.declared.versions.Version.{Version};
+ghost use Rattle.dy_dots.specs.{Dots.{DotSet, same_dot}, declared.dots.Dot.{Dot}};
+ghost use Rattle.dy_siblings.specs.{
+  Siblings.{Siblings, IsSameRow, same_key, covers, newest, merge, without},
+  Versions.{precedes},
+  declared.versions.Version.{Version},
+};
 ghost use Rattle.dy_ring.specs.Rings.{Tokens};
 ghost use Rattle.dy_preference.specs.Preferences.{homes_of, may_hold};
-ghost use Rattle.dy_core.specs.Worlds.{Layout, layout_of, IsSettled, AreMadeOf, is_issued, row_at};
-ghost use Rattle.dy_core.specs.Covers.{CoversAt, CoverThemselves, HasCover, AcksAreCovered};
-ghost use Rattle.dy_core.specs.Covers.{ReceiptHolds};
-ghost use Rattle.dy_core.specs.Steps.{IsAllowed, IsKnown, past_of, same_place, world_after_step};
-ghost use Rattle.dy_core.specs.Steps.{IsReleaseAt};
-ghost use Rattle.dy_core.specs.Logs.{Known, world_after, IsLegal, Answer, MatchesLog, AreOfHomes};
-ghost use Rattle.dy_core.specs.Logs.{AnswerAgain, IsAnswer, rows_of};
-ghost use Rattle.dy_core.specs.declared.places.Place.{Place};
-ghost use Rattle.dy_core.specs.declared.steps.Step.{Step};
-ghost use Rattle.dy_core.specs.declared.steps.Step.TheVariants.{Hold, Issue, Release};
+ghost use Rattle.dy_core.specs.{
+  Worlds.{Layout, layout_of, IsSettled, AreMadeOf, is_issued, row_at},
+  Covers.{CoversAt, CoverThemselves, HasCover, AcksAreCovered, ReceiptHolds},
+  Steps.{IsAllowed, IsKnown, past_of, same_place, world_after_step, IsReleaseAt},
+  Logs.{Known, world_after, IsLegal, Answer, MatchesLog, AreOfHomes, AnswerAgain, IsAnswer, rows_of},
+  declared.places.Place.{Place},
+  declared.steps.Step.{Step},
+  declared.steps.Step.TheVariants.{Hold, Issue, Release},
+};
 
 /// Each dot in a version's past is of a version of the same key, whose history lies in that past.
 pub fn pasts_are_closed()

@@ -1,7 +1,9 @@
 ghost use Rattle.std.specs.Prelude.{◌≡◌, IfOk, IsOkUnless};
-ghost use Rattle.dy_core.specs.Orders.{place_cmp, gathered};
-ghost use Rattle.dy_core.specs.Listings.{is_covering, place_of};
-ghost use Rattle.dy_core.specs.declared.holdings.Holding.{Holding as HoldingParts};
+ghost use Rattle.dy_core.specs.{
+  Orders.{place_cmp, gathered},
+  Listings.{is_covering, place_of},
+  declared.holdings.Holding.{Holding as HoldingParts},
+};
 
 use crate::lists;
 use crate::places::Place;

@@ -1,14 +1,19 @@
-ghost use Rattle.std.specs.Prelude.{◌≡◌, ◌↔◌, ◌<◌, length, IsTrue, IfOk, IsOkUnless, MatchOption};
-ghost use Rattle.std.specs.Prelude.{false};
-ghost use Rattle.std.specs.List.{All, Contains};
-ghost use Rattle.dy_siblings.specs.Siblings.{IsSameRow};
-ghost use Rattle.dy_siblings.specs.declared.versions.Version.{Version as VersionParts};
+ghost use Rattle.std.specs.{
+  Prelude.{◌≡◌, ◌↔◌, ◌<◌, length, IsTrue, IfOk, IsOkUnless, MatchOption, false},
+  List.{All, Contains},
+};
+ghost use Rattle.dy_siblings.specs.{
+  Siblings.{IsSameRow},
+  declared.versions.Version.{Version as VersionParts},
+};
 ghost use Rattle.dy_preference.specs.Preferences.{homes_of, is_home};
-ghost use Rattle.dy_core.specs.Worlds.{IsSettled, is_issued, row_at};
-ghost use Rattle.dy_core.specs.Covers.{covers_at};
-ghost use Rattle.dy_core.specs.Steps.{IsKnown};
-ghost use Rattle.dy_core.specs.Logs.{world_after};
-ghost use Rattle.dy_core.specs.Listings.{IsLeastUnknown, ListsCovers, ListsSettled};
+ghost use Rattle.dy_core.specs.{
+  Worlds.{IsSettled, is_issued, row_at},
+  Covers.{covers_at},
+  Steps.{IsKnown},
+  Logs.{world_after},
+  Listings.{IsLeastUnknown, ListsCovers, ListsSettled},
+};
 
 use crate::places::Place;
 use crate::worlds::World;

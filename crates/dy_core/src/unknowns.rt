@@ -1,10 +1,14 @@
 ghost use Rattle.std.specs.Prelude.{◌≡◌, ◌+◌, ◌≤◌, IsTrue, MatchOption};
 ghost use Rattle.std.specs.FinSet as set;
-ghost use Rattle.dy_dots.specs.declared.dots.Dot.{Dot as DotParts};
-ghost use Rattle.dy_dots.specs.declared.dots.TheConstants.{MAX_COUNTER};
-ghost use Rattle.dy_core.specs.Worlds.{is_issued};
-ghost use Rattle.dy_core.specs.inside.Meanings.{AreIssuedBelow, IsFirstUnissued};
-ghost use Rattle.dy_core.specs.Listings.{IsLeastUnknown};
+ghost use Rattle.dy_core.specs.{
+  Worlds.{is_issued},
+  inside.Meanings.{AreIssuedBelow, IsFirstUnissued},
+  Listings.{IsLeastUnknown},
+};
+ghost use Rattle.dy_dots.specs.{
+  declared.dots.Dot.{Dot as DotParts},
+  declared.dots.TheConstants.{MAX_COUNTER},
+};
 
 use crate::issuing;
 use dy_dots::{Context, Dot, Run};

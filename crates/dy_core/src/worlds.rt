@@ -1,7 +1,9 @@
 ghost use Rattle.std.specs.Prelude.{◌≡◌, ◌≤◌, ◌↔◌, [], length, IsTrue, IfOk, IsOk};
-ghost use Rattle.dy_core.specs.Worlds.{is_issued, layout_of};
-ghost use Rattle.dy_core.specs.Logs.{IsLegal, world_after};
-ghost use Rattle.dy_core.specs.Listings.{ListsHoldings, ListsAcks};
+ghost use Rattle.dy_core.specs.{
+  Worlds.{is_issued, layout_of},
+  Logs.{IsLegal, world_after},
+  Listings.{ListsHoldings, ListsAcks},
+};
 
 use crate::acks::Acked;
 use crate::holdings::Holding;

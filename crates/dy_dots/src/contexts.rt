@@ -1,11 +1,13 @@
-ghost use Rattle.std.specs.Prelude.{◌≡◌, ◌↔◌, true, Some, OnOk, OnErr, IfOk, IfErr, IsOkUnless};
-ghost use Rattle.std.specs.Prelude.{string_bytes, IsTrue, IsOk};
+ghost use Rattle.std.specs.{
+  Prelude.{◌≡◌, ◌↔◌, true, Some, OnOk, OnErr, IfOk, IfErr, IsOkUnless, string_bytes, IsTrue, IsOk},
+  Slice.Iter.{iter_rest},
+};
 ghost use Rattle.std.specs.FinSet as set;
-ghost use Rattle.std.specs.Slice.Iter.{iter_rest};
-ghost use Rattle.dy_dots.specs.Dots.{DotSet, dot_set_code, AreDots};
-ghost use Rattle.dy_dots.specs.Runs.{AreKept, AreRunsOf, set_of};
-ghost use Rattle.dy_dots.specs.Spelling.{HasText, IsFound, IsRefused, OneSet, OneSpelling};
-ghost use Rattle.dy_dots.specs.Spelling.{ReadsBack, Spells, SpellingIsText, context_text};
+ghost use Rattle.dy_dots.specs.{
+  Dots.{DotSet, dot_set_code, AreDots},
+  Runs.{AreKept, AreRunsOf, set_of},
+  Spelling.{HasText, IsFound, IsRefused, OneSet, OneSpelling, ReadsBack, Spells, SpellingIsText, context_text},
+};
 
 use crate::dots::Dot;
 use crate::faults::Fault;

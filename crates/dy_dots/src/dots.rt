@@ -1,10 +1,14 @@
-ghost use Rattle.std.specs.Prelude.{◌≡◌, ◌≤◌, ◌↔◌, IsSome, IfSome, Some};
-ghost use Rattle.std.specs.Cmp.{partial_order_from_own_ties};
-ghost use Rattle.std.specs.Cmp.Rules.{comparing};
-ghost use Rattle.std.specs.Ordering.{as_partial_cmp};
+ghost use Rattle.std.specs.{
+  Prelude.{◌≡◌, ◌≤◌, ◌↔◌, IsSome, IfSome, Some},
+  Cmp.{partial_order_from_own_ties},
+  Cmp.Rules.{comparing},
+  Ordering.{as_partial_cmp},
+};
 ghost use Rattle.std.proofs.Common.{rules};
-ghost use Rattle.dy_dots.specs.Dots.{DotNumbers, dot_cmp, dot_code, dot_text, IsDot};
-ghost use Rattle.dy_dots.specs.declared.dots.TheConstants.{MAX_COUNTER};
+ghost use Rattle.dy_dots.specs.{
+  Dots.{DotNumbers, dot_cmp, dot_code, dot_text, IsDot},
+  declared.dots.TheConstants.{MAX_COUNTER},
+};
 
 use crate::nodes::{self, NodeId};
 use std::cmp::Ordering;

@@ -1,7 +1,8 @@
-ghost use Rattle.std.specs.Prelude.{◌≡◌, ℕ, ◌<◌, ◌↔◌, IsSome, IfSome, Some, decimal};
-ghost use Rattle.std.specs.Fmt.{DisplaysOnOk};
-ghost use Rattle.dy_dots.specs.Dots.{head_text};
-ghost use Rattle.dy_dots.specs.declared.nodes.TheConstants.{MAX_NODES};
+ghost use Rattle.std.specs.{
+  Prelude.{◌≡◌, ℕ, ◌<◌, ◌↔◌, IsSome, IfSome, Some, decimal},
+  Fmt.{DisplaysOnOk},
+};
+ghost use Rattle.dy_dots.specs.{Dots.{head_text}, declared.nodes.TheConstants.{MAX_NODES}};
 
 use std::fmt;
 use std::marker::Model;

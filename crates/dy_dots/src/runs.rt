@@ -1,13 +1,13 @@
 ghost use Rattle.std.specs.Prelude.{◌≡◌, ◌≤◌, true, false, length, IfOk, IfSome, IfNone, Some};
 ghost use Rattle.std.specs.Prelude.{OnOk, OnErr, []};
-ghost use Rattle.dy_dots.specs.Dots.{IsDot};
-ghost use Rattle.dy_dots.specs.declared.dots.Dot.{Dot};
-ghost use Rattle.dy_dots.specs.Runs.{AreApart, AreKept, StartsFrom, in_run, in_runs, single};
-ghost use Rattle.dy_dots.specs.inside.Kinds.{joined, covers_run, IsBelow, IsReached, IsNextRun};
-ghost use Rattle.dy_dots.specs.inside.Kinds.{AreBelow, IsPlace, HaveAllOf, HaveBoth};
-ghost use Rattle.dy_dots.specs.inside.Kinds.{Added, count_of};
-ghost use Rattle.dy_dots.specs.Spelling.{run_text};
-ghost use Rattle.dy_dots.specs.inside.Reading.{run_to};
+ghost use Rattle.dy_dots.specs.{
+  Dots.{IsDot},
+  declared.dots.Dot.{Dot},
+  Runs.{AreApart, AreKept, StartsFrom, in_run, in_runs, single},
+  inside.Kinds.{joined, covers_run, IsBelow, IsReached, IsNextRun, AreBelow, IsPlace, HaveAllOf, HaveBoth, Added, count_of},
+  Spelling.{run_text},
+  inside.Reading.{run_to},
+};
 
 use crate::dots::Dot;
 use crate::nodes::NodeId;

@@ -1,8 +1,12 @@
-ghost use Rattle.std.specs.Prelude.{◌≡◌, ◌↔◌, Some, None, IfOk, IfErr, IsTrue, string_bytes};
-ghost use Rattle.std.specs.Fmt.{DisplaysOnOk};
-ghost use Rattle.dy_dots.specs.Spelling.{runs_text};
-ghost use Rattle.dy_dots.specs.inside.Reading.{all_allowed, allowed, read_runs, IsUnread};
-ghost use Rattle.dy_dots.specs.declared.texts.TheConstants.{MAX_CONTEXT_DOTS};
+ghost use Rattle.std.specs.{
+  Prelude.{◌≡◌, ◌↔◌, Some, None, IfOk, IfErr, IsTrue, string_bytes},
+  Fmt.{DisplaysOnOk},
+};
+ghost use Rattle.dy_dots.specs.{
+  Spelling.{runs_text},
+  inside.Reading.{all_allowed, allowed, read_runs, IsUnread},
+  declared.texts.TheConstants.{MAX_CONTEXT_DOTS},
+};
 
 use crate::dots::MAX_COUNTER;
 use crate::faults::Fault;

@@ -1,15 +1,20 @@
-ghost use Rattle.std.specs.Prelude.{◌≡◌, ◌<◌, ◌+◌, ◌^◌, ◌∷◌, [], length, take};
-ghost use Rattle.std.specs.Prelude.{Err, IfOk, IfErr, IfNone, IfSome};
-ghost use Rattle.std.specs.List.{All};
+ghost use Rattle.std.specs.{
+  Prelude.{◌≡◌, ◌<◌, ◌+◌, ◌^◌, ◌∷◌, [], length, take, Err, IfOk, IfErr, IfNone, IfSome},
+  List.{All},
+};
 ghost use Rattle.dy_node.specs.Nodes.{AreForHomes};
-ghost use Rattle.dy_transport.specs.Refusals.{IsOfOffer};
-ghost use Rattle.dy_transport.specs.Snapshots.{snapshot_of};
-ghost use Rattle.dy_transport.specs.Told.{Told, with_none, with_try};
-ghost use Rattle.dy_transport.specs.declared.tries.Try.TheVariants.{Offer};
-ghost use Rattle.dy_transport.specs.declared.transports.TheConstants.{SPARE_TRIES};
+ghost use Rattle.dy_transport.specs.{
+  Refusals.{IsOfOffer},
+  Snapshots.{snapshot_of},
+  Told.{Told, with_none, with_try},
+  declared.tries.Try.TheVariants.{Offer},
+  declared.transports.TheConstants.{SPARE_TRIES},
+};
 ghost use Rattle.dy_reads.specs.Rules.{IsReadOut};
-ghost use Rattle.dy_handoff.specs.Passes.{HandsOver, HandsOverInTurn, IsPass, stored_in};
-ghost use Rattle.dy_handoff.specs.inside.Settling.{IsUnderWay, SettlesOne, Settles};
+ghost use Rattle.dy_handoff.specs.{
+  Passes.{HandsOver, HandsOverInTurn, IsPass, stored_in},
+  inside.Settling.{IsUnderWay, SettlesOne, Settles},
+};
 
 use crate::counts::Pass;
 use dy_dots::{Fault, NodeId};

@@ -1,7 +1,6 @@
 ghost use Rattle.std.specs.Prelude.{◌≡◌, ◌<◌, ◌≤◌, ◌++◌, length, map, OnOk, OnErr, IsOkUnless};
 ghost use Rattle.dy_dots.specs.declared.nodes.TheConstants.{MAX_NODES};
-ghost use Rattle.dy_hint_store.specs.Hints.{shown};
-ghost use Rattle.dy_hint_store.specs.inside.Homes.{HaveSameRows};
+ghost use Rattle.dy_hint_store.specs.{Hints.{shown}, inside.Homes.{HaveSameRows}};
 
 use crate::stores::RowRefFor;
 use dy_dots::{Fault, NodeId};

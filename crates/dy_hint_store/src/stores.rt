@@ -1,12 +1,11 @@
-ghost use Rattle.std.specs.Prelude.{◌≡◌, ◌<◌, ◌-◌, ◌^◌, ◌++◌, [], None, Some, length, map, min};
-ghost use Rattle.std.specs.Prelude.{IsSome, IfSome, IfOk};
-ghost use Rattle.std.specs.Prelude.{OnErr, OnOk, IsOk, IsOkUnless};
-ghost use Rattle.std.specs.Option.{option_copied};
+ghost use Rattle.std.specs.{
+  Prelude.{◌≡◌, ◌<◌, ◌-◌, ◌^◌, ◌++◌, [], None, Some, length, map, min, IsSome, IfSome, IfOk, OnErr, OnOk, IsOk, IsOkUnless},
+  Option.{option_copied},
+  List.{All},
+};
 ghost use Rattle.std.specs.FinMap as maps;
-ghost use Rattle.std.specs.List.{All};
 ghost use Rattle.dy_siblings.specs.Siblings.{AreOneByDot};
-ghost use Rattle.dy_node_store.specs.Rows.{without_dots, IsRowOf};
-ghost use Rattle.dy_node_store.specs.Absorbing.{IsAbsorbed};
+ghost use Rattle.dy_node_store.specs.{Rows.{without_dots, IsRowOf}, Absorbing.{IsAbsorbed}};
 ghost use Rattle.dy_hint_store.specs.Hints.{versions_for, with_versions_for, home_and_row, shown};
 ghost use Rattle.dy_hint_store.specs.Hints.{IsHint};
 
@@ -37,8 +36,7 @@ impl Model for HintStore {
     ghost use Rattle.std.specs.Prelude.{◌≤◌, length};
     ghost use Rattle.std.specs.FinMap as maps;
     ghost use Rattle.dy_dots.specs.declared.nodes.TheConstants.{MAX_NODES};
-    ghost use Rattle.dy_hint_store.specs.Hints.{Hints, hints_code};
-    ghost use Rattle.dy_hint_store.specs.inside.Homes.{entries_from};
+    ghost use Rattle.dy_hint_store.specs.{Hints.{Hints, hints_code}, inside.Homes.{entries_from}};
 
     ghost Value = { Hints };
 

@@ -1,15 +1,21 @@
 // What is held of one key, place by place.
-ghost use Rattle.std.specs.Prelude.{◌≡◌, ◌<◌, ◌++◌, map, length, slice_index_or, false, true, []};
-ghost use Rattle.std.specs.Prelude.{vec_len, vec_capacity, IfOk, OnOk, OnErr, IfSome, IfNone};
-ghost use Rattle.std.specs.Prelude.{IsOkUnless, MatchOption};
-ghost use Rattle.std.specs.List.{list_any};
-ghost use Rattle.dy_siblings.specs.Siblings.{AreOneByDot, IsBeside, IsSameRow, merge};
-ghost use Rattle.dy_siblings.specs.Versions.{VersionParts};
-ghost use Rattle.dy_core.specs.Orders.{holding_cmp, put};
-ghost use Rattle.dy_core.specs.inside.Meanings.{is_at, row_in};
-ghost use Rattle.dy_core.specs.declared.holdings.Holding.{Holding as HoldingParts};
-ghost use Rattle.dy_index.specs.Readings.{DotsRise};
-ghost use Rattle.dy_index.specs.inside.Held.{is_hint_here, listed_from, released};
+ghost use Rattle.std.specs.{
+  Prelude.{◌≡◌, ◌<◌, ◌++◌, map, length, slice_index_or, false, true, [], vec_len, vec_capacity, IfOk, OnOk, OnErr, IfSome, IfNone, IsOkUnless, MatchOption},
+  List.{list_any},
+};
+ghost use Rattle.dy_siblings.specs.{
+  Siblings.{AreOneByDot, IsBeside, IsSameRow, merge},
+  Versions.{VersionParts},
+};
+ghost use Rattle.dy_core.specs.{
+  Orders.{holding_cmp, put},
+  inside.Meanings.{is_at, row_in},
+  declared.holdings.Holding.{Holding as HoldingParts},
+};
+ghost use Rattle.dy_index.specs.{
+  Readings.{DotsRise},
+  inside.Held.{is_hint_here, listed_from, released},
+};
 
 use crate::dots::Dots;
 use dy_core::{Holding, Place, Placed, Ranked};

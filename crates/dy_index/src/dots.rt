@@ -1,7 +1,8 @@
 // The dots of a row, as a slice that can be lent.
-ghost use Rattle.std.specs.Prelude.{◌≡◌, ◌≤◌, ◌∷◌, [], insert, length, map, not, IfOk, OnOk, OnErr};
-ghost use Rattle.std.specs.Prelude.{IsOkUnless};
-ghost use Rattle.std.specs.List.{filter};
+ghost use Rattle.std.specs.{
+  Prelude.{◌≡◌, ◌≤◌, ◌∷◌, [], insert, length, map, not, IfOk, OnOk, OnErr, IsOkUnless},
+  List.{filter},
+};
 ghost use Rattle.dy_dots.specs.Dots.{same_dot};
 
 use dy_dots::{Dot, Fault};
@@ -18,10 +19,8 @@ pub struct Dots {
 }
 
 impl Model for Dots {
-    ghost use Rattle.std.specs.Prelude.{List};
-    ghost use Rattle.std.specs.Coded.{coded_list};
-    ghost use Rattle.dy_dots.specs.Dots.{dot_code};
-    ghost use Rattle.dy_dots.specs.declared.dots.Dot.{Dot as DotParts};
+    ghost use Rattle.std.specs.{Prelude.{List}, Coded.{coded_list}};
+    ghost use Rattle.dy_dots.specs.{Dots.{dot_code}, declared.dots.Dot.{Dot as DotParts}};
     ghost use Rattle.dy_index.specs.inside.Held.{dots_in};
 
     ghost Value = { List DotParts };

@@ -1,10 +1,11 @@
 // The entries of the index by the bytes of their keys.
-ghost use Rattle.std.specs.Prelude.{◌≡◌, IfOk, OnOk, IsOkUnless, Some};
-ghost use Rattle.std.specs.List.{All};
-ghost use Rattle.std.specs.HashMap.{IsUnique};
+ghost use Rattle.std.specs.{
+  Prelude.{◌≡◌, IfOk, OnOk, IsOkUnless, Some},
+  List.{All},
+  HashMap.{IsUnique},
+};
 ghost use Rattle.dy_siblings.specs.Siblings.{same_key};
-ghost use Rattle.dy_index.specs.Indexes.{part_at};
-ghost use Rattle.dy_index.specs.inside.Entries.{AreByKey};
+ghost use Rattle.dy_index.specs.{Indexes.{part_at}, inside.Entries.{AreByKey}};
 
 use crate::lists;
 use crate::parts::KeyPart;
@@ -25,8 +26,10 @@ pub struct Entry<'a> {
 
 impl<'a> Model for Entry<'a> {
     ghost use Rattle.std.specs.Prelude.{ℕ, List};
-    ghost use Rattle.dy_index.specs.declared.parts.KeyPart.{KeyPart as Part};
-    ghost use Rattle.dy_index.specs.inside.Entries.{entry_code};
+    ghost use Rattle.dy_index.specs.{
+      declared.parts.KeyPart.{KeyPart as Part},
+      inside.Entries.{entry_code},
+    };
 
     ghost Value = { List ℕ × Part };
 

@@ -1,10 +1,11 @@
 // What is held, put in order holder by holder. Entry by entry each holder's list is nearly in order
 // already, so to sort it takes about one pass.
 ghost use Rattle.std.specs.Prelude.{◌≡◌, ℕ, List, [], length, IfOk, IsOkUnless};
-ghost use Rattle.dy_core.specs.Orders.{holding_cmp};
-ghost use Rattle.dy_core.specs.declared.holdings.Holding.{Holding as HoldingParts};
-ghost use Rattle.dy_index.specs.Lists.{IsInOrder};
-ghost use Rattle.dy_index.specs.inside.Holders.{AreByHolder, list_of};
+ghost use Rattle.dy_core.specs.{
+  Orders.{holding_cmp},
+  declared.holdings.Holding.{Holding as HoldingParts},
+};
+ghost use Rattle.dy_index.specs.{Lists.{IsInOrder}, inside.Holders.{AreByHolder, list_of}};
 
 use crate::lists;
 use dy_core::Holding;
@@ -19,8 +20,7 @@ pub struct HeldBy {
 }
 
 impl Model for HeldBy {
-    ghost use Rattle.std.specs.Prelude.{List};
-    ghost use Rattle.std.specs.Coded.{coded_list};
+    ghost use Rattle.std.specs.{Prelude.{List}, Coded.{coded_list}};
     ghost use Rattle.dy_core.specs.declared.holdings.Holding.{Holding};
     ghost use Rattle.dy_index.specs.Lists.{holding_code};
 

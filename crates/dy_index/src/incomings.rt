@@ -1,12 +1,11 @@
 // Which versions of an incoming row are the issued ones.
-ghost use Rattle.std.specs.Prelude.{◌≡◌, ◌↔◌, IsTrue, List, MatchOption};
-ghost use Rattle.std.specs.List.{Contains};
-ghost use Rattle.std.specs.Option.{option_copied};
-ghost use Rattle.dy_core.specs.Worlds.{AreMadeOf};
-ghost use Rattle.dy_core.specs.Logs.{world_after};
-ghost use Rattle.dy_core.specs.declared.steps.Step.{Step};
-ghost use Rattle.dy_index.specs.Indexes.{IsPartAfter, made_in};
-ghost use Rattle.dy_index.specs.Readings.{IsLeastNotIssued};
+ghost use Rattle.std.specs.{
+  Prelude.{◌≡◌, ◌↔◌, IsTrue, List, MatchOption},
+  List.{Contains},
+  Option.{option_copied},
+};
+ghost use Rattle.dy_core.specs.{Worlds.{AreMadeOf}, Logs.{world_after}, declared.steps.Step.{Step}};
+ghost use Rattle.dy_index.specs.{Indexes.{IsPartAfter, made_in}, Readings.{IsLeastNotIssued}};
 
 use crate::parts::{KeyPart, version_of};
 use dy_dots::{Dot, NodeId};

@@ -1,14 +1,20 @@
 // What the whole index lists.
-ghost use Rattle.std.specs.Prelude.{◌≡◌, [], List, Some, IfOk, IsOkUnless};
-ghost use Rattle.std.specs.List.{All};
-ghost use Rattle.std.specs.HashMap.{IsUnique};
+ghost use Rattle.std.specs.{
+  Prelude.{◌≡◌, [], List, Some, IfOk, IsOkUnless},
+  List.{All},
+  HashMap.{IsUnique},
+};
 ghost use Rattle.dy_siblings.specs.Siblings.{same_key};
-ghost use Rattle.dy_core.specs.Worlds.{Layout, World};
-ghost use Rattle.dy_core.specs.Logs.{IsLegal, world_after};
-ghost use Rattle.dy_core.specs.Listings.{ListsHoldings, ListsSettled};
-ghost use Rattle.dy_core.specs.declared.steps.Step.{Step};
-ghost use Rattle.dy_index.specs.Indexes.{IsIndex, part_at};
-ghost use Rattle.dy_index.specs.inside.Listed.{held_in_all, settled_keys};
+ghost use Rattle.dy_core.specs.{
+  Worlds.{Layout, World},
+  Logs.{IsLegal, world_after},
+  Listings.{ListsHoldings, ListsSettled},
+  declared.steps.Step.{Step},
+};
+ghost use Rattle.dy_index.specs.{
+  Indexes.{IsIndex, part_at},
+  inside.Listed.{held_in_all, settled_keys},
+};
 
 use crate::entries::{self, Entry};
 use crate::parts::KeyPart;

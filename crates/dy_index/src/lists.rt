@@ -1,6 +1,5 @@
 // Lists that are in an order.
-ghost use Rattle.std.specs.Prelude.{IfOk, IsOkUnless};
-ghost use Rattle.std.specs.Cmp.{IsTotalOrder};
+ghost use Rattle.std.specs.{Prelude.{IfOk, IsOkUnless}, Cmp.{IsTotalOrder}};
 ghost use Rattle.dy_index.specs.Lists.{IsInOrder};
 
 use dy_core::Ranked;

@@ -1,11 +1,11 @@
 // How a row is merged into what is held. The merge is made ready first; then it stands without
 // memory, or it is taken back.
-ghost use Rattle.std.specs.Prelude.{◌≡◌, ◌<◌, ◌++◌, true, IfOk, OnErr, IsOkUnless};
-ghost use Rattle.std.specs.Prelude.{vec_len, vec_capacity};
-ghost use Rattle.std.specs.List.Sorted.{IsStrictlySortedBy};
+ghost use Rattle.std.specs.{
+  Prelude.{◌≡◌, ◌<◌, ◌++◌, true, IfOk, OnErr, IsOkUnless, vec_len, vec_capacity},
+  List.Sorted.{IsStrictlySortedBy},
+};
 ghost use Rattle.dy_siblings.specs.Siblings.{AreOneByDot, IsSameRow, merge};
-ghost use Rattle.dy_core.specs.Orders.{holding_cmp};
-ghost use Rattle.dy_core.specs.inside.Meanings.{row_in};
+ghost use Rattle.dy_core.specs.{Orders.{holding_cmp}, inside.Meanings.{row_in}};
 ghost use Rattle.dy_index.specs.Merges.{FitsAt, FitsIn, IsHeldAt, is_first, merged_by, placed_by};
 ghost use Rattle.dy_index.specs.Merges.{taken_back, taken_from};
 

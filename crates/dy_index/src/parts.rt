@@ -1,13 +1,15 @@
 // What the book knows of one key.
-ghost use Rattle.std.specs.Prelude.{List, ◌≡◌, ◌<◌, ◌-◌, ◌++◌, ◌∷◌, ◌≢◌, ℕ, length, [], None};
-ghost use Rattle.std.specs.Prelude.{Some, OnOk, OnErr, IsOkUnless, slice_get, ◌&&◌};
-ghost use Rattle.std.specs.Prelude.{not};
-ghost use Rattle.std.specs.List.{list_any};
-ghost use Rattle.std.specs.Option.{option_copied};
+ghost use Rattle.std.specs.{
+  Prelude.{List, ◌≡◌, ◌<◌, ◌-◌, ◌++◌, ◌∷◌, ◌≢◌, ℕ, length, [], None, Some, OnOk, OnErr, IsOkUnless, slice_get, ◌&&◌, not},
+  List.{list_any},
+  Option.{option_copied},
+};
 ghost use Rattle.dy_dots.specs.declared.nodes.TheConstants.{MAX_NODES};
 ghost use Rattle.dy_siblings.specs.Versions.{VersionParts};
-ghost use Rattle.dy_index.specs.Lists.{HaveSameMade, list_at};
-ghost use Rattle.dy_index.specs.inside.Held.{has_some, is_hint_here};
+ghost use Rattle.dy_index.specs.{
+  Lists.{HaveSameMade, list_at},
+  inside.Held.{has_some, is_hint_here},
+};
 
 use crate::custodies::{self, Custody};
 use dy_dots::{Dot, Fault, NodeId};
@@ -22,8 +24,7 @@ pub struct Made {
 }
 
 impl Model for Made {
-    ghost use Rattle.std.specs.Prelude.{List};
-    ghost use Rattle.std.specs.Coded.{coded_list};
+    ghost use Rattle.std.specs.{Prelude.{List}, Coded.{coded_list}};
     ghost use Rattle.dy_siblings.specs.Versions.{VersionParts, version_code};
 
     ghost Value = { List VersionParts };

@@ -1,17 +1,22 @@
 // The past of a version, gathered from the versions that a context names.
-ghost use Rattle.std.specs.Prelude.{◌≡◌, ◌+◌, ◌≤◌, ℕ, List, true, IfOk, OnOk, IsOkUnless};
-ghost use Rattle.std.specs.Prelude.{MatchOption};
-ghost use Rattle.std.specs.Option.{option_copied};
+ghost use Rattle.std.specs.{
+  Prelude.{◌≡◌, ◌+◌, ◌≤◌, ℕ, List, true, IfOk, OnOk, IsOkUnless, MatchOption},
+  Option.{option_copied},
+};
 ghost use Rattle.std.specs.FinSet as set;
 ghost use Rattle.dy_dots.specs.declared.dots.TheConstants.{MAX_COUNTER};
-ghost use Rattle.dy_core.specs.Worlds.{is_issued};
-ghost use Rattle.dy_core.specs.Steps.{IsKnown, past_of};
-ghost use Rattle.dy_core.specs.Logs.{world_after};
-ghost use Rattle.dy_core.specs.Listings.{IsLeastUnknown};
-ghost use Rattle.dy_core.specs.inside.Meanings.{AreIssuedBelow, IsFirstUnissued};
-ghost use Rattle.dy_core.specs.declared.steps.Step.{Step};
-ghost use Rattle.dy_index.specs.Indexes.{IsPartAfter};
-ghost use Rattle.dy_index.specs.inside.Pasts.{GrowsBy, GrowsByRun, HasFrom, IsGathering};
+ghost use Rattle.dy_core.specs.{
+  Worlds.{is_issued},
+  Steps.{IsKnown, past_of},
+  Logs.{world_after},
+  Listings.{IsLeastUnknown},
+  inside.Meanings.{AreIssuedBelow, IsFirstUnissued},
+  declared.steps.Step.{Step},
+};
+ghost use Rattle.dy_index.specs.{
+  Indexes.{IsPartAfter},
+  inside.Pasts.{GrowsBy, GrowsByRun, HasFrom, IsGathering},
+};
 
 use crate::parts::KeyPart;
 use crate::reads;

@@ -1,14 +1,17 @@
 // What a key's part tells, where the book knows the key.
-ghost use Rattle.std.specs.Prelude.{◌≡◌, ℕ, List, false, IfOk, IsOkUnless, MatchOption};
-ghost use Rattle.std.specs.List.{Contains};
-ghost use Rattle.std.specs.Option.{option_copied};
+ghost use Rattle.std.specs.{
+  Prelude.{◌≡◌, ℕ, List, false, IfOk, IsOkUnless, MatchOption},
+  List.{Contains},
+  Option.{option_copied},
+};
 ghost use Rattle.dy_siblings.specs.Siblings.{IsSameRow};
-ghost use Rattle.dy_core.specs.Worlds.{is_issued, row_at, World};
-ghost use Rattle.dy_core.specs.Logs.{world_after};
-ghost use Rattle.dy_core.specs.Listings.{ListsCovers};
-ghost use Rattle.dy_core.specs.declared.steps.Step.{Step};
-ghost use Rattle.dy_index.specs.Indexes.{IsPart, IsPartAfter};
-ghost use Rattle.dy_index.specs.Readings.{ListsDots};
+ghost use Rattle.dy_core.specs.{
+  Worlds.{is_issued, row_at, World},
+  Logs.{world_after},
+  Listings.{ListsCovers},
+  declared.steps.Step.{Step},
+};
+ghost use Rattle.dy_index.specs.{Indexes.{IsPart, IsPartAfter}, Readings.{ListsDots}};
 
 use crate::custodies;
 use crate::parts::KeyPart;

@@ -1,6 +1,5 @@
 // How what is held of a key is given up.
-ghost use Rattle.dy_core.specs.Worlds.{World};
-ghost use Rattle.dy_core.specs.Steps.{after_release};
+ghost use Rattle.dy_core.specs.{Worlds.{World}, Steps.{after_release}};
 ghost use Rattle.dy_index.specs.Indexes.{IsIndex};
 
 use crate::custodies;

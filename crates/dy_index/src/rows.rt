@@ -1,12 +1,15 @@
 // The versions of a key that have these dots.
-ghost use Rattle.std.specs.Prelude.{◌≡◌, ◌≤◌, ◌++◌, ℕ, IfOk, OnOk, IsOkUnless};
-ghost use Rattle.std.specs.List.{filter};
-ghost use Rattle.std.specs.Option.{option_copied};
-ghost use Rattle.dy_dots.specs.Dots.{AreDots, DotSet};
-ghost use Rattle.dy_dots.specs.Runs.{AreRunsOf, in_run};
-ghost use Rattle.dy_index.specs.Indexes.{made_in};
-ghost use Rattle.dy_index.specs.Lists.{AreCounted, list_at};
-ghost use Rattle.dy_index.specs.Readings.{AreOfDots};
+ghost use Rattle.std.specs.{
+  Prelude.{◌≡◌, ◌≤◌, ◌++◌, ℕ, IfOk, OnOk, IsOkUnless},
+  List.{filter},
+  Option.{option_copied},
+};
+ghost use Rattle.dy_dots.specs.{Dots.{AreDots, DotSet}, Runs.{AreRunsOf, in_run}};
+ghost use Rattle.dy_index.specs.{
+  Indexes.{made_in},
+  Lists.{AreCounted, list_at},
+  Readings.{AreOfDots},
+};
 
 use crate::parts::KeyPart;
 use dy_dots::{Fault, Run};

@@ -1,7 +1,6 @@
 ghost use Rattle.std.specs.Prelude.{◌≡◌, ◌≢◌, ◌≤◌, ◌⊎◌, IfErr, IfOk, IfSome, IsNone, OnErr, false};
 ghost use Rattle.std.specs.Prelude.{map, string_bytes};
-ghost use Rattle.clap.specs.Matches.{has_subcommand};
-ghost use Rattle.clap.specs.Values.{kind_of};
+ghost use Rattle.clap.specs.{Matches.{has_subcommand}, Values.{kind_of}};
 ghost use Rattle.dy_jobs.specs.Words.{AreNamed, IsJobOf};
 
 use crate::jobs::Job;

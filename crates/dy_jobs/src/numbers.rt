@@ -1,8 +1,9 @@
 // The numbers and the flags that words of a command line say.
-ghost use Rattle.std.specs.Prelude.{◌≡◌, ◌<◌, ◌≤◌, ◌↔◌, ◌^◌, IfSome, IsSome, IsTrue, codes, map};
-ghost use Rattle.std.specs.Prelude.{string_bytes};
-ghost use Rattle.std.specs.List.{Contains};
-ghost use Rattle.std.specs.Str.Parse.{IsNumeral, digits_value};
+ghost use Rattle.std.specs.{
+  Prelude.{◌≡◌, ◌<◌, ◌≤◌, ◌↔◌, ◌^◌, IfSome, IsSome, IsTrue, codes, map, string_bytes},
+  List.{Contains},
+  Str.Parse.{IsNumeral, digits_value},
+};
 ghost use Rattle.dy_jobs.specs.Words.{HasFlag, IsNumberWord, IsStormOf, SaysAt};
 
 use dy_plans::Storm;

@@ -1,5 +1,4 @@
-ghost use Rattle.std.specs.Prelude.{OnOk};
-ghost use Rattle.std.specs.Io.KnownBytes.{Appends};
+ghost use Rattle.std.specs.{Prelude.{OnOk}, Io.KnownBytes.{Appends}};
 ghost use Rattle.dy_lines.specs.Clusters.{cluster_lines};
 
 use crate::rings::write_tokens;

@@ -1,6 +1,4 @@
-ghost use Rattle.std.specs.Prelude.{◌≡◌, Some};
-ghost use Rattle.std.specs.Fmt.{DisplaysOnOk};
-ghost use Rattle.std.specs.List.{list_any};
+ghost use Rattle.std.specs.{Prelude.{◌≡◌, Some}, Fmt.{DisplaysOnOk}, List.{list_any}};
 ghost use Rattle.dy_lines.specs.Keeping.{is_for, own_text};
 
 use dy_dots::{Context, NodeId};

@@ -1,5 +1,4 @@
-ghost use Rattle.std.specs.Prelude.{List, Some, decimal, ℕ};
-ghost use Rattle.std.specs.Fmt.{DisplaysOnOk};
+ghost use Rattle.std.specs.{Prelude.{List, Some, decimal, ℕ}, Fmt.{DisplaysOnOk}};
 ghost use Rattle.dy_lines.specs.Texts.{listed_text};
 
 use dy_dots::NodeId;

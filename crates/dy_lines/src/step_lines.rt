@@ -1,10 +1,13 @@
 // The lines of steps, and of what sessions were told of the fetches among them.
-ghost use Rattle.std.specs.Prelude.{◌≡◌, ◌≤◌, ◌<◌, ◌+◌, ◌^◌, [], IfErr, OnOk, length};
-ghost use Rattle.std.specs.Io.KnownBytes.{Appends};
-ghost use Rattle.dy_lines.specs.StepLines.{fetches_behind, is_fetch as is_a_fetch};
-ghost use Rattle.dy_lines.specs.StepLines.{line_behind, step_line, step_lines, told_line};
-ghost use Rattle.dy_lines.specs.Stops.{IsStoppedForMemory};
-ghost use Rattle.dy_lines.specs.inside.Fetches.{IsFirstBetween};
+ghost use Rattle.std.specs.{
+  Prelude.{◌≡◌, ◌≤◌, ◌<◌, ◌+◌, ◌^◌, [], IfErr, OnOk, length},
+  Io.KnownBytes.{Appends},
+};
+ghost use Rattle.dy_lines.specs.{
+  StepLines.{fetches_behind, is_fetch as is_a_fetch, line_behind, step_line, step_lines, told_line},
+  Stops.{IsStoppedForMemory},
+  inside.Fetches.{IsFirstBetween},
+};
 
 use crate::audiences::Audience;
 use crate::steps::{StepLine, ToldLine};

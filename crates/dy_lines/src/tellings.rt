@@ -1,7 +1,5 @@
 // The lines of the gets that a session was told.
-ghost use Rattle.std.specs.Prelude.{◌<◌, List, OnOk};
-ghost use Rattle.std.specs.Io.KnownBytes.{Appends};
-ghost use Rattle.std.specs.List.{flat_map};
+ghost use Rattle.std.specs.{Prelude.{◌<◌, List, OnOk}, Io.KnownBytes.{Appends}, List.{flat_map}};
 ghost use Rattle.dy_shares.specs.Shares.{GetTold};
 ghost use Rattle.dy_lines.specs.Tellings.{AreFetchesOf, get_line};
 

@@ -1,6 +1,4 @@
-ghost use Rattle.std.specs.Prelude.{IfSome, OnOk};
-ghost use Rattle.std.specs.Fmt.{with_newline};
-ghost use Rattle.std.specs.Io.KnownBytes.{Appends};
+ghost use Rattle.std.specs.{Prelude.{IfSome, OnOk}, Fmt.{with_newline}, Io.KnownBytes.{Appends}};
 
 use arrayvec::ArrayString;
 use std::fmt::{Display, Write as WriteText};

@@ -1,8 +1,8 @@
-ghost use Rattle.std.specs.Prelude.{◌≡◌, ◌↔◌, ◌<◌, ◌+◌, ◌*◌, ◌^◌, true, IfOk, IfSome, IsOkUnless};
-ghost use Rattle.std.specs.Prelude.{OnErr};
-ghost use Rattle.std.specs.Arc.{arc_value};
-ghost use Rattle.crossbeam_channel.specs.Claims.{IsSeatAt};
-ghost use Rattle.crossbeam_channel.specs.Ends.{ruled_capacity, sends_on};
+ghost use Rattle.std.specs.{
+  Prelude.{◌≡◌, ◌↔◌, ◌<◌, ◌+◌, ◌*◌, ◌^◌, true, IfOk, IfSome, IsOkUnless, OnErr},
+  Arc.{arc_value},
+};
+ghost use Rattle.crossbeam_channel.specs.{Claims.{IsSeatAt}, Ends.{ruled_capacity, sends_on}};
 ghost use Rattle.dy_mailboxes.specs.inside.Calls.{first_call, next_call, with_ask};
 
 use crate::gates::Gate;

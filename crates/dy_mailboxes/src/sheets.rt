@@ -1,15 +1,17 @@
 ghost use Rattle.std.specs.Prelude.{◌≡◌, ◌<◌, ◌+◌, ◌*◌, ◌^◌, ℕ, length, get_or};
 ghost use Rattle.std.specs.Prelude.{IfOk, IfNone, IfSome, IsOkUnless};
 ghost use Rattle.dy_node.specs.declared.asks.Answer.TheVariants.{NoAnswer};
-ghost use Rattle.dy_transport.specs.Asking.{what_of};
-ghost use Rattle.dy_transport.specs.Told.{with_none, with_try};
-ghost use Rattle.dy_transport.specs.Told.{AllAnswered, Answers, IsAwaited};
-ghost use Rattle.dy_transport.specs.declared.transports.TheConstants.{SPARE_TRIES};
-ghost use Rattle.dy_mailboxes.specs.Parcels.{IsKept};
-ghost use Rattle.dy_mailboxes.specs.declared.sent.Sent.{Sent};
-ghost use Rattle.dy_mailboxes.specs.inside.Sheets.{IsFittedTo, IsOfUnsent, IsUnsent, is_awaiting};
-ghost use Rattle.dy_mailboxes.specs.inside.Sheets.{left_of, nothing_on_sheet, with_answer};
-ghost use Rattle.dy_mailboxes.specs.inside.Sheets.{with_sent, with_told};
+ghost use Rattle.dy_transport.specs.{
+  Asking.{what_of},
+  Told.{with_none, with_try, AllAnswered, Answers, IsAwaited},
+  declared.transports.TheConstants.{SPARE_TRIES},
+};
+ghost use Rattle.dy_mailboxes.specs.{
+  Parcels.{IsKept},
+  declared.sent.Sent.{Sent},
+  inside.Sheets.{IsFittedTo, IsOfUnsent, IsUnsent, is_awaiting, left_of, nothing_on_sheet},
+  inside.Sheets.{with_answer, with_sent, with_told},
+};
 
 use crate::parcels::{Answered, Parcel};
 use crate::sent::Sent;
@@ -33,8 +35,7 @@ pub struct Sheet<J: Naming> {
 }
 
 impl<J: Naming> Model for Sheet<J> {
-    ghost use Rattle.std.specs.Prelude.{◌≤◌, vec_capacity};
-    ghost use Rattle.std.specs.Coded.{codes};
+    ghost use Rattle.std.specs.{Prelude.{◌≤◌, vec_capacity}, Coded.{codes}};
     ghost use Rattle.dy_dots.specs.Dots.{dot_set_code};
     ghost use Rattle.dy_siblings.specs.Siblings.{siblings_code};
     ghost use Rattle.dy_shares.specs.Codes.{answer_code, receipt_parts_code as receipt_code};

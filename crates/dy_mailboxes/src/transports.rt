@@ -1,15 +1,15 @@
 ghost use Rattle.std.specs.Prelude.{◌≡◌, ◌<◌, ◌≤◌, ◌+◌, ◌*◌, ◌^◌, ℕ, length, IfOk, IfNone, IfSome};
 ghost use Rattle.std.specs.Prelude.{IsOkUnless, OnErr, Some, None, true, false};
 ghost use Rattle.dy_core.specs.declared.places.Place.{Place};
-ghost use Rattle.dy_node.specs.declared.asks.Answer.{Answer};
-ghost use Rattle.dy_node.specs.Answers.{MayAsk};
+ghost use Rattle.dy_node.specs.{declared.asks.Answer.{Answer}, Answers.{MayAsk}};
 ghost use Rattle.dy_transport.specs.Told.{AllAnswered, Answers, IsAwaited};
 ghost use Rattle.dy_transport.specs.Told.{nothing_told, with_ask, with_none};
-ghost use Rattle.dy_mailboxes.specs.Parcels.{IsParcelOf};
-ghost use Rattle.dy_mailboxes.specs.declared.sent.Sent.{Sent};
-ghost use Rattle.dy_mailboxes.specs.inside.Calls.{with_ask as with_posted};
-ghost use Rattle.dy_mailboxes.specs.inside.Sheets.{IsOfUnsent, IsUnsent, is_awaiting};
-ghost use Rattle.dy_mailboxes.specs.inside.Sheets.{with_answer, with_sent, with_told};
+ghost use Rattle.dy_mailboxes.specs.{
+  Parcels.{IsParcelOf},
+  declared.sent.Sent.{Sent},
+  inside.Calls.{with_ask as with_posted},
+  inside.Sheets.{IsOfUnsent, IsUnsent, is_awaiting, with_answer, with_sent, with_told},
+};
 
 use crate::parcels::{Answered, Parcel, Posted};
 use crate::posts::Post;

@@ -1,20 +1,23 @@
 // Versions that a node makes.
-ghost use Rattle.std.specs.Prelude.{◌≡◌, ◌+◌, ◌≤◌, ◌∷◌, [], IsTrue, IfOk, OnOk, OnErr, IsOkUnless};
+ghost use Rattle.std.specs.{
+  Prelude.{◌≡◌, ◌+◌, ◌≤◌, ◌∷◌, [], IsTrue, IfOk, OnOk, OnErr, IsOkUnless},
+  List.{Contains},
+  Result.{result_err},
+};
 ghost use Rattle.std.specs.FinSet as set;
-ghost use Rattle.std.specs.List.{Contains};
-ghost use Rattle.std.specs.Result.{result_err};
 ghost use Rattle.dy_dots.specs.declared.dots.TheConstants.{MAX_COUNTER};
 ghost use Rattle.dy_siblings.specs.Siblings.{IsSameRow, merge};
 ghost use Rattle.dy_node_store.specs.Counters.{greatest_used};
 ghost use Rattle.dy_preference.specs.Preferences.{homes_of, may_hold};
-ghost use Rattle.dy_core.specs.Worlds.{layout_of};
-ghost use Rattle.dy_core.specs.Steps.{version_made};
+ghost use Rattle.dy_core.specs.{Worlds.{layout_of}, Steps.{version_made}};
 ghost use Rattle.dy_shares.specs.Shares.{receipt_parts, with_steps};
 ghost use Rattle.dy_book.specs.Books.{MayIssue, issue_steps, with_untold, world_of};
-ghost use Rattle.dy_node.specs.Stored.{Shows, versions_at};
-ghost use Rattle.dy_node.specs.Nodes.{version_begun};
-ghost use Rattle.dy_node.specs.Refusals.{BeginRefused, PlanRefused};
-ghost use Rattle.dy_node.specs.inside.Agreed.{IsAgreed};
+ghost use Rattle.dy_node.specs.{
+  Stored.{Shows, versions_at},
+  Nodes.{version_begun},
+  Refusals.{BeginRefused, PlanRefused},
+  inside.Agreed.{IsAgreed},
+};
 
 use crate::begun::Begun;
 use crate::nodes::Node;

@@ -3,9 +3,11 @@ ghost use Rattle.std.specs.Prelude.{◌≡◌, ◌≢◌, ◌↔◌, ℕ, ◌<�
 ghost use Rattle.std.specs.Prelude.{IsTrue};
 ghost use Rattle.std.specs.Prelude.{IfOk, IfErr, OnOk, OnErr, IsErrOf, IsOkUnless};
 ghost use Rattle.dy_preference.specs.Preferences.{homes_of, may_hold};
-ghost use Rattle.dy_node.specs.Nodes.{IsDelivered, with_message};
-ghost use Rattle.dy_node.specs.Refusals.{HoldRefused};
-ghost use Rattle.dy_node.specs.declared.messages.Message.{Message as MessageParts};
+ghost use Rattle.dy_node.specs.{
+  Nodes.{IsDelivered, with_message},
+  Refusals.{HoldRefused},
+  declared.messages.Message.{Message as MessageParts},
+};
 
 use crate::holding::hold_row;
 use crate::messages::Message;

@@ -1,12 +1,12 @@
 // What a node answers to a fetch.
-ghost use Rattle.std.specs.Prelude.{◌≡◌, ◌+◌, ◌<◌, ◌∷◌, [], length, IfOk, OnOk, OnErr};
-ghost use Rattle.std.specs.Result.{result_err};
+ghost use Rattle.std.specs.{
+  Prelude.{◌≡◌, ◌+◌, ◌<◌, ◌∷◌, [], length, IfOk, OnOk, OnErr},
+  Result.{result_err},
+};
 ghost use Rattle.dy_siblings.specs.Siblings.{IsSameRow};
-ghost use Rattle.dy_core.specs.Steps.{place_for};
-ghost use Rattle.dy_core.specs.declared.steps.Step.TheVariants.{Fetch};
+ghost use Rattle.dy_core.specs.{Steps.{place_for}, declared.steps.Step.TheVariants.{Fetch}};
 ghost use Rattle.dy_book.specs.Books.{with_untold};
-ghost use Rattle.dy_node.specs.Stored.{versions_at};
-ghost use Rattle.dy_node.specs.Refusals.{FetchRefused};
+ghost use Rattle.dy_node.specs.{Stored.{versions_at}, Refusals.{FetchRefused}};
 
 use crate::nodes::Node;
 use dy_book::Book;

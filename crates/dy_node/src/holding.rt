@@ -1,13 +1,10 @@
 // Rows that a node holds.
-ghost use Rattle.std.specs.Prelude.{◌≡◌, ◌∷◌, [], IsTrue, IfOk, OnOk, OnErr};
-ghost use Rattle.std.specs.Result.{result_err};
+ghost use Rattle.std.specs.{Prelude.{◌≡◌, ◌∷◌, [], IsTrue, IfOk, OnOk, OnErr}, Result.{result_err}};
 ghost use Rattle.dy_preference.specs.Preferences.{homes_of, may_hold};
-ghost use Rattle.dy_core.specs.Steps.{place_for};
-ghost use Rattle.dy_core.specs.declared.steps.Step.TheVariants.{Hold};
+ghost use Rattle.dy_core.specs.{Steps.{place_for}, declared.steps.Step.TheVariants.{Hold}};
 ghost use Rattle.dy_shares.specs.Shares.{with_steps};
 ghost use Rattle.dy_book.specs.Books.{receipts_of, with_untold};
-ghost use Rattle.dy_node.specs.Stored.{Shows};
-ghost use Rattle.dy_node.specs.Refusals.{HoldRefused, StoreRefused};
+ghost use Rattle.dy_node.specs.{Stored.{Shows}, Refusals.{HoldRefused, StoreRefused}};
 
 use crate::nodes::Node;
 use crate::stores::Stores;

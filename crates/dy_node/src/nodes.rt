@@ -1,11 +1,12 @@
-ghost use Rattle.std.specs.Prelude.{◌≡◌, map, IfOk, IsOkUnless};
-ghost use Rattle.std.specs.List.{All};
+ghost use Rattle.std.specs.{Prelude.{◌≡◌, map, IfOk, IsOkUnless}, List.{All}};
 ghost use Rattle.dy_node_store.specs.Rows.{IsRowOf};
 ghost use Rattle.dy_hint_store.specs.Hints.{shown};
 ghost use Rattle.dy_shares.specs.Shares.{BelongsTo, steps_of};
 ghost use Rattle.dy_book.specs.Books.{world_of};
-ghost use Rattle.dy_node.specs.Stored.{ShowsNothing, kept_rows};
-ghost use Rattle.dy_node.specs.Nodes.{HoldsAs, first_state, with_mode, with_up};
+ghost use Rattle.dy_node.specs.{
+  Stored.{ShowsNothing, kept_rows},
+  Nodes.{HoldsAs, first_state, with_mode, with_up},
+};
 
 use crate::messages::Message;
 use crate::stores::Stores;
@@ -31,8 +32,7 @@ pub struct Node<J: Naming> {
 }
 
 impl<J: Naming> Model for Node<J> {
-    ghost use Rattle.dy_node.specs.Stored.{Shows};
-    ghost use Rattle.dy_node.specs.Nodes.{AreDeferred, NodeState, node_code};
+    ghost use Rattle.dy_node.specs.{Stored.{Shows}, Nodes.{AreDeferred, NodeState, node_code}};
 
     ghost Value = { NodeState };
 

@@ -1,8 +1,9 @@
 // The hints of a node, to be handed over.
-ghost use Rattle.std.specs.Prelude.{◌≡◌, ◌↔◌, ◌⊎◌, ◌-◌, ◌^◌, false, length, map, min};
-ghost use Rattle.std.specs.Prelude.{IfOk, IfErr, IsErrOf, IsOkUnless};
+ghost use Rattle.std.specs.{
+  Prelude.{◌≡◌, ◌↔◌, ◌⊎◌, ◌-◌, ◌^◌, false, length, map, min, IfOk, IfErr, IsErrOf, IsOkUnless},
+  List.{All},
+};
 ghost use Rattle.std.specs.FinMap as maps;
-ghost use Rattle.std.specs.List.{All};
 ghost use Rattle.dy_hint_store.specs.Hints.{IsHint, shown};
 ghost use Rattle.dy_node.specs.Nodes.{AreForHomes, AreForOthers, hints_of};
 

@@ -1,7 +1,6 @@
 // A node without its share.
 ghost use Rattle.std.specs.Prelude.{◌≡◌};
-ghost use Rattle.dy_node.specs.Stored.{Shows};
-ghost use Rattle.dy_node.specs.Nodes.{AreDeferred};
+ghost use Rattle.dy_node.specs.{Stored.{Shows}, Nodes.{AreDeferred}};
 
 use crate::messages::Message;
 use crate::nodes::Node;

@@ -1,13 +1,16 @@
 // Hints that are given up by receipts.
-ghost use Rattle.std.specs.Prelude.{◌≡◌, ◌≢◌, ◌<◌, ◌∷◌, [], true, false, IfOk, OnOk, OnErr, IsOk};
-ghost use Rattle.std.specs.Prelude.{IsOkUnless};
-ghost use Rattle.std.specs.Result.{result_err};
-ghost use Rattle.std.specs.List.{All, list_any};
+ghost use Rattle.std.specs.{
+  Prelude.{◌≡◌, ◌≢◌, ◌<◌, ◌∷◌, [], true, false, IfOk, OnOk, OnErr, IsOk, IsOkUnless},
+  Result.{result_err},
+  List.{All, list_any},
+};
 ghost use Rattle.dy_book.specs.Books.{HasRoom, LacksRoom};
-ghost use Rattle.dy_node.specs.Stored.{Shows};
-ghost use Rattle.dy_node.specs.Settling.{AreReleased, IsSettlement, NoneStands, ReleaseRefused};
-ghost use Rattle.dy_node.specs.Settling.{SettleRefused, same_release, without_all};
-ghost use Rattle.dy_node.specs.inside.Chosen.{AreCounted, is_new, taken};
+ghost use Rattle.dy_node.specs.{
+  Stored.{Shows},
+  Settling.{AreReleased, IsSettlement, NoneStands, ReleaseRefused, SettleRefused, same_release},
+  Settling.{without_all},
+  inside.Chosen.{AreCounted, is_new, taken},
+};
 
 use crate::nodes::Node;
 use crate::stores::Stores;

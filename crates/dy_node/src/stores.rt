@@ -1,19 +1,22 @@
 // What a node keeps, apart from books and shares.
-ghost use Rattle.std.specs.Prelude.{◌≡◌, ◌≢◌, ◌<◌, ◌+◌, ◌++◌, ◌∷◌, [], None, Some, map};
-ghost use Rattle.std.specs.Prelude.{◌-◌, ◌^◌, length, min};
-ghost use Rattle.std.specs.Prelude.{IsSome, IfSome, IfOk, IfErr, OnOk, OnErr, IsOk};
-ghost use Rattle.std.specs.Prelude.{IsOkUnless};
-ghost use Rattle.std.specs.Option.{option_copied};
-ghost use Rattle.std.specs.Result.{OkIff};
+ghost use Rattle.std.specs.{
+  Prelude.{◌≡◌, ◌≢◌, ◌<◌, ◌+◌, ◌++◌, ◌∷◌, [], None, Some, map, ◌-◌, ◌^◌, length, min, IsSome},
+  Prelude.{IfSome, IfOk, IfErr, OnOk, OnErr, IsOk, IsOkUnless},
+  Option.{option_copied},
+  Result.{OkIff},
+  List.{All},
+};
 ghost use Rattle.std.specs.FinMap as maps;
-ghost use Rattle.std.specs.List.{All};
 ghost use Rattle.dy_siblings.specs.Siblings.{AreOneByDot, has_dot};
-ghost use Rattle.dy_node_store.specs.Rows.{IsRowOf, without_dots};
-ghost use Rattle.dy_node_store.specs.Counters.{greatest_used, with_used};
+ghost use Rattle.dy_node_store.specs.{
+  Rows.{IsRowOf, without_dots},
+  Counters.{greatest_used, with_used},
+};
 ghost use Rattle.dy_hint_store.specs.Hints.{home_and_row, shown};
-ghost use Rattle.dy_node.specs.Stored.{empty_rooms, kept_rows, stands, versions_at, with_row};
-ghost use Rattle.dy_node.specs.inside.Placing.{FitsBack, IsAdded, IsHintOf, row_kept};
-ghost use Rattle.dy_node.specs.inside.Placing.{taken_back};
+ghost use Rattle.dy_node.specs.{
+  Stored.{empty_rooms, kept_rows, stands, versions_at, with_row},
+  inside.Placing.{FitsBack, IsAdded, IsHintOf, row_kept, taken_back},
+};
 
 use dy_dots::{Dot, Fault, NodeId};
 use dy_hint_store::{HintStore, RowRefFor};

@@ -1,16 +1,18 @@
-ghost use Rattle.std.specs.Prelude.{◌≡◌, ◌≢◌, ◌<◌, ◌++◌, [], None, Some, length, map, IsSome};
-ghost use Rattle.std.specs.Prelude.{IfSome, IfOk, OnOk, OnErr, IsOk, IsOkUnless};
-ghost use Rattle.std.specs.Cmp.Lexicographic.{slice_cmp};
-ghost use Rattle.std.specs.Option.{option_copied};
-ghost use Rattle.std.specs.Ordering.{nat_cmp};
+ghost use Rattle.std.specs.{
+  Prelude.{◌≡◌, ◌≢◌, ◌<◌, ◌++◌, [], None, Some, length, map, IsSome, IfSome, IfOk, OnOk, OnErr, IsOk, IsOkUnless},
+  Cmp.Lexicographic.{slice_cmp},
+  Option.{option_copied},
+  Ordering.{nat_cmp},
+  List.{All, IsDistinct},
+  List.Sorted.{IsPermutation, IsSortedByKey},
+  Map.{keys_of, values_of},
+};
 ghost use Rattle.std.specs.FinMap as maps;
-ghost use Rattle.std.specs.List.{All, IsDistinct};
-ghost use Rattle.std.specs.List.Sorted.{IsPermutation, IsSortedByKey};
-ghost use Rattle.std.specs.Map.{keys_of, values_of};
 ghost use Rattle.dy_siblings.specs.Siblings.{AreOneByDot, same_key};
-ghost use Rattle.dy_node_store.specs.Rows.{with_versions, versions_of, without_dots, IsRowOf};
-ghost use Rattle.dy_node_store.specs.Rows.{IsKeptRow};
-ghost use Rattle.dy_node_store.specs.Absorbing.{IsAbsorbed};
+ghost use Rattle.dy_node_store.specs.{
+  Rows.{with_versions, versions_of, without_dots, IsRowOf, IsKeptRow},
+  Absorbing.{IsAbsorbed},
+};
 
 use crate::placed::Placed;
 use dy_dots::{Dot, Fault};
@@ -30,8 +32,7 @@ pub struct RowMap {
 
 impl Model for RowMap {
     ghost use Rattle.std.specs.FinMap as maps;
-    ghost use Rattle.dy_node_store.specs.Rows.{Rows, rows_code};
-    ghost use Rattle.dy_node_store.specs.inside.Entries.{AreRows};
+    ghost use Rattle.dy_node_store.specs.{Rows.{Rows, rows_code}, inside.Entries.{AreRows}};
 
     ghost Value = { Rows };
 

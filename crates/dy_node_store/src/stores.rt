@@ -1,14 +1,16 @@
-ghost use Rattle.std.specs.Prelude.{◌≡◌, ◌<◌, ◌≤◌, ◌+◌, ◌++◌, ℕ, List, [], None, Some, length, map};
-ghost use Rattle.std.specs.Prelude.{IsSome, IfSome, IfOk, IfErr, OnOk, OnErr, IsOk, IsOkUnless};
-ghost use Rattle.std.specs.Option.{option_copied};
-ghost use Rattle.std.specs.Result.{OkIff};
+ghost use Rattle.std.specs.{
+  Prelude.{◌≡◌, ◌<◌, ◌≤◌, ◌+◌, ◌++◌, ℕ, List, [], None, Some, length, map, IsSome, IfSome, IfOk, IfErr, OnOk, OnErr, IsOk, IsOkUnless},
+  Option.{option_copied},
+  Result.{OkIff},
+  List.{All},
+};
 ghost use Rattle.std.specs.FinMap as maps;
-ghost use Rattle.std.specs.List.{All};
 ghost use Rattle.dy_siblings.specs.Siblings.{AreOneByDot};
-ghost use Rattle.dy_node_store.specs.Rows.{with_versions, versions_of, without_dots, IsKeptRow};
-ghost use Rattle.dy_node_store.specs.Rows.{IsRowOf};
-ghost use Rattle.dy_node_store.specs.Counters.{greatest_used, with_used};
-ghost use Rattle.dy_node_store.specs.Absorbing.{IsAbsorbed};
+ghost use Rattle.dy_node_store.specs.{
+  Rows.{with_versions, versions_of, without_dots, IsKeptRow, IsRowOf},
+  Counters.{greatest_used, with_used},
+  Absorbing.{IsAbsorbed},
+};
 
 use crate::placed::Placed;
 use crate::row_maps::RowMap;

@@ -1,7 +1,5 @@
 // What is printed of an audit.
-ghost use Rattle.std.specs.Prelude.{IfErr, OnOk};
-ghost use Rattle.std.specs.Io.KnownBytes.{Appends};
-ghost use Rattle.std.specs.List.{flat_map};
+ghost use Rattle.std.specs.{Prelude.{IfErr, OnOk}, Io.KnownBytes.{Appends}, List.{flat_map}};
 ghost use Rattle.dy_lines.specs.Stops.{IsStoppedForMemory};
 ghost use Rattle.dy_plans.specs.AuditLines.{acked_line, audit_lines, end_line, held_line};
 ghost use Rattle.dy_plans.specs.AuditLines.{settled_line, settled_lines};

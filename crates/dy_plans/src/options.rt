@@ -1,8 +1,10 @@
 ghost use Rattle.std.specs.Prelude.{◌≡◌, ◌≤◌, ◌↔◌, IfOk, IfErr, IsOk};
 ghost use Rattle.dy_book.specs.Limits.{AreLimits};
 ghost use Rattle.dy_script.specs.Reading.{layout_parts, script_parts};
-ghost use Rattle.dy_plans.specs.Openings.{given_or, options_for};
-ghost use Rattle.dy_plans.specs.RingLines.{IsRingMade, lists_of};
+ghost use Rattle.dy_plans.specs.{
+  Openings.{given_or, options_for},
+  RingLines.{IsRingMade, lists_of},
+};
 
 use dy_book::{MAX_STEPS, MAX_VERSIONS, Options};
 use dy_dots::{Fault, MAX_COUNTER};

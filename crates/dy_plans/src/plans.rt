@@ -3,9 +3,11 @@ ghost use Rattle.std.specs.Prelude.{◌↔◌, Result, IfOk, IsErrOf};
 ghost use Rattle.dy_dots.specs.declared.faults.Fault.{Fault as FaultParts};
 ghost use Rattle.dy_ring.specs.Rings.{Tokens};
 ghost use Rattle.dy_script.specs.Reading.{script_parts};
-ghost use Rattle.dy_plans.specs.Openings.{IsPlanOf, options_for};
-ghost use Rattle.dy_plans.specs.Refusals.{IsFirstRefusal};
-ghost use Rattle.dy_plans.specs.RingLines.{IsRingMade, lists_of};
+ghost use Rattle.dy_plans.specs.{
+  Openings.{IsPlanOf, options_for},
+  Refusals.{IsFirstRefusal},
+  RingLines.{IsRingMade, lists_of},
+};
 
 use crate::options::{options_of, ring_of};
 use dy_book::Options;

@@ -1,6 +1,8 @@
 // What is printed of a script's ring.
-ghost use Rattle.std.specs.Prelude.{◌≡◌, ◌↔◌, Result, IsErrOf, OnErr, OnOk};
-ghost use Rattle.std.specs.Io.KnownBytes.{Appends};
+ghost use Rattle.std.specs.{
+  Prelude.{◌≡◌, ◌↔◌, Result, IsErrOf, OnErr, OnOk},
+  Io.KnownBytes.{Appends},
+};
 ghost use Rattle.dy_dots.specs.declared.faults.Fault.{Fault as FaultParts};
 ghost use Rattle.dy_ring.specs.Rings.{Tokens};
 ghost use Rattle.dy_script.specs.Reading.{script_parts};

@@ -1,5 +1,7 @@
-ghost use Rattle.std.specs.Prelude.{take, nat_eq, false, ◌≢◌, ◌≡◌, [], ◌∷◌, IfSome, IfNone};
-ghost use Rattle.std.specs.List.{All, IsDistinct};
+ghost use Rattle.std.specs.{
+  Prelude.{take, nat_eq, false, ◌≢◌, ◌≡◌, [], ◌∷◌, IfSome, IfNone},
+  List.{All, IsDistinct},
+};
 ghost use Rattle.dy_preference.specs.Preferences.{is_home, stand_ins_of};
 
 use crate::lists::Preference;
@@ -15,8 +17,10 @@ pub struct Assign<'a> {
 }
 
 impl<'a> Model for Assign<'a> {
-    ghost use Rattle.std.specs.Prelude.{take, nat_eq, false, ◌≢◌, ℕ, List, ◌==◌, not};
-    ghost use Rattle.std.specs.List.{filter};
+    ghost use Rattle.std.specs.{
+      Prelude.{take, nat_eq, false, ◌≢◌, ℕ, List, ◌==◌, not},
+      List.{filter},
+    };
 
     ghost Value = { List ℕ };
 

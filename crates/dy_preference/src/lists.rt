@@ -1,5 +1,4 @@
-ghost use Rattle.std.specs.Prelude.{◌≡◌, take, drop, length, nat_eq, true};
-ghost use Rattle.std.specs.List.{IsDistinct};
+ghost use Rattle.std.specs.{Prelude.{◌≡◌, take, drop, length, nat_eq, true}, List.{IsDistinct}};
 ghost use Rattle.dy_preference.specs.Preferences.{IsPreferred, home_for, is_home, may_hold};
 
 use arrayvec::ArrayVec;

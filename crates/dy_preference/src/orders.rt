@@ -1,8 +1,10 @@
 ghost use Rattle.std.specs.Prelude.{◌≡◌, ◌≤◌, take, length};
 ghost use Rattle.dy_dots.specs.declared.nodes.TheConstants.{MAX_NODES};
 ghost use Rattle.dy_ring.specs.Rings.{position_of};
-ghost use Rattle.dy_preference.specs.Preferences.{IsByDistance, preference_of};
-ghost use Rattle.dy_preference.specs.inside.Walks.{met};
+ghost use Rattle.dy_preference.specs.{
+  Preferences.{IsByDistance, preference_of},
+  inside.Walks.{met},
+};
 
 use crate::lists::{Nodes, Preference};
 use dy_dots::NodeId;

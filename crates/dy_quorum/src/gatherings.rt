@@ -1,7 +1,7 @@
-ghost use Rattle.std.specs.Prelude.{◌≡◌, ◌<◌, ◌≤◌, ◌++◌, ◌∷◌, [], length, map, take, IfOk};
-ghost use Rattle.std.specs.Prelude.{IsOkUnless, MatchBool};
-ghost use Rattle.std.specs.Prelude.{◌==◌};
-ghost use Rattle.std.specs.List.{list_any};
+ghost use Rattle.std.specs.{
+  Prelude.{◌≡◌, ◌<◌, ◌≤◌, ◌++◌, ◌∷◌, [], length, map, take, IfOk, IsOkUnless, MatchBool, ◌==◌},
+  List.{list_any},
+};
 ghost use Rattle.dy_quorum.specs.Gatherings.{answer_place, first_answers};
 
 use dy_core::{Place, PlaceVec};
@@ -21,12 +21,12 @@ pub struct Gathering<J: Naming> {
 }
 
 impl<J: Naming> Model for Gathering<J> {
-    ghost use Rattle.std.specs.Prelude.{◌≡◌, ◌<◌, ◌≤◌, length, map, vec_capacity};
-    ghost use Rattle.std.specs.List.{All};
+    ghost use Rattle.std.specs.{Prelude.{◌≡◌, ◌<◌, ◌≤◌, length, map, vec_capacity}, List.{All}};
     ghost use Rattle.dy_dots.specs.declared.nodes.TheConstants.{MAX_NODES};
-    ghost use Rattle.dy_quorum.specs.Firsts.{AreFirstsBy};
-    ghost use Rattle.dy_quorum.specs.Gatherings.{Gathered, answer_place, first_answers};
-    ghost use Rattle.dy_quorum.specs.Gatherings.{gathered_code};
+    ghost use Rattle.dy_quorum.specs.{
+      Firsts.{AreFirstsBy},
+      Gatherings.{Gathered, answer_place, first_answers, gathered_code},
+    };
 
     ghost Value = { Gathered };
 

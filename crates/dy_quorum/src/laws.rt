@@ -1,8 +1,10 @@
 ghost use Rattle.std.specs.Prelude.{ℕ, List};
 ghost use Rattle.dy_core.specs.Logs.{Answer};
 ghost use Rattle.dy_shares.specs.Shares.{ReceiptParts};
-ghost use Rattle.dy_quorum.specs.Tallies.{CanChoose, DoAgree, IsChoiceOfHomes};
-ghost use Rattle.dy_quorum.specs.Gatherings.{AreFirstAnswers, first_answers};
+ghost use Rattle.dy_quorum.specs.{
+  Tallies.{CanChoose, DoAgree, IsChoiceOfHomes},
+  Gatherings.{AreFirstAnswers, first_answers},
+};
 
 /// Of receipts of which any two agree, w of distinct homes are of distinct holders too.
 pub fn distinct_homes_are_enough()

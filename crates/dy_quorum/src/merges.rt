@@ -1,5 +1,4 @@
-ghost use Rattle.std.specs.Prelude.{◌≡◌, ◌≤◌, List, ℕ, length, IfOk, IsOkUnless};
-ghost use Rattle.std.specs.List.{All};
+ghost use Rattle.std.specs.{Prelude.{◌≡◌, ◌≤◌, List, ℕ, length, IfOk, IsOkUnless}, List.{All}};
 ghost use Rattle.dy_siblings.specs.Siblings.{IsSameRow, newest};
 ghost use Rattle.dy_core.specs.Logs.{rows_of};
 

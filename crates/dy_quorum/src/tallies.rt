@@ -1,9 +1,11 @@
 ghost use Rattle.std.specs.Prelude.{◌≡◌, ◌<◌, ◌≤◌, ◌++◌, ◌∷◌, [], ◌↔◌, ℕ, length, IsTrue, IfOk};
 ghost use Rattle.std.specs.Prelude.{IsOkUnless, MatchBool};
 ghost use Rattle.dy_dots.specs.declared.nodes.TheConstants.{MAX_NODES};
-ghost use Rattle.dy_quorum.specs.Tallies.{Counted, Agrees, DoAgree, FitsAll, IsChoice, CanChoose};
-ghost use Rattle.dy_quorum.specs.declared.tallies.TheConstants.{MAX_RECEIPTS};
-ghost use Rattle.dy_quorum.specs.inside.Counting.{firsts};
+ghost use Rattle.dy_quorum.specs.{
+  Tallies.{Counted, Agrees, DoAgree, FitsAll, IsChoice, CanChoose},
+  declared.tallies.TheConstants.{MAX_RECEIPTS},
+  inside.Counting.{firsts},
+};
 
 use arrayvec::ArrayVec;
 use dy_dots::{Fault, MAX_NODES, NodeId};
@@ -28,12 +30,13 @@ pub struct Tally<J: Naming> {
 }
 
 impl<J: Naming> Model for Tally<J> {
-    ghost use Rattle.std.specs.Prelude.{◌≡◌, ◌<◌, ◌≤◌, length, map, vec_capacity};
-    ghost use Rattle.std.specs.List.{All};
+    ghost use Rattle.std.specs.{Prelude.{◌≡◌, ◌<◌, ◌≤◌, length, map, vec_capacity}, List.{All}};
     ghost use Rattle.dy_dots.specs.declared.nodes.TheConstants.{MAX_NODES};
-    ghost use Rattle.dy_quorum.specs.Tallies.{Counted, DoAgree};
-    ghost use Rattle.dy_quorum.specs.declared.tallies.TheConstants.{MAX_RECEIPTS};
-    ghost use Rattle.dy_quorum.specs.inside.Counting.{IsCount, firsts};
+    ghost use Rattle.dy_quorum.specs.{
+      Tallies.{Counted, DoAgree},
+      declared.tallies.TheConstants.{MAX_RECEIPTS},
+      inside.Counting.{IsCount, firsts},
+    };
 
     ghost Value = { Counted };
 

@@ -1,10 +1,12 @@
-ghost use Rattle.std.specs.Prelude.{◌≡◌, ◌<◌, ◌≤◌, ◌+◌, ◌*◌, ℕ, [], ◌∷◌, ◌++◌, length};
-ghost use Rattle.std.specs.Prelude.{IfNone, IfSome};
-ghost use Rattle.std.specs.List.{All};
+ghost use Rattle.std.specs.{
+  Prelude.{◌≡◌, ◌<◌, ◌≤◌, ◌+◌, ◌*◌, ℕ, [], ◌∷◌, ◌++◌, length, IfNone, IfSome},
+  List.{All},
+};
 ghost use Rattle.dy_transport.specs.Told.{AllAnswered, Told, with_none};
-ghost use Rattle.dy_reads.specs.Lists.{homes_in};
-ghost use Rattle.dy_reads.specs.Rules.{MayCome, MayRequest, MayStandIn, Reads, home_asks};
-ghost use Rattle.dy_reads.specs.Rules.{answer_read, next_stand_in, requested};
+ghost use Rattle.dy_reads.specs.{
+  Lists.{homes_in},
+  Rules.{MayCome, MayRequest, MayStandIn, Reads, home_asks, answer_read, next_stand_in, requested},
+};
 
 use crate::requests::Request;
 use dy_core::Place;

@@ -1,11 +1,12 @@
 ghost use Rattle.std.specs.Prelude.{◌≡◌, []};
 ghost use Rattle.dy_preference.specs.Preferences.{home_for, preference_of};
 ghost use Rattle.dy_core.specs.Worlds.{layout_of};
-ghost use Rattle.dy_transport.specs.Asking.{IsBegun, IsSeenAt};
-ghost use Rattle.dy_transport.specs.Refusals.{IsOfBegin, IsOfNode};
-ghost use Rattle.dy_transport.specs.Told.{Told};
-ghost use Rattle.dy_reads.specs.Lists.{homes_in};
-ghost use Rattle.dy_reads.specs.Tries.{IfAt, TriesEnd, begin_try, look_try};
+ghost use Rattle.dy_transport.specs.{
+  Asking.{IsBegun, IsSeenAt},
+  Refusals.{IsOfBegin, IsOfNode},
+  Told.{Told},
+};
+ghost use Rattle.dy_reads.specs.{Lists.{homes_in}, Tries.{IfAt, TriesEnd, begin_try, look_try}};
 
 use crate::starts::Somewhere;
 use dy_dots::{Context, Fault};

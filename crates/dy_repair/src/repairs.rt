@@ -1,13 +1,16 @@
-ghost use Rattle.std.specs.Prelude.{◌≡◌, ◌≤◌, ◌<◌, ◌+◌, [], length, map};
-ghost use Rattle.std.specs.Prelude.{IsTrue, IfOk, IfErr, IsOkUnless, vec_len, vec_capacity};
-ghost use Rattle.std.specs.List.{All};
+ghost use Rattle.std.specs.{
+  Prelude.{◌≡◌, ◌≤◌, ◌<◌, ◌+◌, [], length, map, IsTrue, IfOk, IfErr, IsOkUnless, vec_len},
+  Prelude.{vec_capacity},
+  List.{All},
+};
 ghost use Rattle.dy_dots.specs.declared.nodes.TheConstants.{MAX_NODES};
 ghost use Rattle.dy_preference.specs.Preferences.{homes_of, may_hold, preference_of};
 ghost use Rattle.dy_transport.specs.Told.{Told};
-ghost use Rattle.dy_reads.specs.Lists.{homes_in};
-ghost use Rattle.dy_reads.specs.Rules.{IsReadOut};
-ghost use Rattle.dy_repair.specs.Repairs.{IsRepaired, homes_once, store_asks};
-ghost use Rattle.dy_repair.specs.inside.Noting.{with_home};
+ghost use Rattle.dy_reads.specs.{Lists.{homes_in}, Rules.{IsReadOut}};
+ghost use Rattle.dy_repair.specs.{
+  Repairs.{IsRepaired, homes_once, store_asks},
+  inside.Noting.{with_home},
+};
 
 use crate::staleness::stale;
 use dy_dots::{Fault, NodeId};

@@ -1,6 +1,8 @@
 ghost use Rattle.std.specs.Prelude.{◌≡◌, ◌↔◌, not, map, IfOk, IsOkUnless, IsTrue};
-ghost use Rattle.dy_repair.specs.Stales.{AreCurrent, AreStale};
-ghost use Rattle.dy_repair.specs.inside.Telling.{is_current, tells_stale};
+ghost use Rattle.dy_repair.specs.{
+  Stales.{AreCurrent, AreStale},
+  inside.Telling.{is_current, tells_stale},
+};
 
 use dy_dots::Fault;
 use dy_shares::{Naming, Seen};

@@ -2,8 +2,7 @@
 ghost use Rattle.std.specs.Prelude.{ℕ, List};
 ghost use Rattle.dy_ring.specs.Rings.{Tokens};
 ghost use Rattle.dy_shares.specs.Shares.{SessionPart};
-ghost use Rattle.dy_cluster.specs.Ends.{AtRest, IsEndOf};
-ghost use Rattle.dy_cluster.specs.declared.resting.Closed.{Closed};
+ghost use Rattle.dy_cluster.specs.{Ends.{AtRest, IsEndOf}, declared.resting.Closed.{Closed}};
 ghost use Rattle.dy_replay.specs.Replays.{Agrees, log_of};
 
 /// The world that a replay of a closed cluster gives agrees with the cluster's audit: on what is

@@ -1,7 +1,5 @@
 ghost use Rattle.std.specs.Prelude.{◌≡◌, ◌≤◌, List, IfOk, IsOkUnless};
-ghost use Rattle.dy_core.specs.Worlds.{layout_of};
-ghost use Rattle.dy_core.specs.Logs.{IsLegal};
-ghost use Rattle.dy_core.specs.declared.steps.Step.{Step};
+ghost use Rattle.dy_core.specs.{Worlds.{layout_of}, Logs.{IsLegal}, declared.steps.Step.{Step}};
 ghost use Rattle.dy_book.specs.Audits.{IsHistoryOf};
 
 use dy_book::History;

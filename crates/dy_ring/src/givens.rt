@@ -1,11 +1,13 @@
-ghost use Rattle.std.specs.Prelude.{◌≡◌, ◌≤◌, ◌<◌, ◌++◌, ◌^◌, ℕ, true, false, length, map};
-ghost use Rattle.std.specs.Prelude.{IfOk, OnOk, IsOkUnless, MatchOption};
-ghost use Rattle.std.specs.List.{All};
-ghost use Rattle.std.specs.List.Sorted.{IsNonDecreasingBy, IsPermutation};
+ghost use Rattle.std.specs.{
+  Prelude.{◌≡◌, ◌≤◌, ◌<◌, ◌++◌, ◌^◌, ℕ, true, false, length, map, IfOk, OnOk, IsOkUnless, MatchOption},
+  List.{All},
+  List.Sorted.{IsNonDecreasingBy, IsPermutation},
+};
 ghost use Rattle.dy_dots.specs.declared.nodes.TheConstants.{MAX_NODES};
-ghost use Rattle.dy_ring.specs.Lists.{IsLeast, has_too_many, lacks_token};
-ghost use Rattle.dy_ring.specs.Lists.{derived_token, derived_list, derived_lists};
-ghost use Rattle.dy_ring.specs.inside.Making.{pairs_from, clash_of};
+ghost use Rattle.dy_ring.specs.{
+  Lists.{IsLeast, has_too_many, lacks_token, derived_token, derived_list, derived_lists},
+  inside.Making.{pairs_from, clash_of},
+};
 
 use crate::rings::{MAX_TOKENS_PER_NODE, Token};
 use dy_dots::{Fault, MAX_NODES, NodeId};

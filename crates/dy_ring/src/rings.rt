@@ -1,9 +1,12 @@
-ghost use Rattle.std.specs.Prelude.{◌≡◌, ◌≤◌, ◌<◌, ◌^◌, length, map, take, drop, IfOk, IsOkUnless};
-ghost use Rattle.std.specs.List.{All};
-ghost use Rattle.std.specs.Slice.Iter.{iter_rest};
-ghost use Rattle.dy_ring.specs.Lists.{IsRingOf, RefusesTooMany, RefusesWithout, RefusesClash};
-ghost use Rattle.dy_ring.specs.Lists.{TellsClash, MakesUnlessMemory, derived_lists};
-ghost use Rattle.dy_ring.specs.Rings.{IsRing, position_of};
+ghost use Rattle.std.specs.{
+  Prelude.{◌≡◌, ◌≤◌, ◌<◌, ◌^◌, length, map, take, drop, IfOk, IsOkUnless},
+  List.{All},
+  Slice.Iter.{iter_rest},
+};
+ghost use Rattle.dy_ring.specs.{
+  Lists.{IsRingOf, RefusesTooMany, RefusesWithout, RefusesClash, TellsClash, MakesUnlessMemory, derived_lists},
+  Rings.{IsRing, position_of},
+};
 
 use crate::givens::{
     are_too_many, derives_none, derives_too_many, first_clash, first_without, lists_of, pairs_of,

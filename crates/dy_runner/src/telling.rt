@@ -1,11 +1,13 @@
 // The lines of commands, and of steps below them.
-ghost use Rattle.std.specs.Prelude.{◌≤◌, ◌+◌, [], List, ℕ, length, IfErr, IfOk, OnOk};
-ghost use Rattle.std.specs.Prelude.{slice_range};
-ghost use Rattle.std.specs.Io.KnownBytes.{Appends};
-ghost use Rattle.dy_lines.specs.StepLines.{step_lines};
-ghost use Rattle.dy_lines.specs.Stops.{IsStoppedForMemory};
-ghost use Rattle.dy_runner.specs.Runs.{outcomes_in};
-ghost use Rattle.dy_runner.specs.Traces.{AreTraced, command_lines, sessions_of};
+ghost use Rattle.std.specs.{
+  Prelude.{◌≤◌, ◌+◌, [], List, ℕ, length, IfErr, IfOk, OnOk, slice_range},
+  Io.KnownBytes.{Appends},
+};
+ghost use Rattle.dy_lines.specs.{StepLines.{step_lines}, Stops.{IsStoppedForMemory}};
+ghost use Rattle.dy_runner.specs.{
+  Runs.{outcomes_in},
+  Traces.{AreTraced, command_lines, sessions_of},
+};
 
 use crate::recordings::Played;
 use crate::traces::Trace;

@@ -1,19 +1,20 @@
-ghost use Rattle.std.specs.Prelude.{◌≡◌, List, ℕ, Result, IfErr, IfOk, OnOk, true};
-ghost use Rattle.std.specs.Io.KnownBytes.{Appends};
-ghost use Rattle.std.specs.declared.marker.Brand.{Brand};
+ghost use Rattle.std.specs.{
+  Prelude.{◌≡◌, List, ℕ, Result, IfErr, IfOk, OnOk, true},
+  Io.KnownBytes.{Appends},
+  declared.marker.Brand.{Brand},
+};
 ghost use Rattle.dy_dots.specs.declared.faults.Fault.{Fault as FaultParts};
 ghost use Rattle.dy_ring.specs.Rings.{Tokens};
 ghost use Rattle.dy_script.specs.Reading.{script_parts};
 ghost use Rattle.dy_book.specs.Limits.{AreLimits};
 ghost use Rattle.dy_shares.specs.Shares.{SessionPart};
-ghost use Rattle.dy_cluster.specs.Ends.{IsClosed};
-ghost use Rattle.dy_cluster.specs.Refusals.{IsOpenRefusal};
-ghost use Rattle.dy_cluster.specs.Settings.{setting};
+ghost use Rattle.dy_cluster.specs.{Ends.{IsClosed}, Refusals.{IsOpenRefusal}, Settings.{setting}};
 ghost use Rattle.dy_lines.specs.Stops.{IsStoppedFor};
-ghost use Rattle.dy_plans.specs.Openings.{IsPlanOf, options_for};
-ghost use Rattle.dy_plans.specs.Refusals.{HasFailed, IsFirstRefusal, IsStoppedBy};
-ghost use Rattle.dy_plans.specs.Refusals.{IsStoppedOnlyBy};
-ghost use Rattle.dy_plans.specs.RingLines.{IsRingMade, lists_of};
+ghost use Rattle.dy_plans.specs.{
+  Openings.{IsPlanOf, options_for},
+  Refusals.{HasFailed, IsFirstRefusal, IsStoppedBy, IsStoppedOnlyBy},
+  RingLines.{IsRingMade, lists_of},
+};
 ghost use Rattle.dy_runner.specs.Runs.{HasRun, IsRun};
 
 use crate::recordings::{Recorded, Recording};

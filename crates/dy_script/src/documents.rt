@@ -1,9 +1,10 @@
 ghost use Rattle.std.specs.Prelude.{◌≡◌, ◌⊎◌, ◌<◌, length, Some, None, IfOk, IfErr, OnOk};
 ghost use Rattle.json.specs.Value.{value_view};
 ghost use Rattle.json.specs.Value as json_value;
-ghost use Rattle.dy_script.specs.Reading.{data_of};
-ghost use Rattle.dy_script.specs.inside.Documents.{view, document, fault_of};
-ghost use Rattle.dy_script.specs.inside.Documents.{in_range, items_in_range, members_in_range};
+ghost use Rattle.dy_script.specs.{
+  Reading.{data_of},
+  inside.Documents.{view, document, fault_of, in_range, items_in_range, members_in_range},
+};
 
 use crate::numbers::number_of;
 use dy_dots::Fault;

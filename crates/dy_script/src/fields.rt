@@ -22,11 +22,12 @@ pub(crate) struct Fields<'a> {
 
 impl<'a> Fields<'a> {
     ghost use Rattle.std.specs.Prelude.{◌≡◌, ◌<◌, ◌||◌, map, option_map, is_none, slice_index_or};
-    ghost use Rattle.serde_json.specs.Data.{no_members, put};
-    ghost use Rattle.serde_json.specs.Find.{get_member};
-    ghost use Rattle.dy_script.specs.Members.{knows};
-    ghost use Rattle.dy_script.specs.inside.Fields.{name_at, name_text, field_data, members_told};
-    ghost use Rattle.dy_script.specs.inside.Keys.{is_one_of};
+    ghost use Rattle.serde_json.specs.{Data.{no_members, put}, Find.{get_member}};
+    ghost use Rattle.dy_script.specs.{
+      Members.{knows},
+      inside.Fields.{name_at, name_text, field_data, members_told},
+      inside.Keys.{is_one_of},
+    };
 
     /// No member.
     pub(crate) fn new() -> Fields<'a>

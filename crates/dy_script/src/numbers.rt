@@ -1,7 +1,6 @@
 ghost use Rattle.std.specs.Prelude.{◌≡◌, ◌==◌, ◌<◌, true, false, length, option_map};
 ghost use Rattle.std.specs.Prelude.{slice_index, IsTrue};
-ghost use Rattle.serde_json.specs.Read.{number_of, number_from, float_of};
-ghost use Rattle.serde_json.specs.View.{number_view};
+ghost use Rattle.serde_json.specs.{Read.{number_of, number_from, float_of}, View.{number_view}};
 
 use fast_float::Numeral;
 use serde_json::Number;

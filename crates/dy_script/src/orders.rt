@@ -1,14 +1,11 @@
-ghost use Rattle.std.specs.Prelude.{◌≡◌, ◌<◌, IfSome};
-ghost use Rattle.std.specs.Vec.{vec_items};
-ghost use Rattle.dy_script.specs.Members.{allow_only};
-ghost use Rattle.dy_script.specs.Orders.{command_parts, write_parts, put_names};
-ghost use Rattle.dy_script.specs.Orders.{node_named, lone_node, mode_of, session_of};
-ghost use Rattle.dy_script.specs.Orders.{bytes_of, value_of, write_of};
-ghost use Rattle.dy_script.specs.Orders.{put_of, delete_of, get_of, set_mode_of, show_of};
-ghost use Rattle.dy_script.specs.Orders.{at_node, command_of};
-ghost use Rattle.dy_script.specs.inside.Documents.{view};
-ghost use Rattle.dy_script.specs.inside.Fields.{place_of, name_at, name_text, source_data};
-ghost use Rattle.dy_script.specs.inside.Readings.{IsReadingOf};
+ghost use Rattle.std.specs.{Prelude.{◌≡◌, ◌<◌, IfSome}, Vec.{vec_items}};
+ghost use Rattle.dy_script.specs.{
+  Members.{allow_only},
+  Orders.{command_parts, write_parts, put_names, node_named, lone_node, mode_of, session_of, bytes_of, value_of, write_of, put_of, delete_of, get_of, set_mode_of, show_of, at_node, command_of},
+  inside.Documents.{view},
+  inside.Fields.{place_of, name_at, name_text, source_data},
+  inside.Readings.{IsReadingOf},
+};
 
 use crate::commands::{Command, Write};
 use crate::scripts::MAX_SCRIPT_SESSIONS;

@@ -1,15 +1,13 @@
 ghost use Rattle.std.specs.Prelude.{◌≡◌, ◌⊎◌, ◌<◌, ◌≤◌, length, Ok, Err, IfOk, IfErr};
 ghost use Rattle.std.specs.Prelude.{vec_items, map, ℕ};
-ghost use Rattle.dy_script.specs.Members.{allow_only, each_of, seen};
-ghost use Rattle.dy_script.specs.Orders.{command_parts};
-ghost use Rattle.dy_script.specs.Reading.{layout_parts, script_parts, script_names};
-ghost use Rattle.dy_script.specs.Reading.{token_at, token_list, tokens_at, token_lists};
-ghost use Rattle.dy_script.specs.Reading.{derived_of, tokens_given, limits_of, key_at, keys_of};
-ghost use Rattle.dy_script.specs.Reading.{command_at, commands_given, run_of};
-ghost use Rattle.dy_script.specs.Reading.{script_of, script_of_text};
-ghost use Rattle.dy_script.specs.declared.scripts.TheConstants.{MAX_COMMANDS};
-ghost use Rattle.dy_script.specs.inside.Documents.{view, items_view};
-ghost use Rattle.dy_script.specs.inside.Readings.{IsReadingOf};
+ghost use Rattle.dy_script.specs.{
+  Members.{allow_only, each_of, seen},
+  Orders.{command_parts},
+  Reading.{layout_parts, script_parts, script_names, token_at, token_list, tokens_at, token_lists, derived_of, tokens_given, limits_of, key_at, keys_of, command_at, commands_given, run_of, script_of, script_of_text},
+  declared.scripts.TheConstants.{MAX_COMMANDS},
+  inside.Documents.{view, items_view},
+  inside.Readings.{IsReadingOf},
+};
 
 use crate::commands::Command;
 use crate::documents::{WRONG_SCRIPT, value_of};

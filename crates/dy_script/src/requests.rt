@@ -1,7 +1,9 @@
 ghost use Rattle.std.specs.Prelude.{◌≡◌, ◌⊎◌, ◌<◌, length, Ok, Err, IfOk, IfErr};
-ghost use Rattle.dy_script.specs.Requests.{request_of, request_of_text, request_parts};
-ghost use Rattle.dy_script.specs.inside.Documents.{view};
-ghost use Rattle.dy_script.specs.inside.Readings.{IsReadingOf};
+ghost use Rattle.dy_script.specs.{
+  Requests.{request_of, request_of_text, request_parts},
+  inside.Documents.{view},
+  inside.Readings.{IsReadingOf},
+};
 
 use crate::commands::Command;
 use crate::documents::value_of;

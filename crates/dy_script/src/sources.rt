@@ -1,10 +1,10 @@
 ghost use Rattle.std.specs.Prelude.{◌≡◌, map, option_map, option_and_then};
 ghost use Rattle.serde_json.specs.Find.{get as member_of, as_str};
-ghost use Rattle.dy_script.specs.Members.{need, optional, seen, allow_only, text, optional_text};
-ghost use Rattle.dy_script.specs.Members.{optional_small, as_whole};
-ghost use Rattle.dy_script.specs.inside.Documents.{view};
-ghost use Rattle.dy_script.specs.inside.Fields.{Tells, name_text, source_data};
-ghost use Rattle.dy_script.specs.inside.Fields.{text_in, whole_in, small_in};
+ghost use Rattle.dy_script.specs.{
+  Members.{need, optional, seen, allow_only, text, optional_text, optional_small, as_whole},
+  inside.Documents.{view},
+  inside.Fields.{Tells, name_text, source_data, text_in, whole_in, small_in},
+};
 
 use crate::fields::{Field, Fields};
 use crate::members::{Members, text_of, whole_of};

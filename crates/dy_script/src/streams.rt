@@ -2,11 +2,12 @@ ghost use Rattle.std.specs.Prelude.{◌≡◌, ◌<◌, ◌∷◌, [], Ok, lengt
 ghost use Rattle.std.specs.Prelude.{IfOk, IfErr, IfSome, IsTrue};
 ghost use Rattle.json.specs.Token as token;
 ghost use Rattle.json.specs.Value.{value_view};
-ghost use Rattle.dy_script.specs.Orders.{command_parts};
-ghost use Rattle.dy_script.specs.Reading.{script_parts, script_of_text};
-ghost use Rattle.dy_script.specs.inside.Streams.{IsRead, OpensScript, IsOwnScript, IsCommand};
-ghost use Rattle.dy_script.specs.inside.Streams.{AreCommands, IsRun};
-ghost use Rattle.dy_script.specs.inside.Fields.{AreTold, IsField, members_told};
+ghost use Rattle.dy_script.specs.{
+  Orders.{command_parts},
+  Reading.{script_parts, script_of_text},
+  inside.Streams.{IsRead, OpensScript, IsOwnScript, IsCommand, AreCommands, IsRun},
+  inside.Fields.{AreTold, IsField, members_told},
+};
 
 use crate::commands::Command;
 use crate::documents::{MAX_DEPTH, WRONG_SCRIPT, are_members_in_range, fault_of};

@@ -1,18 +1,24 @@
 // How a command and a line are answered.
-ghost use Rattle.std.specs.Prelude.{◌≡◌, ◌⊎◌, ◌+◌, List, ℕ, IfErr, IfOk, OnOk};
-ghost use Rattle.std.specs.Io.KnownBytes.{Appends};
-ghost use Rattle.dy_lines.specs.Outcomes.{command_text};
-ghost use Rattle.dy_lines.specs.Served.{refused_text};
-ghost use Rattle.dy_lines.specs.Stops.{IsStoppedFor, IsStoppedForMemory};
-ghost use Rattle.dy_lines.specs.Texts.{line as text_line};
+ghost use Rattle.std.specs.{
+  Prelude.{◌≡◌, ◌⊎◌, ◌+◌, List, ℕ, IfErr, IfOk, OnOk},
+  Io.KnownBytes.{Appends},
+};
+ghost use Rattle.dy_lines.specs.{
+  Outcomes.{command_text},
+  Served.{refused_text},
+  Stops.{IsStoppedFor, IsStoppedForMemory},
+  Texts.{line as text_line},
+};
 ghost use Rattle.dy_script.specs.Orders.{command_parts};
 ghost use Rattle.dy_cluster.specs.Settings.{setting};
 ghost use Rattle.dy_commands.specs.Commands.{IsTogether};
-ghost use Rattle.dy_serve.specs.Answers.{IsDone};
-ghost use Rattle.dy_serve.specs.Below.{standing};
-ghost use Rattle.dy_serve.specs.inside.Meeting.{AsksSo, MeetsLine};
-ghost use Rattle.dy_serve.specs.inside.Shortages.{HasNoNumber};
-ghost use Rattle.dy_serve.specs.InputLines.{IsKept};
+ghost use Rattle.dy_serve.specs.{
+  Answers.{IsDone},
+  Below.{standing},
+  inside.Meeting.{AsksSo, MeetsLine},
+  inside.Shortages.{HasNoNumber},
+  InputLines.{IsKept},
+};
 
 use crate::input_lines::{Line, is_blank};
 use crate::served_clusters::ServedCluster;

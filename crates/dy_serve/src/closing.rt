@@ -1,12 +1,9 @@
 // What is printed of a cluster that was closed.
-ghost use Rattle.std.specs.Prelude.{◌++◌, List, ℕ, IfErr, OnOk};
-ghost use Rattle.std.specs.Io.KnownBytes.{Appends};
-ghost use Rattle.dy_shares.specs.Shares.{steps_of};
-ghost use Rattle.dy_shares.specs.declared.entries.Entry.{Entry};
+ghost use Rattle.std.specs.{Prelude.{◌++◌, List, ℕ, IfErr, OnOk}, Io.KnownBytes.{Appends}};
+ghost use Rattle.dy_shares.specs.{Shares.{steps_of}, declared.entries.Entry.{Entry}};
 ghost use Rattle.dy_lines.specs.Stops.{IsStoppedForMemory};
 ghost use Rattle.dy_plans.specs.AuditLines.{audit_lines};
-ghost use Rattle.dy_serve.specs.Closings.{AreLeft, AreLeftIf};
-ghost use Rattle.dy_serve.specs.inside.Reads.{HasRead};
+ghost use Rattle.dy_serve.specs.{Closings.{AreLeft, AreLeftIf}, inside.Reads.{HasRead}};
 
 use crate::news::News;
 use crate::told::numbers_of;

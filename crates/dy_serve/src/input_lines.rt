@@ -1,13 +1,14 @@
 // The lines of an input, one after another.
-ghost use Rattle.std.specs.Prelude.{◌≡◌, ◌≢◌, ◌≤◌, ◌++◌, List, ℕ, [], false};
-ghost use Rattle.std.specs.Prelude.{All, IfOk, IfSome, IsNone, IsOkUnless, IsTrue};
-ghost use Rattle.std.specs.Prelude.{vec_capacity, vec_len};
-ghost use Rattle.std.specs.Io.KnownBytes.{Consumes};
+ghost use Rattle.std.specs.{
+  Prelude.{◌≡◌, ◌≢◌, ◌≤◌, ◌++◌, List, ℕ, [], false, All, IfOk, IfSome, IsNone, IsOkUnless, IsTrue},
+  Prelude.{vec_capacity, vec_len},
+  Io.KnownBytes.{Consumes},
+};
 ghost use Rattle.dy_dots.specs.declared.faults.Fault.TheVariants as Fault;
-ghost use Rattle.dy_serve.specs.InputLines.{IsAllOf, IsKept, IsRead, is_blank, is_space};
-ghost use Rattle.dy_serve.specs.InputLines.{is_too_long};
-ghost use Rattle.dy_serve.specs.InputLines.{taken};
-ghost use Rattle.dy_serve.specs.declared.input_lines.TheConstants.{MAX_LINE_BYTES};
+ghost use Rattle.dy_serve.specs.{
+  InputLines.{IsAllOf, IsKept, IsRead, is_blank, is_space, is_too_long, taken},
+  declared.input_lines.TheConstants.{MAX_LINE_BYTES},
+};
 
 use dy_dots::Fault;
 use memchr::memchr;

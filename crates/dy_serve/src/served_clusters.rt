@@ -1,12 +1,16 @@
-ghost use Rattle.std.specs.Prelude.{◌≡◌, ◌⊎◌, [], List, ℕ, IfErr, IfOk, IsOkUnless, OnOk};
-ghost use Rattle.std.specs.Io.KnownBytes.{Appends};
+ghost use Rattle.std.specs.{
+  Prelude.{◌≡◌, ◌⊎◌, [], List, ℕ, IfErr, IfOk, IsOkUnless, OnOk},
+  Io.KnownBytes.{Appends},
+};
 ghost use Rattle.dy_cluster.specs.Settings.{setting};
 ghost use Rattle.dy_lines.specs.Stops.{IsStoppedForMemory};
 ghost use Rattle.dy_commands.specs.Commands.{IsTogether, seated};
 ghost use Rattle.dy_shares.specs.Shares.{steps_of};
-ghost use Rattle.dy_serve.specs.Answers.{IsCarriedInto};
-ghost use Rattle.dy_serve.specs.Below.{AreBelowIf, IsUntouched, standing};
-ghost use Rattle.dy_serve.specs.Refusals.{IsNotCarried};
+ghost use Rattle.dy_serve.specs.{
+  Answers.{IsCarriedInto},
+  Below.{AreBelowIf, IsUntouched, standing},
+  Refusals.{IsNotCarried},
+};
 
 use crate::news::News;
 use crate::told::{ToldSoFar, told_since};

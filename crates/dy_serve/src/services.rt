@@ -1,18 +1,19 @@
 // What is served in one cluster.
-ghost use Rattle.std.specs.Prelude.{◌≡◌, ◌⊎◌, List, ℕ, None, false, true, IfErr, IfOk, IsTrue};
-ghost use Rattle.std.specs.Prelude.{OnOk, length};
-ghost use Rattle.std.specs.Option.{option_copied};
-ghost use Rattle.std.specs.Io.KnownBytes.{Appends};
+ghost use Rattle.std.specs.{
+  Prelude.{◌≡◌, ◌⊎◌, List, ℕ, None, false, true, IfErr, IfOk, IsTrue, OnOk, length},
+  Option.{option_copied},
+  Io.KnownBytes.{Appends},
+};
 ghost use Rattle.dy_script.specs.Reading.{script_parts, node_count};
 ghost use Rattle.dy_cluster.specs.Settings.{setting};
 ghost use Rattle.dy_commands.specs.Commands.{IsTogether};
 ghost use Rattle.dy_lines.specs.Stops.{IsStoppedFor};
-ghost use Rattle.dy_serve.specs.Below.{IsUntouched, standing};
-ghost use Rattle.dy_serve.specs.Refusals.{IsNotCarried};
-ghost use Rattle.dy_serve.specs.inside.Shortages.{StopsBeginning, StopsLines, StopsScript};
-ghost use Rattle.dy_serve.specs.inside.Shortages.{StopsServing};
-ghost use Rattle.dy_serve.specs.inside.Stretches.{GoesOn, HasBegun, HasServed, RunsScript};
-ghost use Rattle.dy_serve.specs.inside.Stretches.{ServesLines};
+ghost use Rattle.dy_serve.specs.{
+  Below.{IsUntouched, standing},
+  Refusals.{IsNotCarried},
+  inside.Shortages.{StopsBeginning, StopsLines, StopsScript, StopsServing},
+  inside.Stretches.{GoesOn, HasBegun, HasServed, RunsScript, ServesLines},
+};
 
 use crate::answering::{answer_command, answer_line, next_number};
 use crate::input_lines::Line;
@@ -67,9 +68,11 @@ pub(crate) struct Service<'s, 'p, 'i, 'o, I: BufRead, O: Write> {
 
 impl<I: BufRead, O: Write> MarkedWork for Service<'_, '_, '_, '_, I, O> {
     ghost use Rattle.dy_script.specs.Reading.{script_parts as parts};
-    ghost use Rattle.dy_serve.specs.Below.{standing as standing_at};
-    ghost use Rattle.dy_serve.specs.inside.Shortages.{StopsServing as IsStopping};
-    ghost use Rattle.dy_serve.specs.inside.Stretches.{HasServed as HasServedLines};
+    ghost use Rattle.dy_serve.specs.{
+      Below.{standing as standing_at},
+      inside.Shortages.{StopsServing as IsStopping},
+      inside.Stretches.{HasServed as HasServedLines},
+    };
 
     ghost told = { λ setting before after tellings read.
         (after.progress.ghost_name ≡ before.progress.ghost_name)

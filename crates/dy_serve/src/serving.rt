@@ -1,24 +1,27 @@
-ghost use Rattle.std.specs.Prelude.{◌≡◌, ◌⊎◌, List, ℕ, Result, IfErr, IfOk, OnOk, length};
-ghost use Rattle.std.specs.Io.KnownBytes.{Appends};
-ghost use Rattle.std.specs.declared.marker.Brand.{Brand};
+ghost use Rattle.std.specs.{
+  Prelude.{◌≡◌, ◌⊎◌, List, ℕ, Result, IfErr, IfOk, OnOk, length},
+  Io.KnownBytes.{Appends},
+  declared.marker.Brand.{Brand},
+};
 ghost use Rattle.dy_dots.specs.declared.faults.Fault.{Fault as FaultParts};
 ghost use Rattle.dy_ring.specs.Rings.{Tokens};
 ghost use Rattle.dy_script.specs.Reading.{script_parts};
-ghost use Rattle.dy_shares.specs.Shares.{SessionPart};
-ghost use Rattle.dy_shares.specs.declared.entries.Entry.{Entry};
-ghost use Rattle.dy_cluster.specs.Marks.{IsClosedBehind};
-ghost use Rattle.dy_cluster.specs.Settings.{setting};
+ghost use Rattle.dy_shares.specs.{Shares.{SessionPart}, declared.entries.Entry.{Entry}};
+ghost use Rattle.dy_cluster.specs.{Marks.{IsClosedBehind}, Settings.{setting}};
 ghost use Rattle.dy_lines.specs.Stops.{IsStoppedFor};
-ghost use Rattle.dy_plans.specs.Openings.{IsPlanOf, options_for};
-ghost use Rattle.dy_plans.specs.Refusals.{HasFailed, IsFirstRefusal, IsStoppedBy};
-ghost use Rattle.dy_plans.specs.Refusals.{IsStoppedOnlyBy};
-ghost use Rattle.dy_plans.specs.RingLines.{IsRingMade, lists_of};
-ghost use Rattle.dy_serve.specs.Below.{standing};
-ghost use Rattle.dy_serve.specs.InputLines.{IsAllOf};
-ghost use Rattle.dy_serve.specs.Refusals.{CutsService};
-ghost use Rattle.dy_serve.specs.Served.{IsServed, first_lines, service_of};
-ghost use Rattle.dy_serve.specs.inside.Shortages.{StopsCluster, StopsClusters};
-ghost use Rattle.dy_serve.specs.inside.Stretches.{HasServed, HasServedAll, ServesCluster};
+ghost use Rattle.dy_plans.specs.{
+  Openings.{IsPlanOf, options_for},
+  Refusals.{HasFailed, IsFirstRefusal, IsStoppedBy, IsStoppedOnlyBy},
+  RingLines.{IsRingMade, lists_of},
+};
+ghost use Rattle.dy_serve.specs.{
+  Below.{standing},
+  InputLines.{IsAllOf},
+  Refusals.{CutsService},
+  Served.{IsServed, first_lines, service_of},
+  inside.Shortages.{StopsCluster, StopsClusters},
+  inside.Stretches.{HasServed, HasServedAll, ServesCluster},
+};
 
 use crate::closing::write_closing;
 use crate::input_lines::Line;

@@ -3,9 +3,11 @@ ghost use Rattle.std.specs.Prelude.{◌≡◌, ℕ, zero, suc, ◌+◌, ◌<◌,
 ghost use Rattle.std.specs.Prelude.{IfSome, MatchBool};
 ghost use mathlib.Core.List.{IsPrefix};
 ghost use Rattle.logbook.specs.Pages.{nib, may_write};
-ghost use Rattle.dy_shares.specs.inside.Growth.{head_of};
-ghost use Rattle.dy_shares.specs.inside.Parts.{entries_of, numbered};
-ghost use Rattle.dy_shares.specs.Shares.{steps_of};
+ghost use Rattle.dy_shares.specs.{
+  inside.Growth.{head_of},
+  inside.Parts.{entries_of, numbered},
+  Shares.{steps_of},
+};
 
 use crate::entries::{Batch, Entry};
 use crate::names::Naming;
@@ -170,9 +172,11 @@ pub struct Chronicle<J: Naming> {
 impl<J: Naming> Model for Chronicle<J> {
     ghost use Rattle.std.specs.Prelude.{◌≡◌, suc, List, length};
     ghost use Rattle.logbook.specs.Pages.{nib, may_write};
-    ghost use Rattle.dy_shares.specs.inside.Growth.{head_of, joined};
-    ghost use Rattle.dy_shares.specs.Codes.{entries_code};
-    ghost use Rattle.dy_shares.specs.declared.entries.Entry.{Entry};
+    ghost use Rattle.dy_shares.specs.{
+      inside.Growth.{head_of, joined},
+      Codes.{entries_code},
+      declared.entries.Entry.{Entry},
+    };
 
     ghost Value = { List Entry };
 
@@ -201,9 +205,11 @@ impl<J: Naming> Drop for Front<J> {
 
 impl<J: Naming> Model for Front<J> {
     ghost use Rattle.std.specs.Prelude.{◌≡◌, List};
-    ghost use Rattle.dy_shares.specs.inside.Growth.{joined};
-    ghost use Rattle.dy_shares.specs.Codes.{entries_code};
-    ghost use Rattle.dy_shares.specs.declared.entries.Entry.{Entry};
+    ghost use Rattle.dy_shares.specs.{
+      inside.Growth.{joined},
+      Codes.{entries_code},
+      declared.entries.Entry.{Entry},
+    };
 
     ghost Value = { List Entry };
 
@@ -223,10 +229,12 @@ pub struct Added {
 
 impl Model for Added {
     ghost use Rattle.std.specs.Prelude.{◌+◌, List, drop};
-    ghost use Rattle.dy_shares.specs.inside.Growth.{joined};
-    ghost use Rattle.dy_shares.specs.Shares.{steps_of};
-    ghost use Rattle.dy_shares.specs.inside.Parts.{numbered, part_code};
-    ghost use Rattle.dy_shares.specs.declared.entries.Done.{Done};
+    ghost use Rattle.dy_shares.specs.{
+      inside.Growth.{joined},
+      Shares.{steps_of},
+      inside.Parts.{numbered, part_code},
+      declared.entries.Done.{Done},
+    };
 
     ghost Value = { List Done };
 

@@ -1,8 +1,9 @@
 // How a ledger ends: who is missing, and every share comes back.
-ghost use Rattle.std.specs.Prelude.{◌≡◌, ℕ, ◌+◌, ◌<◌, Decides, MatchBool, map};
-ghost use Rattle.std.specs.List.{All};
-ghost use Rattle.dy_shares.specs.inside.Parts.{AgreesAsNode, AgreesAsSession, CameBack};
-ghost use Rattle.dy_shares.specs.Shares.{HasNode, HasSession};
+ghost use Rattle.std.specs.{Prelude.{◌≡◌, ℕ, ◌+◌, ◌<◌, Decides, MatchBool, map}, List.{All}};
+ghost use Rattle.dy_shares.specs.{
+  inside.Parts.{AgreesAsNode, AgreesAsSession, CameBack},
+  Shares.{HasNode, HasSession},
+};
 
 use crate::chronicles::Chronicle;
 use crate::ledgers::Ledger;

@@ -1,23 +1,28 @@
 //! What the shares of a ledger that ended say, all together, what sessions are sure to read, and
 //! what a trail keeps. Each is a function that does nothing.
-ghost use Rattle.std.specs.Prelude.{◌≡◌, ℕ, ◌+◌, ◌<◌, ◌≤◌, ◌↔◌, IsTrue, List, Some, length, map};
-ghost use Rattle.std.specs.Prelude.{false, slice_get};
-ghost use Rattle.std.specs.List.{All, Contains};
-ghost use Rattle.dy_dots.specs.declared.dots.Dot.{Dot};
-ghost use Rattle.dy_siblings.specs.Siblings.{covers, newest};
-ghost use Rattle.dy_siblings.specs.Versions.{precedes};
-ghost use Rattle.dy_siblings.specs.declared.versions.Version.{Version};
+ghost use Rattle.std.specs.{
+  Prelude.{◌≡◌, ℕ, ◌+◌, ◌<◌, ◌≤◌, ◌↔◌, IsTrue, List, Some, length, map, false, slice_get},
+  List.{All, Contains},
+};
 ghost use Rattle.dy_ring.specs.Rings.{Tokens};
-ghost use Rattle.dy_core.specs.Worlds.{layout_of};
-ghost use Rattle.dy_core.specs.Logs.{AnswerAgain, IsLegal, rows_of, world_after};
-ghost use Rattle.dy_core.specs.declared.acks.Acked.{Acked};
-ghost use Rattle.dy_shares.specs.Shares.{Account, AckTold, AreAll, GetTold, IsAckOf, IsAckSpent};
-ghost use Rattle.dy_shares.specs.Shares.{IsOfHomes, NodePart, ReceiptParts, SessionPart};
-ghost use Rattle.dy_shares.specs.Shares.{SessionBelongsTo, own_homes, shows_held, steps_of};
-ghost use Rattle.dy_core.specs.declared.steps.Step.{Step};
-ghost use Rattle.dy_shares.specs.Trails.{AreKept, Keeps};
-ghost use Rattle.dy_shares.specs.declared.entries.Entry.{Entry};
-ghost use Rattle.dy_shares.specs.declared.kept_steps.KeptStep.{KeptStep as Kept};
+ghost use Rattle.dy_dots.specs.declared.dots.Dot.{Dot};
+ghost use Rattle.dy_siblings.specs.{
+  Siblings.{covers, newest},
+  Versions.{precedes},
+  declared.versions.Version.{Version},
+};
+ghost use Rattle.dy_core.specs.{
+  Worlds.{layout_of},
+  Logs.{AnswerAgain, IsLegal, rows_of, world_after},
+  declared.acks.Acked.{Acked},
+  declared.steps.Step.{Step},
+};
+ghost use Rattle.dy_shares.specs.{
+  Shares.{Account, AckTold, AreAll, GetTold, IsAckOf, IsAckSpent, IsOfHomes, NodePart, ReceiptParts, SessionPart, SessionBelongsTo, own_homes, shows_held, steps_of},
+  Trails.{AreKept, Keeps},
+  declared.entries.Entry.{Entry},
+  declared.kept_steps.KeptStep.{KeptStep as Kept},
+};
 
 /// Where all shares are there, what is held is what they show, and what is acknowledged is what
 /// they were told.

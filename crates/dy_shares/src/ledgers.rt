@@ -1,23 +1,20 @@
-ghost use Rattle.std.specs.Prelude.{◌≡◌, ◌≢◌, ℕ, ◌+◌, ◌<◌, ◌≤◌, ◌∷◌, ◌↔◌, Option, Some, None, []};
-ghost use Rattle.std.specs.Prelude.{vec_len, vec_capacity};
-ghost use Rattle.std.specs.Prelude.{map, length, IfOk, IfErr, OnOk, OnErr, IsErrOf, IsOkUnless};
-ghost use Rattle.std.specs.Prelude.{MatchBool, MatchOption};
-ghost use Rattle.std.specs.List.{All};
+ghost use Rattle.std.specs.{
+  Prelude.{◌≡◌, ◌≢◌, ℕ, ◌+◌, ◌<◌, ◌≤◌, ◌∷◌, ◌↔◌, Option, Some, None, [], vec_len, vec_capacity, map, length, IfOk, IfErr, OnOk, OnErr, IsErrOf, IsOkUnless, MatchBool, MatchOption},
+  List.{All},
+};
 ghost use mathlib.Core.List.{IsPrefix};
 ghost use Rattle.dy_dots.specs.declared.nodes.TheConstants.{MAX_NODES};
-ghost use Rattle.dy_core.specs.Worlds.{layout_of};
-ghost use Rattle.dy_core.specs.Logs.{IsAnswer, IsLegal};
-ghost use Rattle.dy_core.specs.declared.steps.Step.TheVariants.{Ack, Fetch};
-ghost use Rattle.dy_shares.specs.inside.Parts.{AreOf, IsPartOf, entries_of, with_done};
-ghost use Rattle.dy_shares.specs.Shares.{AreAll, AreOwned, AreSpendable, BelongsTo, HasAll};
-ghost use Rattle.dy_shares.specs.Shares.{IsMissing, IsReceipt, MayFollow, NodeStays};
-ghost use Rattle.dy_shares.specs.Shares.{SessionBelongsTo, SessionStays, acks_of, answer_of};
-ghost use Rattle.dy_shares.specs.Shares.{empty_account};
-ghost use Rattle.dy_shares.specs.Shares.{first_parts, first_session, node_of, receipt_parts};
-ghost use Rattle.dy_shares.specs.Shares.{steps_of, told_to, untold, with_ack, with_entries};
-ghost use Rattle.dy_shares.specs.Shares.{with_session, with_steps};
-ghost use Rattle.dy_shares.specs.Trails.{AreKept};
-ghost use Rattle.dy_shares.specs.declared.ledgers.TheConstants.{MAX_SESSIONS};
+ghost use Rattle.dy_core.specs.{
+  Worlds.{layout_of},
+  Logs.{IsAnswer, IsLegal},
+  declared.steps.Step.TheVariants.{Ack, Fetch},
+};
+ghost use Rattle.dy_shares.specs.{
+  inside.Parts.{AreOf, IsPartOf, entries_of, with_done},
+  Shares.{AreAll, AreOwned, AreSpendable, BelongsTo, HasAll, IsMissing, IsReceipt, MayFollow, NodeStays, SessionBelongsTo, SessionStays, acks_of, answer_of, empty_account, first_parts, first_session, node_of, receipt_parts, steps_of, told_to, untold, with_ack, with_entries, with_session, with_steps},
+  Trails.{AreKept},
+  declared.ledgers.TheConstants.{MAX_SESSIONS},
+};
 
 use crate::chronicles::Chronicle;
 use crate::endings::{
@@ -58,10 +55,12 @@ pub struct Ledger<J: Naming> {
 impl<J: Naming> Model for Ledger<J> {
     ghost use Rattle.std.specs.Prelude.{◌≡◌};
     ghost use Rattle.dy_core.specs.Worlds.{layout_of};
-    ghost use Rattle.dy_shares.specs.inside.Parts.{IsLedger};
-    ghost use Rattle.dy_shares.specs.Shares.{Account, steps_of};
-    ghost use Rattle.dy_shares.specs.Trails.{AreKept};
-    ghost use Rattle.dy_shares.specs.Codes.{account_code};
+    ghost use Rattle.dy_shares.specs.{
+      inside.Parts.{IsLedger},
+      Shares.{Account, steps_of},
+      Trails.{AreKept},
+      Codes.{account_code},
+    };
 
     ghost Value = { Account };
 

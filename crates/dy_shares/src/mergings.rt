@@ -1,7 +1,6 @@
 ghost use Rattle.std.specs.Prelude.{◌≡◌, ◌++◌, ◌∷◌, [], List, IfOk, OnOk, OnErr, IsOk, IsOkUnless};
 ghost use Rattle.dy_siblings.specs.Siblings.{IsSameRow, IsSiblingSet, newest};
-ghost use Rattle.dy_core.specs.Worlds.{layout_of};
-ghost use Rattle.dy_core.specs.Logs.{Answer, rows_of};
+ghost use Rattle.dy_core.specs.{Worlds.{layout_of}, Logs.{Answer, rows_of}};
 ghost use Rattle.dy_shares.specs.Merged.{IsMergeOf};
 
 use crate::chronicles::Front;

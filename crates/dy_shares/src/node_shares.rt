@@ -1,9 +1,10 @@
-ghost use Rattle.std.specs.Prelude.{◌≡◌, ◌<◌, ◌≤◌, ◌+◌, [], vec_len, vec_capacity};
+ghost use Rattle.std.specs.Prelude.{◌≡◌, ◌<◌, ◌≤◌, ◌+◌, [], vec_len, vec_capacity, slice_set};
 ghost use Rattle.dy_dots.specs.declared.nodes.TheConstants.{MAX_NODES};
-ghost use Rattle.std.specs.Prelude.{slice_set};
-ghost use Rattle.dy_shares.specs.inside.Agreeing.{retired};
-ghost use Rattle.dy_shares.specs.inside.Parts.{AgreesAsNode, IsRollOf, done_steps};
-ghost use Rattle.dy_shares.specs.Shares.{first_parts};
+ghost use Rattle.dy_shares.specs.{
+  inside.Agreeing.{retired},
+  inside.Parts.{AgreesAsNode, IsRollOf, done_steps},
+  Shares.{first_parts},
+};
 
 use crate::names::Naming;
 use crate::parts::{Roll, Share};
@@ -19,9 +20,11 @@ pub struct NodeShare<J: Naming> {
 
 impl<J: Naming> Model for NodeShare<J> {
     ghost use Rattle.std.specs.Prelude.{◌≡◌, ◌<◌};
-    ghost use Rattle.dy_shares.specs.inside.Parts.{done_steps};
-    ghost use Rattle.dy_shares.specs.Shares.{NodePart};
-    ghost use Rattle.dy_shares.specs.Codes.{node_part_code};
+    ghost use Rattle.dy_shares.specs.{
+      inside.Parts.{done_steps},
+      Shares.{NodePart},
+      Codes.{node_part_code},
+    };
 
     ghost Value = { NodePart };
 

@@ -2,8 +2,7 @@
 ghost use Rattle.std.specs.Prelude.{◌≡◌, ◌<◌, ◌++◌, ◌∷◌, [], length, slice_set};
 ghost use mathlib.Core.Option.{some};
 ghost use lib.ListN.{get_elem?};
-ghost use Rattle.dy_shares.specs.inside.Agreeing.{IsOut, knower, retired};
-ghost use Rattle.dy_shares.specs.inside.Parts.{held};
+ghost use Rattle.dy_shares.specs.{inside.Agreeing.{IsOut, knower, retired}, inside.Parts.{held}};
 
 use crate::chronicles::Added;
 use crate::entries::Done;
@@ -115,9 +114,11 @@ pub struct Roll<J: Naming> {
 
 impl<J: Naming> Model for Roll<J> {
     ghost use Rattle.std.specs.Prelude.{◌≡◌, ◌<◌, List, []};
-    ghost use Rattle.dy_shares.specs.inside.Agreeing.{knower};
-    ghost use Rattle.dy_shares.specs.declared.entries.Done.{Done};
-    ghost use Rattle.dy_shares.specs.inside.Parts.{parts_code};
+    ghost use Rattle.dy_shares.specs.{
+      inside.Agreeing.{knower},
+      declared.entries.Done.{Done},
+      inside.Parts.{parts_code},
+    };
 
     ghost Value = { List (List Done) };
 
@@ -139,8 +140,10 @@ pub struct Share<J: Naming> {
 
 impl<J: Naming> Model for Share<J> {
     ghost use Rattle.std.specs.Prelude.{◌≡◌, [], ◌∷◌};
-    ghost use Rattle.dy_shares.specs.inside.Agreeing.{IsOut, share_of, part_of};
-    ghost use Rattle.dy_shares.specs.inside.Parts.{Held, held, held_code};
+    ghost use Rattle.dy_shares.specs.{
+      inside.Agreeing.{IsOut, share_of, part_of},
+      inside.Parts.{Held, held, held_code},
+    };
 
     ghost Value = { Held };
 

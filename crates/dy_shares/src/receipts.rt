@@ -30,9 +30,10 @@ impl<J: Naming> Drop for Receipt<J> {
 }
 
 impl<J: Naming> Model for Receipt<J> {
-    ghost use Rattle.dy_shares.specs.Shares.{ReceiptParts, receipt_parts};
-    ghost use Rattle.dy_shares.specs.Codes.{receipt_parts_code};
-    ghost use Rattle.dy_shares.specs.Shares.{IsReceipt, steps_of};
+    ghost use Rattle.dy_shares.specs.{
+      Shares.{ReceiptParts, receipt_parts, IsReceipt, steps_of},
+      Codes.{receipt_parts_code},
+    };
 
     ghost Value = { ReceiptParts };
 

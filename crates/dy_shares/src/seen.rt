@@ -1,6 +1,5 @@
 ghost use Rattle.std.specs.Prelude.{◌≡◌, ◌≤◌, length, IfOk, IsOkUnless};
-ghost use Rattle.dy_core.specs.Worlds.{layout_of};
-ghost use Rattle.dy_core.specs.Logs.{IsAnswer, IsLegal};
+ghost use Rattle.dy_core.specs.{Worlds.{layout_of}, Logs.{IsAnswer, IsLegal}};
 ghost use Rattle.dy_shares.specs.Shares.{answer_of, steps_of};
 
 use crate::chronicles::Front;
@@ -32,10 +31,8 @@ impl<J: Naming> Drop for Seen<J> {
 }
 
 impl<J: Naming> Model for Seen<J> {
-    ghost use Rattle.dy_core.specs.Worlds.{layout_of};
-    ghost use Rattle.dy_core.specs.Logs.{Answer, IsAnswer, IsLegal};
-    ghost use Rattle.dy_shares.specs.Shares.{answer_of, steps_of};
-    ghost use Rattle.dy_shares.specs.Codes.{answer_code};
+    ghost use Rattle.dy_core.specs.{Worlds.{layout_of}, Logs.{Answer, IsAnswer, IsLegal}};
+    ghost use Rattle.dy_shares.specs.{Shares.{answer_of, steps_of}, Codes.{answer_code}};
 
     ghost Value = { Answer };
 

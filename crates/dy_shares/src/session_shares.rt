@@ -1,13 +1,16 @@
-ghost use Rattle.std.specs.Prelude.{◌≡◌, ℕ, ◌+◌, ◌<◌, ◌≤◌, ◌++◌, max, nat_eq, map, length, List};
-ghost use Rattle.std.specs.Prelude.{[], OnOk, OnErr, IsOkUnless, vec_len, vec_capacity};
-ghost use Rattle.std.specs.List.{All, IsDistinct};
+ghost use Rattle.std.specs.{
+  Prelude.{◌≡◌, ℕ, ◌+◌, ◌<◌, ◌≤◌, ◌++◌, max, nat_eq, map, length, List, [], OnOk, OnErr, IsOkUnless, vec_len, vec_capacity},
+  List.{All, IsDistinct},
+};
 ghost use mathlib.Core.List.{IsPrefix};
 ghost use Rattle.dy_core.specs.Logs.{Answer, IsAnswer};
 ghost use Rattle.std.specs.Prelude.{slice_set};
-ghost use Rattle.dy_shares.specs.inside.Agreeing.{retired};
-ghost use Rattle.dy_shares.specs.inside.Parts.{AgreesAsSession, held};
-ghost use Rattle.dy_shares.specs.Numbers.{AreNumbersOf};
-ghost use Rattle.dy_shares.specs.Shares.{first_session, greatest, since_of, steps_of, with_get};
+ghost use Rattle.dy_shares.specs.{
+  inside.Agreeing.{retired},
+  inside.Parts.{AgreesAsSession, held},
+  Numbers.{AreNumbersOf},
+  Shares.{first_session, greatest, since_of, steps_of, with_get},
+};
 
 use crate::chronicles::{Chronicle, Front};
 use crate::names::Naming;
@@ -29,8 +32,7 @@ pub struct Spent<J: Naming> {
 
 impl<J: Naming> Model for Spent<J> {
     ghost use Rattle.std.specs.Prelude.{List};
-    ghost use Rattle.dy_shares.specs.Shares.{ReceiptParts};
-    ghost use Rattle.dy_shares.specs.Codes.{spent_code};
+    ghost use Rattle.dy_shares.specs.{Shares.{ReceiptParts}, Codes.{spent_code}};
 
     ghost Value = { List ReceiptParts };
 
@@ -59,8 +61,7 @@ pub struct Get<J: Naming> {
 }
 
 impl<J: Naming> Model for Get<J> {
-    ghost use Rattle.dy_shares.specs.Shares.{GetTold};
-    ghost use Rattle.dy_shares.specs.Codes.{get_told_code};
+    ghost use Rattle.dy_shares.specs.{Shares.{GetTold}, Codes.{get_told_code}};
 
     ghost Value = { GetTold };
 
@@ -97,10 +98,12 @@ pub struct SessionShare<J: Naming> {
 }
 
 impl<J: Naming> Model for SessionShare<J> {
-    ghost use Rattle.dy_shares.specs.inside.Parts.{IsSessionShare, told_parts};
-    ghost use Rattle.dy_shares.specs.Shares.{SessionPart};
-    ghost use Rattle.dy_shares.specs.Numbers.{AreNumbersOf};
-    ghost use Rattle.dy_shares.specs.Codes.{session_part_code};
+    ghost use Rattle.dy_shares.specs.{
+      inside.Parts.{IsSessionShare, told_parts},
+      Shares.{SessionPart},
+      Numbers.{AreNumbersOf},
+      Codes.{session_part_code},
+    };
 
     ghost Value = { SessionPart };
 

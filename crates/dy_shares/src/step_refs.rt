@@ -1,7 +1,6 @@
 ghost use Rattle.std.specs.Prelude.{◌≡◌, IfOk, IsOkUnless};
 ghost use Rattle.dy_core.specs.declared.steps.Step.TheVariants.{Issue, Hold, Release, Fetch, Ack};
-ghost use Rattle.dy_dots.specs.Dots.{IsDot};
-ghost use Rattle.dy_dots.specs.Runs.{single};
+ghost use Rattle.dy_dots.specs.{Dots.{IsDot}, Runs.{single}};
 ghost use Rattle.dy_shares.specs.Trails.{Keeps};
 
 use crate::kept_steps::KeptStep;
@@ -20,8 +19,7 @@ pub struct StepRef<'a> {
 
 impl<'a> Model for StepRef<'a> {
     ghost use Rattle.dy_core.specs.declared.steps.Step.{Step};
-    ghost use Rattle.dy_shares.specs.Codes.{step_code};
-    ghost use Rattle.dy_shares.specs.inside.Said.{step_said};
+    ghost use Rattle.dy_shares.specs.{Codes.{step_code}, inside.Said.{step_said}};
 
     ghost Value = { Step };
 

@@ -1,8 +1,10 @@
 // How a trail grows by the steps of a log.
 ghost use Rattle.std.specs.Prelude.{◌≡◌, ◌+◌, ◌++◌, List, length, IfOk, OnOk, OnErr, IsOkUnless};
-ghost use Rattle.dy_shares.specs.inside.Parts.{entries_of};
-ghost use Rattle.dy_shares.specs.Trails.{AreKept};
-ghost use Rattle.dy_shares.specs.declared.kept_steps.KeptStep.{KeptStep as Kept};
+ghost use Rattle.dy_shares.specs.{
+  inside.Parts.{entries_of},
+  Trails.{AreKept},
+  declared.kept_steps.KeptStep.{KeptStep as Kept},
+};
 
 use crate::chronicles::Chronicle;
 use crate::entries::Batch;

@@ -1,11 +1,11 @@
 // What a ledger tells of its log: how long it is, its acks, and witnesses of what holds.
-ghost use Rattle.std.specs.Prelude.{◌≡◌, ◌≤◌, length};
-ghost use Rattle.std.specs.List.{All};
+ghost use Rattle.std.specs.{Prelude.{◌≡◌, ◌≤◌, length}, List.{All}};
 ghost use mathlib.Core.List.{IsPrefix};
-ghost use Rattle.dy_core.specs.Worlds.{layout_of};
-ghost use Rattle.dy_core.specs.Logs.{IsAnswer, IsLegal};
-ghost use Rattle.dy_shares.specs.Trails.{AreKept};
-ghost use Rattle.dy_shares.specs.Shares.{IsReceipt, acks_of, answer_of, receipt_parts, steps_of};
+ghost use Rattle.dy_core.specs.{Worlds.{layout_of}, Logs.{IsAnswer, IsLegal}};
+ghost use Rattle.dy_shares.specs.{
+  Trails.{AreKept},
+  Shares.{IsReceipt, acks_of, answer_of, receipt_parts, steps_of},
+};
 
 use crate::chronicles::Front;
 use crate::kept_steps::KeptStep;

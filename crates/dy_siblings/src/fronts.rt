@@ -1,7 +1,9 @@
 // The bytes of short keys.
-ghost use Rattle.std.specs.Prelude.{◌≡◌, ◌<◌, ◌==◌, ◌++◌, ◌∷◌, [], drop};
-ghost use Rattle.std.specs.Cmp.Lexicographic.{pointwise};
-ghost use Rattle.std.specs.Ordering.{nat_cmp};
+ghost use Rattle.std.specs.{
+  Prelude.{◌≡◌, ◌<◌, ◌==◌, ◌++◌, ◌∷◌, [], drop},
+  Cmp.Lexicographic.{pointwise},
+  Ordering.{nat_cmp},
+};
 ghost use Rattle.dy_siblings.specs.inside.Leads.{bytes_from, lead_from};
 
 use crate::keys::MAX_KEY_BYTES;

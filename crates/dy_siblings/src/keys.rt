@@ -1,15 +1,18 @@
-ghost use Rattle.std.specs.Prelude.{◌≡◌, ◌<◌, ◌≤◌, ◌==◌, ◌⊎◌, ◌↔◌, ℕ, List, length};
-ghost use Rattle.std.specs.Prelude.{IfOk, IfErr, IfSome, IfNone, IsErrOf, IsOk, IsOkUnless, IsSome};
-ghost use Rattle.std.specs.Cmp.{partial_order_from_own_ties};
-ghost use Rattle.std.specs.Cmp.Lexicographic.{bytes_decides, pointwise, slice_cmp};
-ghost use Rattle.std.specs.Cmp.Rules.{comparing};
-ghost use Rattle.std.specs.Hash.{same_Alike};
-ghost use Rattle.std.specs.Ordering.{nat_cmp, as_partial_cmp};
+ghost use Rattle.std.specs.{
+  Prelude.{◌≡◌, ◌<◌, ◌≤◌, ◌==◌, ◌⊎◌, ◌↔◌, ℕ, List, length, IfOk, IfErr, IfSome, IfNone, IsErrOf, IsOk, IsOkUnless, IsSome},
+  Cmp.{partial_order_from_own_ties},
+  Cmp.Lexicographic.{bytes_decides, pointwise, slice_cmp},
+  Cmp.Rules.{comparing},
+  Hash.{same_Alike},
+  Ordering.{nat_cmp, as_partial_cmp},
+};
 ghost use Rattle.std.proofs.Common.{rules};
-ghost use Rattle.dy_siblings.specs.Sizes.{IsKey};
-ghost use Rattle.dy_siblings.specs.inside.Hashed.{hashed};
-ghost use Rattle.dy_siblings.specs.inside.Leads.{AreBytes, IsKeyOf, bytes_of, front_of};
-ghost use Rattle.dy_siblings.specs.declared.keys.TheConstants.{MAX_KEY_BYTES, SHORT_KEY_BYTES};
+ghost use Rattle.dy_siblings.specs.{
+  Sizes.{IsKey},
+  inside.Hashed.{hashed},
+  inside.Leads.{AreBytes, IsKeyOf, bytes_of, front_of},
+  declared.keys.TheConstants.{MAX_KEY_BYTES, SHORT_KEY_BYTES},
+};
 
 use crate::fronts::Front;
 use crate::key_bytes::KeyBytes;

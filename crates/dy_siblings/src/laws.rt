@@ -1,9 +1,10 @@
 ghost use Rattle.std.specs.Prelude.{◌≡◌, ℕ, ◌++◌, ◌||◌, List, Option, map, All, false};
 ghost use Rattle.std.specs.FinSet as set;
 ghost use Rattle.dy_dots.specs.Dots.{DotNumbers};
-ghost use Rattle.dy_siblings.specs.Versions.{VersionParts, IsVersion, with_value};
-ghost use Rattle.dy_siblings.specs.Siblings.{AreClosed, IsSameRow, Rise, context_of, covers};
-ghost use Rattle.dy_siblings.specs.Siblings.{is_past, merge, newest};
+ghost use Rattle.dy_siblings.specs.{
+  Versions.{VersionParts, IsVersion, with_value},
+  Siblings.{AreClosed, IsSameRow, Rise, context_of, covers, is_past, merge, newest},
+};
 
 /// It does not matter which of two rows is merged into which.
 pub fn merging_commutes()

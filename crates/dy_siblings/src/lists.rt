@@ -1,7 +1,6 @@
 ghost use Rattle.std.specs.Prelude.{◌≡◌, ◌≤◌, length, insert, option_to_list, IfOk, OnOk, OnErr};
 ghost use Rattle.std.specs.Prelude.{IsOkUnless};
-ghost use Rattle.dy_siblings.specs.Siblings.{without};
-ghost use Rattle.dy_siblings.specs.inside.Lists.{items_of};
+ghost use Rattle.dy_siblings.specs.{Siblings.{without}, inside.Lists.{items_of}};
 
 use crate::merging;
 use crate::versions::Version;

@@ -1,11 +1,15 @@
 // The one version that a row has more than another, side by side with all of that.
-ghost use Rattle.std.specs.Prelude.{◌≡◌, ◌↔◌, ◌||◌, IfSome, IfNone, true, false};
-ghost use Rattle.std.specs.List.{Contains, list_any};
+ghost use Rattle.std.specs.{
+  Prelude.{◌≡◌, ◌↔◌, ◌||◌, IfSome, IfNone, true, false},
+  List.{Contains, list_any},
+};
 ghost use Rattle.dy_dots.specs.Dots.{IsDotBefore};
-ghost use Rattle.dy_siblings.specs.Siblings.{IsBeside, IsFollower, IsLone, Rise};
-ghost use Rattle.dy_siblings.specs.Versions.{VersionParts, precedes};
-ghost use Rattle.dy_siblings.specs.inside.Lists.{FollowNothing};
-ghost use Rattle.dy_siblings.specs.inside.Merging.{IsPlaceOf};
+ghost use Rattle.dy_siblings.specs.{
+  Siblings.{IsBeside, IsFollower, IsLone, Rise},
+  Versions.{VersionParts, precedes},
+  inside.Lists.{FollowNothing},
+  inside.Merging.{IsPlaceOf},
+};
 
 use crate::merging;
 use crate::versions::Version;

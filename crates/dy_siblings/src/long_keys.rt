@@ -1,9 +1,13 @@
 // The bytes of long keys, compared by words.
-ghost use Rattle.std.specs.Prelude.{◌≡◌, ◌≤◌, ◌+◌, ◌==◌, drop, length};
-ghost use Rattle.std.specs.Cmp.Lexicographic.{pointwise};
-ghost use Rattle.std.specs.Ordering.{nat_cmp};
-ghost use Rattle.dy_siblings.specs.inside.Leads.{AreFilled, lead_from, whole_of};
-ghost use Rattle.dy_siblings.specs.declared.keys.TheConstants.{MAX_KEY_BYTES};
+ghost use Rattle.std.specs.{
+  Prelude.{◌≡◌, ◌≤◌, ◌+◌, ◌==◌, drop, length},
+  Cmp.Lexicographic.{pointwise},
+  Ordering.{nat_cmp},
+};
+ghost use Rattle.dy_siblings.specs.{
+  inside.Leads.{AreFilled, lead_from, whole_of},
+  declared.keys.TheConstants.{MAX_KEY_BYTES},
+};
 
 use crate::keys::MAX_KEY_BYTES;
 use std::cmp::Ordering;

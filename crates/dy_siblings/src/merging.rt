@@ -1,13 +1,14 @@
-ghost use Rattle.std.specs.Prelude.{◌≡◌, ◌++◌, map, IfOk, IfSome, IfNone, IsOkUnless, [], ◌∷◌};
-ghost use Rattle.std.specs.Prelude.{◌↔◌, IsTrue, false};
-ghost use Rattle.std.specs.List.{All};
+ghost use Rattle.std.specs.{
+  Prelude.{◌≡◌, ◌++◌, map, IfOk, IfSome, IfNone, IsOkUnless, [], ◌∷◌, ◌↔◌, IsTrue, false},
+  List.{All},
+};
 ghost use Rattle.std.specs.FinSet as set;
-ghost use Rattle.dy_siblings.specs.inside.Lists.{items_of};
-ghost use Rattle.dy_siblings.specs.inside.Merging.{do_lists_conflict, AreAmong, IsMerge};
-ghost use Rattle.dy_siblings.specs.inside.Merging.{IsNextVersion, IsUnionOutside};
-ghost use Rattle.dy_siblings.specs.inside.Merging.{with_dots, with_histories};
-ghost use Rattle.dy_siblings.specs.Siblings.{AreOneByDot, Rise, is_past, present_values};
-ghost use Rattle.dy_siblings.specs.Versions.{VersionParts};
+ghost use Rattle.dy_siblings.specs.{
+  inside.Lists.{items_of},
+  inside.Merging.{do_lists_conflict, AreAmong, IsMerge, IsNextVersion, IsUnionOutside, with_dots, with_histories},
+  Siblings.{AreOneByDot, Rise, is_past, present_values},
+  Versions.{VersionParts},
+};
 
 use crate::lists::Versions;
 use crate::pasts;

@@ -1,7 +1,6 @@
 ghost use Rattle.std.specs.Prelude.{◌≡◌, IfOk, OnOk, IsOkUnless};
 ghost use Rattle.std.specs.FinSet as set;
-ghost use Rattle.dy_siblings.specs.Siblings.{is_past};
-ghost use Rattle.dy_siblings.specs.inside.Merging.{both_pasts, with_pasts};
+ghost use Rattle.dy_siblings.specs.{Siblings.{is_past}, inside.Merging.{both_pasts, with_pasts}};
 
 use crate::versions::Version;
 use dy_dots::{Context, Dot, Fault};

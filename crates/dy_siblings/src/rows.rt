@@ -1,6 +1,7 @@
-ghost use Rattle.std.specs.Prelude.{◌≡◌, ◌++◌, ◌↔◌, map, [], ◌∷◌, IfOk, OnOk, OnErr, IsOkUnless};
-ghost use Rattle.std.specs.Prelude.{IsTrue, IsOk, IfSome, IfNone, insert, length, ◌≤◌};
-ghost use Rattle.std.specs.Slice.Iter.{iter_rest};
+ghost use Rattle.std.specs.{
+  Prelude.{◌≡◌, ◌++◌, ◌↔◌, map, [], ◌∷◌, IfOk, OnOk, OnErr, IsOkUnless, IsTrue, IsOk, IfSome, IfNone, insert, length, ◌≤◌},
+  Slice.Iter.{iter_rest},
+};
 
 use crate::keys::Key;
 use crate::lists::Versions;
@@ -33,8 +34,10 @@ impl Drop for Row {
 }
 
 impl Model for Row {
-    ghost use Rattle.dy_siblings.specs.Siblings.{Siblings, siblings_code};
-    ghost use Rattle.dy_siblings.specs.inside.Lists.{items_of, IsRow};
+    ghost use Rattle.dy_siblings.specs.{
+      Siblings.{Siblings, siblings_code},
+      inside.Lists.{items_of, IsRow},
+    };
 
     ghost Value = { Siblings };
 
@@ -46,10 +49,10 @@ impl Model for Row {
 }
 
 impl Row {
-    ghost use Rattle.dy_siblings.specs.Siblings.{AreOneByDot, IsSameRow, IsSiblingSet, covers};
-    ghost use Rattle.dy_siblings.specs.Siblings.{merge, context_of, own_dots, without};
-    ghost use Rattle.dy_siblings.specs.Siblings.{IsBeside, IsFollower, present_values};
-    ghost use Rattle.dy_siblings.specs.Versions.{VersionParts};
+    ghost use Rattle.dy_siblings.specs.{
+      Siblings.{AreOneByDot, IsSameRow, IsSiblingSet, covers, merge, context_of, own_dots, without, IsBeside, IsFollower, present_values},
+      Versions.{VersionParts},
+    };
 
     /// The row of the key that has no version. Takes no memory.
     pub fn new(_alloc: Global, key: Key) -> Row

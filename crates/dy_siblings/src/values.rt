@@ -1,12 +1,15 @@
-ghost use Rattle.std.specs.Prelude.{◌≡◌, ◌<◌, ◌≤◌, ◌==◌, ◌⊎◌, ◌↔◌, ℕ, List, length, IfOk, IfErr};
-ghost use Rattle.std.specs.Prelude.{IsErrOf, IsOk, IsOkUnless};
-ghost use Rattle.std.specs.Cmp.Lexicographic.{pointwise};
-ghost use Rattle.std.specs.Cmp.Rules.{comparing};
+ghost use Rattle.std.specs.{
+  Prelude.{◌≡◌, ◌<◌, ◌≤◌, ◌==◌, ◌⊎◌, ◌↔◌, ℕ, List, length, IfOk, IfErr, IsErrOf, IsOk, IsOkUnless},
+  Cmp.Lexicographic.{pointwise},
+  Cmp.Rules.{comparing},
+};
 ghost use Rattle.std.proofs.Common.{rules};
-ghost use Rattle.dy_siblings.specs.Sizes.{IsValue};
-ghost use Rattle.dy_siblings.specs.inside.Values.{AreMany, bytes_in};
-ghost use Rattle.dy_siblings.specs.declared.keys.TheConstants.{SHORT_KEY_BYTES};
-ghost use Rattle.dy_siblings.specs.declared.values.TheConstants.{MAX_VALUE_BYTES};
+ghost use Rattle.dy_siblings.specs.{
+  Sizes.{IsValue},
+  inside.Values.{AreMany, bytes_in},
+  declared.keys.TheConstants.{SHORT_KEY_BYTES},
+  declared.values.TheConstants.{MAX_VALUE_BYTES},
+};
 
 use crate::keys::{Key, MAX_KEY_BYTES};
 use dy_dots::Fault;

@@ -58,8 +58,10 @@ impl Model for Version {
 }
 
 impl Version {
-    ghost use Rattle.dy_siblings.specs.Versions.{IsVersion, in_history, precedes, are_concurrent};
-    ghost use Rattle.dy_siblings.specs.inside.Conflicts.{same_version, same_rest, do_conflict};
+    ghost use Rattle.dy_siblings.specs.{
+      Versions.{IsVersion, in_history, precedes, are_concurrent},
+      inside.Conflicts.{same_version, same_rest, do_conflict},
+    };
 
     /// The version of these parts.
     pub fn new(

@@ -1,8 +1,6 @@
 ghost use Rattle.std.specs.Prelude.{◌≡◌, ◌+◌, ◌%◌, ◌^◌};
-ghost use Rattle.dy_cluster.specs.Settings.{setting};
-ghost use Rattle.dy_cluster.specs.Tellings.{IsUntold};
-ghost use Rattle.dy_storm.specs.Seeds.{generator_of};
-ghost use Rattle.dy_storm.specs.Turns.{AreTurns};
+ghost use Rattle.dy_cluster.specs.{Settings.{setting}, Tellings.{IsUntold}};
+ghost use Rattle.dy_storm.specs.{Seeds.{generator_of}, Turns.{AreTurns}};
 
 use crate::outages::Outages;
 use crate::turns::Player;

@@ -1,16 +1,18 @@
-ghost use Rattle.std.specs.Prelude.{◌+◌, ◌%◌, ◌^◌, IfOk, IfErr, IsOkUnless};
-ghost use Rattle.std.specs.List.{All};
-ghost use Rattle.std.specs.declared.marker.Brand.{Brand as BrandParts};
-ghost use Rattle.dy_ring.specs.Rings.{Tokens};
-ghost use Rattle.dy_ring.specs.Lists.{IsRingOf};
+ghost use Rattle.std.specs.{
+  Prelude.{◌+◌, ◌%◌, ◌^◌, IfOk, IfErr, IsOkUnless},
+  List.{All},
+  declared.marker.Brand.{Brand as BrandParts},
+};
+ghost use Rattle.dy_ring.specs.{Rings.{Tokens}, Lists.{IsRingOf}};
 ghost use Rattle.dy_node.specs.Nodes.{IsRestored};
 ghost use Rattle.dy_cluster.specs.Settings.{setting};
-ghost use Rattle.dy_clients.specs.Refusals.{IsRunRefusal};
-ghost use Rattle.dy_clients.specs.Runs.{HaveRun};
-ghost use Rattle.dy_storm.specs.Clusters.{five_tokens, storm_options};
-ghost use Rattle.dy_storm.specs.Ends.{IsStormed};
-ghost use Rattle.dy_storm.specs.Seeds.{generator_of};
-ghost use Rattle.dy_storm.specs.Turns.{AreTurns};
+ghost use Rattle.dy_clients.specs.{Refusals.{IsRunRefusal}, Runs.{HaveRun}};
+ghost use Rattle.dy_storm.specs.{
+  Clusters.{five_tokens, storm_options},
+  Ends.{IsStormed},
+  Seeds.{generator_of},
+  Turns.{AreTurns},
+};
 
 use crate::clients::Clients;
 use crate::counts::Counts;

@@ -1,10 +1,11 @@
 // What a storm prints of its steps.
-ghost use Rattle.std.specs.Prelude.{◌≡◌, List, OnOk, IfErr};
-ghost use Rattle.std.specs.Io.KnownBytes.{Appends};
-ghost use Rattle.std.specs.List.{enumerate_from, flat_map};
+ghost use Rattle.std.specs.{
+  Prelude.{◌≡◌, List, OnOk, IfErr},
+  Io.KnownBytes.{Appends},
+  List.{enumerate_from, flat_map},
+};
 ghost use Rattle.dy_shares.specs.Shares.{SessionPart};
-ghost use Rattle.dy_lines.specs.Sessions.{place_by};
-ghost use Rattle.dy_lines.specs.Tellings.{AreToldBy};
+ghost use Rattle.dy_lines.specs.{Sessions.{place_by}, Tellings.{AreToldBy}};
 ghost use Rattle.dy_storm.specs.Traces.{all_gets, step_line, trace_lines};
 
 use crate::rings::options;

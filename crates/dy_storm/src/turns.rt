@@ -1,10 +1,8 @@
 // What a client does in one turn.
 ghost use Rattle.std.specs.Prelude.{◌≡◌, ◌<◌, ◌+◌, ◌-◌, ◌^◌, Some};
 ghost use Rattle.dy_book.specs.declared.options.Options.{Options as OptionsParts};
-ghost use Rattle.dy_cluster.specs.Lists.{list_of};
-ghost use Rattle.dy_cluster.specs.Settings.{setting};
-ghost use Rattle.dy_storm.specs.Turns.{IsGetOf, IsTurnOf};
-ghost use Rattle.dy_storm.specs.Words.{key_text, value_text};
+ghost use Rattle.dy_cluster.specs.{Lists.{list_of}, Settings.{setting}};
+ghost use Rattle.dy_storm.specs.{Turns.{IsGetOf, IsTurnOf}, Words.{key_text, value_text}};
 
 use crate::words::{key_of, value_of};
 use dy_clients::{Connection, Context, Key, MendingGet, Naming, Transport, Value};

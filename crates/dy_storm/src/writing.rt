@@ -1,14 +1,17 @@
 // What a storm prints.
-ghost use Rattle.std.specs.Prelude.{◌≡◌, OnOk, IfErr};
-ghost use Rattle.std.specs.Io.KnownBytes.{Appends};
-ghost use Rattle.std.specs.declared.marker.Brand.{Brand as BrandParts};
-ghost use Rattle.dy_ring.specs.Rings.{Tokens};
-ghost use Rattle.dy_ring.specs.Lists.{IsRingOf};
+ghost use Rattle.std.specs.{
+  Prelude.{◌≡◌, OnOk, IfErr},
+  Io.KnownBytes.{Appends},
+  declared.marker.Brand.{Brand as BrandParts},
+};
+ghost use Rattle.dy_ring.specs.{Rings.{Tokens}, Lists.{IsRingOf}};
 ghost use Rattle.dy_clients.specs.Refusals.{IsRunRefusal};
-ghost use Rattle.dy_storm.specs.Clusters.{five_tokens};
-ghost use Rattle.dy_storm.specs.Ends.{IsStormed};
-ghost use Rattle.dy_storm.specs.Lines.{counts_line, storm_lines};
-ghost use Rattle.dy_storm.specs.declared.storms.StormDone.{StormDone};
+ghost use Rattle.dy_storm.specs.{
+  Clusters.{five_tokens},
+  Ends.{IsStormed},
+  Lines.{counts_line, storm_lines},
+  declared.storms.StormDone.{StormDone},
+};
 
 use crate::counts::Counts;
 use crate::rings::five_nodes;

@@ -1,12 +1,12 @@
 ghost use Rattle.std.specs.Prelude.{◌≡◌, ◌<◌, ◌+◌, ◌*◌, ◌^◌, ◌++◌, ◌∷◌, [], ℕ, length, IfNone};
 ghost use Rattle.std.specs.Prelude.{IfOk, IfSome, IsOkUnless};
 ghost use Rattle.dy_node.specs.declared.asks.Answer.TheVariants.{NoAnswer};
-ghost use Rattle.dy_transport.specs.Asking.{IsAnswerTo};
-ghost use Rattle.dy_transport.specs.Lines.{IsReadNext, handed_on, later_for, nothing_in_line};
-ghost use Rattle.dy_transport.specs.Lines.{waiting_for, with_told};
-ghost use Rattle.dy_transport.specs.Told.{with_ask, with_none, with_reply, with_try};
-ghost use Rattle.dy_transport.specs.Told.{AllAnswered, Answers, IsAwaited};
-ghost use Rattle.dy_transport.specs.declared.transports.TheConstants.{SPARE_TRIES};
+ghost use Rattle.dy_transport.specs.{
+  Asking.{IsAnswerTo},
+  Lines.{IsReadNext, handed_on, later_for, nothing_in_line, waiting_for, with_told},
+  Told.{with_ask, with_none, with_reply, with_try, AllAnswered, Answers, IsAwaited},
+  declared.transports.TheConstants.{SPARE_TRIES},
+};
 
 use crate::asked::home_asked;
 use crate::trails::Trail;
@@ -39,14 +39,11 @@ pub struct Line<J: Naming> {
 }
 
 impl<J: Naming> Model for Line<J> {
-    ghost use Rattle.std.specs.Prelude.{◌≤◌};
-    ghost use Rattle.std.specs.VecDeque.{deque_capacity};
-    ghost use Rattle.std.specs.Coded.{codes};
+    ghost use Rattle.std.specs.{Prelude.{◌≤◌}, VecDeque.{deque_capacity}, Coded.{codes}};
     ghost use Rattle.dy_dots.specs.Dots.{dot_set_code};
     ghost use Rattle.dy_siblings.specs.Siblings.{siblings_code};
     ghost use Rattle.dy_shares.specs.Codes.{answer_code, receipt_parts_code as receipt_code};
-    ghost use Rattle.dy_transport.specs.Lines.{LineParts};
-    ghost use Rattle.dy_transport.specs.inside.Lines.{IsLine};
+    ghost use Rattle.dy_transport.specs.{Lines.{LineParts}, inside.Lines.{IsLine}};
 
     ghost Value = { LineParts J };
 

@@ -1,18 +1,24 @@
-ghost use Rattle.std.specs.Prelude.{◌≡◌, ◌↔◌, true, false, None, IsTrue, IfOk, IfErr, IfSome};
-ghost use Rattle.std.specs.Prelude.{IsErrOf, IsOkUnless, OnErr, OnOk};
-ghost use Rattle.std.specs.Result.{result_err};
-ghost use Rattle.std.specs.List.{All};
-ghost use Rattle.std.specs.Sync.Mutex.{mutex_guard_value};
+ghost use Rattle.std.specs.{
+  Prelude.{◌≡◌, ◌↔◌, true, false, None, IsTrue, IfOk, IfErr, IfSome, IsErrOf, IsOkUnless, OnErr},
+  Prelude.{OnOk},
+  Result.{result_err},
+  List.{All},
+  Sync.Mutex.{mutex_guard_value},
+};
 ghost use Rattle.dy_preference.specs.Preferences.{homes_of, may_hold};
 ghost use Rattle.dy_core.specs.Worlds.{layout_of};
 ghost use Rattle.dy_book.specs.Books.{issue_steps, with_untold};
-ghost use Rattle.dy_node.specs.Answers.{AnsweredBy, IsDown, MayAsk};
-ghost use Rattle.dy_node.specs.Nodes.{AreForHomes, AreForOthers, hints_of, version_begun};
-ghost use Rattle.dy_node.specs.Refusals.{BeginRefused};
-ghost use Rattle.dy_node.specs.Stored.{versions_at};
-ghost use Rattle.dy_node.specs.declared.asks.Answer.TheVariants.{NoAnswer};
-ghost use Rattle.dy_transport.specs.Asking.{IsAnswerTo, IsBegun, IsSeenAt};
-ghost use Rattle.dy_transport.specs.Refusals.{IsOfBegin, IsOfNode, IsOfOffer};
+ghost use Rattle.dy_node.specs.{
+  Answers.{AnsweredBy, IsDown, MayAsk},
+  Nodes.{AreForHomes, AreForOthers, hints_of, version_begun},
+  Refusals.{BeginRefused},
+  Stored.{versions_at},
+  declared.asks.Answer.TheVariants.{NoAnswer},
+};
+ghost use Rattle.dy_transport.specs.{
+  Asking.{IsAnswerTo, IsBegun, IsSeenAt},
+  Refusals.{IsOfBegin, IsOfNode, IsOfOffer},
+};
 
 use crate::locks::lock_soon;
 use dy_book::Book;

@@ -1,6 +1,8 @@
 ghost use Rattle.std.specs.Prelude.{◌≡◌, ◌<◌, ◌+◌, ◌*◌, ◌^◌, length, IfOk, IsOkUnless};
-ghost use Rattle.dy_transport.specs.Told.{nothing_told, with_ask, with_none, with_reply, with_try};
-ghost use Rattle.dy_transport.specs.declared.transports.TheConstants.{SPARE_TRIES};
+ghost use Rattle.dy_transport.specs.{
+  Told.{nothing_told, with_ask, with_none, with_reply, with_try},
+  declared.transports.TheConstants.{SPARE_TRIES},
+};
 
 use crate::asked::Asked;
 use crate::replies::Reply;
@@ -35,13 +37,14 @@ impl<J: Naming> Drop for Trail<J> {
 }
 
 impl<J: Naming> Model for Trail<J> {
-    ghost use Rattle.std.specs.Prelude.{◌≤◌, ◌+◌, ◌*◌, vec_capacity};
-    ghost use Rattle.dy_transport.specs.declared.transports.TheConstants.{SPARE_TRIES};
-    ghost use Rattle.std.specs.Coded.{codes};
+    ghost use Rattle.std.specs.{Prelude.{◌≤◌, ◌+◌, ◌*◌, vec_capacity}, Coded.{codes}};
+    ghost use Rattle.dy_transport.specs.{
+      declared.transports.TheConstants.{SPARE_TRIES},
+      Told.{Told},
+    };
     ghost use Rattle.dy_dots.specs.Dots.{dot_set_code};
     ghost use Rattle.dy_siblings.specs.Siblings.{siblings_code};
     ghost use Rattle.dy_shares.specs.Codes.{answer_code, receipt_parts_code as receipt_code};
-    ghost use Rattle.dy_transport.specs.Told.{Told};
 
     ghost Value = { Told J };
 

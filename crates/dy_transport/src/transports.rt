@@ -1,22 +1,23 @@
-ghost use Rattle.std.specs.Prelude.{◌≡◌, ◌<◌, ◌≤◌, ◌+◌, ◌*◌, ℕ, ◌∷◌, [], List, length, map, nat_eq};
-ghost use Rattle.std.specs.Prelude.{IsTrue, IfOk, IfErr, OnOk, OnErr, IfNone, IfSome, IsOkUnless};
-ghost use Rattle.std.specs.List.{All, IsDistinct};
+ghost use Rattle.std.specs.{
+  Prelude.{◌≡◌, ◌<◌, ◌≤◌, ◌+◌, ◌*◌, ℕ, ◌∷◌, [], List, length, map, nat_eq, IsTrue, IfOk, IfErr},
+  Prelude.{OnOk, OnErr, IfNone, IfSome, IsOkUnless},
+  List.{All, IsDistinct},
+};
 ghost use Rattle.dy_dots.specs.declared.dots.Dot.{Dot as DotParts};
 ghost use Rattle.dy_preference.specs.Preferences.{homes_of, may_hold};
 ghost use Rattle.dy_core.specs.Worlds.{layout_of};
 ghost use Rattle.dy_book.specs.Books.{AreOf};
-ghost use Rattle.dy_node.specs.Answers.{MayAsk};
-ghost use Rattle.dy_node.specs.Nodes.{AreForHomes, AreForOthers};
-ghost use Rattle.dy_transport.specs.Snapshots.{snapshot_of};
-ghost use Rattle.dy_transport.specs.Asking.{IsBegun, IsSeenAt};
-ghost use Rattle.dy_transport.specs.Refusals.{IsOfBegin, IsOfNode, IsOfOffer, IsOfStep};
-ghost use Rattle.dy_transport.specs.Told.{Told, with_try, with_noted, with_ask, with_none};
-ghost use Rattle.dy_transport.specs.Told.{nothing_told, with_reply};
-ghost use Rattle.dy_transport.specs.Told.{Answers, AllAnswered, IsAwaited};
-ghost use Rattle.dy_transport.specs.Tellings.{IsAckTold};
-ghost use Rattle.dy_transport.specs.declared.tries.Try.TheVariants.{Begin, Look, Offer, Record};
-ghost use Rattle.dy_transport.specs.declared.tries.Try.TheVariants.{Settle};
-ghost use Rattle.dy_transport.specs.declared.transports.TheConstants.{SPARE_TRIES};
+ghost use Rattle.dy_node.specs.{Answers.{MayAsk}, Nodes.{AreForHomes, AreForOthers}};
+ghost use Rattle.dy_transport.specs.{
+  Snapshots.{snapshot_of},
+  Asking.{IsBegun, IsSeenAt},
+  Refusals.{IsOfBegin, IsOfNode, IsOfOffer, IsOfStep},
+  Told.{Told, with_try, with_noted, with_ask, with_none, nothing_told, with_reply, Answers},
+  Told.{AllAnswered, IsAwaited},
+  Tellings.{IsAckTold},
+  declared.tries.Try.TheVariants.{Begin, Look, Offer, Record, Settle},
+  declared.transports.TheConstants.{SPARE_TRIES},
+};
 
 use crate::locks::lock_soon;
 use crate::reaches::Reach;

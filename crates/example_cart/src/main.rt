@@ -1,14 +1,15 @@
 //! A shop: carts, logins and the states of devices, while nodes go down and come back.
 #![tactic(auto)]
 
-ghost use Rattle.std.specs.Prelude.{IfOk, List};
-ghost use Rattle.std.specs.List.{All, Contains};
+ghost use Rattle.std.specs.{Prelude.{IfOk, List}, List.{All, Contains}};
+ghost use Rattle.dy_cluster.specs.{
+  Ends.{IsClosed},
+  Guarantees.{GivesNothingDeleted, ReadsOwnWrites},
+  Stores.{AreCovering},
+};
 ghost use Rattle.dy_core.specs.declared.acks.Acked.{Acked};
 ghost use Rattle.dy_shares.specs.Shares.{SessionPart};
 ghost use Rattle.dy_book.specs.Audits.{ListsAck};
-ghost use Rattle.dy_cluster.specs.Ends.{IsClosed};
-ghost use Rattle.dy_cluster.specs.Guarantees.{GivesNothingDeleted, ReadsOwnWrites};
-ghost use Rattle.dy_cluster.specs.Stores.{AreCovering};
 
 mod carts;
 mod shoppers;
