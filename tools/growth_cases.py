@@ -20,9 +20,9 @@ RING = {"n": 3, "r": 2, "w": 2, "tokens": [["20"], ["60"], ["a0"], ["d0"], ["f0"
 THREE = {"n": 3, "r": 2, "w": 3, "tokens": [["20"], ["60"], ["a0"]]}
 ALL_READ = {"n": 3, "r": 3, "w": 1, "tokens": [["20"], ["60"], ["a0"]]}
 A, LONG = "a", "a key of more bytes than sixteen"
-# More keys of the same homes, as many as a node of a tree has.
-OTHERS = ("k3", "k7", "k8", "k11", "k12", "k14",
-          "k16", "k19", "k21", "k31", "k34")
+# More keys of the same homes. A node of a tree has room for eleven, and a hashed table for fourteen.
+OTHERS = ("k3", "k7", "k8", "k11", "k12", "k14", "k16",
+          "k19", "k21", "k31", "k34", "k42", "k43", "k45")
 
 
 def put(key, value, **more):
@@ -67,7 +67,10 @@ SCENES = {
     "put beside others": Scene(BESIDE, put(LONG, "z"), (get(LONG), *show(LONG))),
     "put behind all": Scene((*BESIDE, at("down", 0), put(LONG, "w"), put(LONG, "v"), at("up", 0)),
                             put(LONG, "z", context="n0:1,3-4 n1:2", session=9), (get(LONG),)),
-    "put of the twelfth key": Scene(tuple(put(it, "x") for it in OTHERS), put(A, "x"), (get(A),)),
+    "put of the twelfth key": Scene(tuple(put(it, "x") for it in OTHERS[:11]), put(A, "x"),
+                                    (get(A),)),
+    "put of the fifteenth key": Scene(tuple(put(it, "x") for it in OTHERS), put(A, "x"),
+                                      (get(A),)),
     "put with a stand-in": Scene((at("down", 1), put(LONG, "x")), put(LONG, "y"),
                                  (at("up", 1), at("handoff", 3), get(LONG))),
     "put that wants each home": Scene((), put(A, "x"), (get(A),), THREE),
