@@ -6,3 +6,4 @@ pub mod Reading
 pub mod Sinces
 pub mod Telling
 pub mod Releasing
+pub mod Lasting

@@ -14,10 +14,15 @@ mod options;
 mod plans;
 mod receipts;
 mod releases;
+mod row_refs;
 mod steps;
+mod vouched_rows;
+mod vouching;
 
 pub use audits::{AckedAt, Audit};
 pub use books::Book;
 pub use closes::CloseRefused;
 pub use histories::History;
 pub use options::{MAX_STEPS, MAX_VERSIONS, Options};
+pub use row_refs::RowRef;
+pub use vouched_rows::VouchedRow;
