@@ -110,7 +110,7 @@ SCENES = {
 PUTS, ASKED = ("put", "delete"), ("put", "delete", "get", "handoff")
 SIBLINGS, NODE, BOOK = "dy_siblings::rows::Row", "dy_node::nodes::Node", "dy_book::books::Book"
 CLUSTER, REACH = "dy_cluster::clusters::Cluster", "dy_transport::reaches::Reach"
-HOLDS = ("dy_node::holding::hold_row", "dy_node::answering::run", "dy_node::answering::answer")
+HOLDS = ("dy_node::holding::hold_lent", "dy_node::answering::run", "dy_node::answering::answer")
 # What may come:
 # told     the command tells E0, and all is as it was without it
 # answer   the node's answer is E0, and all is as if the node had been down for the command
@@ -127,7 +127,7 @@ CALLS = {
     "Row::put_beside": Call(f"{SIBLINGS}::put_beside", (), (*ASKED, "deliver"),
                             {"told", "answer", "well", "fewer", "some"}),
     "Node::begin": Call(f"{NODE}::begin", (f"{REACH}::begin_at",), PUTS, {"told"}),
-    "Node::store": Call(f"{NODE}::store", HOLDS, ASKED, {"answer", "well", "fewer"}),
+    "Node::store": Call(f"{NODE}::store_lent", HOLDS, ASKED, {"answer", "well", "fewer"}),
     "Node::defer": Call(f"{NODE}::defer", (f"{HOLDS[2]} but not {HOLDS[1]}",), PUTS, {"answer"}),
     "Node::fetch": Call(f"{NODE}::fetch", (f"{REACH}::look_at",), ("get",), {"told", "answer"}),
     "Node::offer": Call(f"{NODE}::offer", (f"{REACH}::offer_at",), ("handoff",), {"told"}),

@@ -14,12 +14,11 @@ ghost use Rattle.dy_coord.specs.{
 };
 
 use dy_dots::Dot;
-use dy_node::Answer;
+use dy_node::{Answer, VouchedRow};
 use dy_preference::{Assign, Preference};
 use dy_quorum::Tally;
 use dy_reads::{Request, read_next};
 use dy_shares::{Naming, Receipt};
-use dy_siblings::Row;
 use dy_transport::{AnswerVec, Transport};
 use std::sync::Wait;
 
@@ -66,7 +65,7 @@ fn receipt_in<J: Naming>(answer: Answer<J>, dot: Dot) -> Option<Receipt<J>>
 pub(crate) fn read_put<J: Naming, T: Transport<J>, R: Wait>(
     rt: &R,
     transport: &mut T,
-    row: &Row,
+    row: &VouchedRow<J>,
     dot: Dot,
     assign: &mut Assign<'_>,
     tally: &mut Tally<J>,

@@ -18,7 +18,7 @@ ghost use Rattle.dy_handoff.specs.{
 
 use crate::counts::Pass;
 use dy_dots::{Fault, NodeId};
-use dy_node::{Answer, Ask, RowFor};
+use dy_node::{Answer, Ask, RowFor, RowRef};
 use dy_shares::{Naming, Receipt};
 use dy_transport::Transport;
 use std::sync::Wait;
@@ -107,10 +107,8 @@ fn hand_over<J: Naming, T: Transport<J>, R: Wait>(
     ensures room { (T.told transport.new).room ≡ (T.told transport.old).room }
     ensures offers { result.offers ≡ done.offers + 1 }
 {
-    let ask = Ask::Store {
-        home: hint.0,
-        row: &hint.1,
-    };
+    let row = RowRef::new(&hint.1);
+    let ask = Ask::Store { home: hint.0, row };
     transport.ask(rt, hint.0, &ask);
     let offered = Pass {
         offers: done.offers + 1,

@@ -17,7 +17,7 @@ module _ {J : Type 0} where
   may_be_carried ring n to (ask.Store home row) (Store h copy) is may =
       let P : ℕ → Siblings → Type 0 =
       λ k r. may_hold (homes_of ring n r.key) to k ≡ true in
-      subst (P h) is.1 (subst (λ k. P k row.now) is.0 may)
+      subst (P h) is.1 (subst (λ k. P k row) is.0 may)
   may_be_carried ring n to (ask.Store home row) (Fetch h key since) is may = absurd is.1
   may_be_carried ring n to (ask.Fetch home key since) (Store h copy) is may = absurd is.1
   may_be_carried ring n to (ask.Fetch home key since) (Fetch h copy same) is may = refl

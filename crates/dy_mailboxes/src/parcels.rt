@@ -4,9 +4,9 @@ ghost use Rattle.dy_mailboxes.specs.Parcels.{IsParcelOf, may_carry};
 
 use crate::replies::ReplyTo;
 use dy_dots::{Fault, NodeId};
-use dy_node::{Answer, Ask};
+use dy_node::{Answer, Ask, VouchedRow};
 use dy_shares::{Naming, Since};
-use dy_siblings::{Key, Row};
+use dy_siblings::Key;
 use std::alloc::Global;
 
 /// What is asked, on its way: a copy of its own.
@@ -15,7 +15,7 @@ pub enum Parcel<J: Naming> {
     /// To hold the row for the home.
     Store {
         home: NodeId,
-        row: Row,
+        row: VouchedRow<J>,
     },
     /// What is kept of the key for the home.
     Fetch {
@@ -34,7 +34,7 @@ impl<J: Naming> Parcel<J> {
         match ask {
             Ask::Store { home, row } => Ok(Parcel::Store {
                 home: *home,
-                row: row.try_clone(alloc)?,
+                row: row.copied(alloc)?,
             }),
             Ask::Fetch { home, key, since } => Ok(Parcel::Fetch {
                 home: *home,
@@ -51,7 +51,10 @@ impl<J: Naming> Parcel<J> {
             MayAsk J.ring J.n to result }
     {
         match self {
-            Parcel::Store { home, row } => Ask::Store { home: *home, row },
+            Parcel::Store { home, row } => Ask::Store {
+                home: *home,
+                row: row.lend(),
+            },
             Parcel::Fetch { home, key, since } => Ask::Fetch {
                 home: *home,
                 key,

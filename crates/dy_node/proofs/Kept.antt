@@ -24,6 +24,7 @@ use Rattle.dy_core.specs.Logs.{world_from, IsLegal, IsLegalFrom}
 use Rattle.dy_core.specs.declared.steps.Step.{Step}
 use Rattle.dy_siblings.proofs.Members.{in_head}
 use Rattle.dy_siblings.proofs.Members.{not_in_nil}
+use Rattle.dy_core.proofs.Keeping.{all_from}
 use Rattle.dy_core.proofs.Ordered.{AreOf, same_version}
 use Rattle.dy_core.proofs.Standing.{stands_from}
 use Rattle.dy_core.proofs.Kept.{IsSound, step_sound}
@@ -141,6 +142,17 @@ pub state_holds : (layout : Layout) (b : BookParts) (p : NodePart) (s : Stored) 
 state_holds layout b p s agreed is home key =
     subst (λ n. IsSameRow (versions_at s.rooms home key) (row_at (world_of b) n home key))
     is.node_is ((matches_world (steps_of b.log) p agreed.belongs s is).rows_are home key)
+
+-- what a node keeps was issued
+pub kept_made : (layout : Layout) (b : BookParts) (p : NodePart) (s : Stored) →
+    IsAgreed layout b p → Shows p s → (home : ℕ) (key : List ℕ) →
+    AreMadeOf (world_of b) key (versions_at s.rooms home key)
+kept_made layout b p s agreed is home key =
+    let kept = versions_at s.rooms home key in
+    let of = made_at (world_of b) p.node home key kept
+    (state_holds layout b p s agreed is home key) in
+    all_from (λ v. (v.key ≡ key) × Contains (world_of b).versions v) kept
+    (λ v h. ((of v h).1, (of v h).0))
 
 -- what a node keeps agrees with a row of versions that were issued
 pub kept_agrees : (layout : Layout) (b : BookParts) (p : NodePart) (s : Stored) →

@@ -43,18 +43,18 @@ module _ {J : Type 0} where
   -- the node may hold what it is asked to
   abbrev pub MayAsk : Tokens → ℕ → ℕ → Ask J → Type 0
   MayAsk ring n node (Store home row) =
-      IsTrue (may_hold (homes_of ring n row.now.key) node home)
+      IsTrue (may_hold (homes_of ring n row.key) node home)
   MayAsk ring n node (Fetch home key since) = Unit {0}
 
   -- the answer is that of the node's store or fetch
   abbrev pub IsDone : Ask J → NodeState → BookParts → NodeState → BookParts → Answer J → Type 0
   IsDone (Store home row) old b new c (Stored receipts) =
-      IsStored old b new c home row.now receipts.items
+      IsStored old b new c home row receipts.items
   IsDone (Store home row) old b new c (Rows seen) = ⊥
   IsDone (Store home row) old b new c Down = ⊥
   IsDone (Store home row) old b new c NoAnswer = ⊥
   IsDone (Store home row) old b new c (Refused f) =
-      (new ≡ old) × (c ≡ b) × StoreRefused b old row.now (Some f)
+      (new ≡ old) × (c ≡ b) × StoreRefused b old row (Some f)
   IsDone (Fetch home key since) old b new c (Stored receipts) = ⊥
   IsDone (Fetch home key since) old b new c (Rows seen) =
       IsFetched old b new c home key.now since.now seen
@@ -69,7 +69,7 @@ module _ {J : Type 0} where
   IsPutOff ask old new (Rows seen) = ⊥
   IsPutOff ask old new Down = ⊥
   IsPutOff (Store home row) old new NoAnswer =
-      new ≡ with_message old (record { home = home; row = row.now })
+      new ≡ with_message old (record { home = home; row = row })
   IsPutOff (Fetch home key since) old new NoAnswer = new ≡ old
   IsPutOff (Store home row) old new (Refused f) = (f ≡ OutOfMemory) × (new ≡ old)
   IsPutOff (Fetch home key since) old new (Refused f) = ⊥

@@ -15,7 +15,7 @@ fn run<J: Naming>(node: &mut Node<J>, book: &mut Book<J>, ask: &Ask<'_, J>) -> A
     ensures number { node.new.part.node ≡ node.old.part.node }
 {
     match ask {
-        Ask::Store { home, row } => match node.store(book, *home, row) {
+        Ask::Store { home, row } => match node.store_lent(book, *home, row) {
             Ok(receipts) => Answer::Stored(receipts),
             Err(fault) => Answer::Refused(fault),
         },
@@ -32,7 +32,7 @@ fn delay<J: Naming>(node: &mut Node<J>, ask: &Ask<'_, J>) -> Answer<J>
     ensures { IsPutOff ask.now node.old node.new result }
 {
     match ask {
-        Ask::Store { home, row } => match node.defer(*home, row) {
+        Ask::Store { home, row } => match node.defer(*home, row.row()) {
             Ok(()) => Answer::NoAnswer,
             Err(fault) => Answer::Refused(fault),
         },

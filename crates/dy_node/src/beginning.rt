@@ -22,7 +22,7 @@ ghost use Rattle.dy_node.specs.{
 use crate::begun::Begun;
 use crate::nodes::Node;
 use crate::stores::Stores;
-use dy_book::Book;
+use dy_book::{Book, VouchedRow};
 use dy_dots::{Context, Fault, NodeId};
 use dy_shares::{Naming, NodeShare, Receipt};
 use dy_siblings::{Key, Row, Value, Version};
@@ -143,6 +143,24 @@ fn issue_row<J: Naming>(
     }
 }
 
+// The row that is kept for the home, with the book's word for it.
+fn vouch_kept<J: Naming>(
+    stores: &Stores,
+    share: &mut NodeShare<J>,
+    book: &mut Book<J>,
+    home: NodeId,
+    row: Row,
+) -> VouchedRow<J>
+    requires shown { Shows share.old stores.now }
+    requires kept { row.versions ≡ versions_at stores.now.rooms home row.key }
+    ensures row { result ≡ row }
+    ensures share { share.new ≡ share.old }
+    ensures book { book.new ≡ book.old }
+{
+    book.agree(share);
+    book.vouch(row)
+}
+
 impl<J: Naming> Node<J> {
     /// Makes a version of the key, and holds it alone for the home: in the log, the share and the
     /// store, or in none. Its dot is the node's next of the key. Its past is the union of the
@@ -206,9 +224,10 @@ impl<J: Naming> Node<J> {
             Ok(issued) => issued,
             Err(_fault) => return Err(Fault::OutOfMemory),
         };
+        let vouched = vouch_kept(&self.stores, &mut self.share, book, home, row);
         Ok(Begun {
             dot: version.dot(),
-            row,
+            row: vouched,
             receipt,
         })
     }

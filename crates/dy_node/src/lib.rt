@@ -18,6 +18,7 @@ mod stores;
 pub use answering::answer;
 pub use asks::{Answer, Ask};
 pub use begun::Begun;
+pub use dy_book::{RowRef, VouchedRow};
 pub use dy_hint_store::RowRefFor;
 pub use dy_modes::Mode;
 pub use messages::Message;

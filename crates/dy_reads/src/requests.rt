@@ -4,14 +4,14 @@ ghost use Rattle.dy_transport.specs.Asking.{home_of, what_of};
 ghost use Rattle.dy_reads.specs.Rules.{MayRequest, is_served, requested};
 
 use dy_dots::NodeId;
-use dy_node::{Answer, Ask};
+use dy_node::{Answer, Ask, VouchedRow};
 use dy_shares::{Naming, Since};
-use dy_siblings::{Key, Row};
+use dy_siblings::Key;
 
 /// What one call asks of every node: to hold a row, or what it keeps of a key.
 #[derive(Drop)]
 pub enum Request<'a, J: Naming> {
-    Store(&'a Row),
+    Store(&'a VouchedRow<J>),
     Fetch { key: &'a Key, since: &'a Since<J> },
 }
 
@@ -24,7 +24,10 @@ impl<'a, J: Naming> Request<'a, J> {
             MayRequest J.ring J.n self.now node home → MayAsk J.ring J.n node result }
     {
         match self {
-            Request::Store(row) => Ask::Store { home, row: *row },
+            Request::Store(row) => Ask::Store {
+                home,
+                row: row.lend(),
+            },
             Request::Fetch { key, since } => Ask::Fetch {
                 home,
                 key: *key,

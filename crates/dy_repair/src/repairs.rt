@@ -14,7 +14,7 @@ ghost use Rattle.dy_repair.specs.{
 
 use crate::staleness::stale;
 use dy_dots::{Fault, NodeId};
-use dy_node::Ask;
+use dy_node::{Ask, RowRef};
 use dy_preference::Preference;
 use dy_shares::{Naming, Seen};
 use dy_siblings::Row;
@@ -69,7 +69,8 @@ fn ask_each<J: Naming, T: Transport<J>, R: Wait>(
 {
     for i in 0..homes.len() {
         let home = homes[i];
-        transport.ask(rt, home, &Ask::Store { home, row });
+        let lent = RowRef::new(row);
+        transport.ask(rt, home, &Ask::Store { home, row: lent });
     }
 }
 

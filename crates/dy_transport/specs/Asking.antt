@@ -31,7 +31,7 @@ pub record IsSeenAt (node home : ℕ) (key : List ℕ) (since : ℕ) (seen : See
 module _ {J : Type 0} where
   -- what is asked of a node
   abbrev pub what_of : Ask J → What
-  what_of (ask.Store home row) = what.Store (snapshot_of row.now)
+  what_of (ask.Store home row) = what.Store (snapshot_of row)
   what_of (ask.Fetch home key since) = what.Fetch (snapshot_of key.now) since.now
 
   -- the home that an ask is for

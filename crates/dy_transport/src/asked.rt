@@ -44,7 +44,7 @@ impl Asked {
             Ask::Store { home, row } => Asked {
                 to,
                 home: *home,
-                what: What::Store(show(*row)),
+                what: What::Store(show(row.row())),
                 read,
             },
             Ask::Fetch { home, key, since } => Asked {

@@ -6,8 +6,8 @@ use Rattle.dy_node.proofs.answering.run.Goals as goal
 -- a store that is refused changes nothing
 pub returns-in-Err-clause-done : goal.returns-in-Err-clause-done
 returns-in-Err-clause-done g c =
-    subst (λ a. IsDone {J = g.row.J.Denot} a c.args.node.now c.args.book.now c.store.new.self
-    c.store.new.book (Refused c.in-Err.fault)) (sym c.in-Store.is)
+    subst (λ a. IsDone {J = g.row.J.Denot} a c.args.node.now c.args.book.now c.store_lent.new.self
+    c.store_lent.new.book (Refused c.in-Err.fault)) (sym c.in-Store.is)
     (c.in-Err.ensures.err, c.in-Err.ensures.book, c.in-Err.ensures.refused)
 
 -- the row is fetched

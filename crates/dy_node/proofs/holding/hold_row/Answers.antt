@@ -1,80 +1,40 @@
--- What is kept agrees with a row that was checked, and what was added matches the world after the
--- hold; what the book refused is taken back.
-use Rattle.std.proofs.Common.{◌≡◌, sym, ap, ◌∙◌, subst, None, Some, inl, inr, ⊎_elim}
-use Rattle.dy_core.specs.Worlds.{layout_of}
-use Rattle.dy_node.specs.Stored.{Shows}
+-- The row is lent, and all is as of what is lent.
+use Rattle.std.proofs.Common.{◌≡◌, ◌∷◌, [], IsTrue, sym, subst}
+use Rattle.std.specs.Result.{IfOk, OnOk, result_err}
+use Rattle.dy_siblings.specs.Siblings.{Siblings}
+use Rattle.dy_preference.specs.Preferences.{homes_of, may_hold}
+use Rattle.dy_core.specs.Steps.{place_for}
+use Rattle.dy_core.specs.declared.steps.Step.TheVariants.{Hold}
+use Rattle.dy_shares.specs.Shares.{with_steps}
+use Rattle.dy_book.specs.Books.{receipts_of, with_untold}
 use Rattle.dy_node.specs.Refusals.{HoldRefused}
-use Rattle.dy_node.specs.inside.Placing.{taken_back}
-use Rattle.dy_dots.specs.declared.faults.Fault.TheVariants.{OutOfMemory}
-use Rattle.dy_node.proofs.Causes.{hold_by, hold_done, hold_memory}
-use Rattle.dy_node.proofs.Kept.{agreed_on, hold_shows, kept_agrees}
 use Rattle.dy_node.proofs.holding.hold_row.Goals as goal
 
--- the row was checked
-pub add-requires : goal.add-requires
-add-requires g c =
-    let layout = layout_of g.J.Naming.ring g.J.Naming.n in
-    let same = c.agree.ensures.book in
-    let share = c.agree.ensures.share in
-    kept_agrees layout c.agree.new.self c.agree.new.share c.args.stores.now
-    (agreed_on layout c.args.book.now c.agree.new.self c.args.share.now c.agree.new.share same share
-    (record { belongs = c.agree.ensures.belongs; legal = c.agree.ensures.legal }))
-    (subst (λ q. Shows q c.args.stores.now) (sym share) c.requires.shown)
-    c.args.home c.args.row.now c.in-Ok.ensures.ok.0
+pub hold_lent-requires-clause-may_hold : goal.hold_lent-requires-clause-may_hold
+hold_lent-requires-clause-may_hold g c =
+    subst (λ (r : Siblings). IsTrue
+    (may_hold (homes_of g.J.Naming.ring g.J.Naming.n r.key) c.args.share.now.node c.args.home))
+    (sym c.new-lent.ensures) c.requires.may_hold
 
--- what was added is held
-pub returns-in-Ok-hold_issued-clause-shown : goal.returns-in-Ok-hold_issued-clause-shown
-returns-in-Ok-hold_issued-clause-shown g c =
-    let layout = layout_of g.J.Naming.ring g.J.Naming.n in
-    let same = c.agree.ensures.book in
-    let share = c.agree.ensures.share in
-    subst (λ q. Shows q c.add.new.self) (sym c.agree-in-Ok-hold_issued.ensures.share)
-    (hold_shows layout c.agree.new.self c.hold_issued.new.self c.agree.new.share c.hold_issued.new.share
-    c.args.stores.now c.add.new.self c.args.home c.args.row.now c.in-Ok-add.placed
-    (agreed_on layout c.args.book.now c.agree.new.self c.args.share.now c.agree.new.share same share
-    (record { belongs = c.agree.ensures.belongs; legal = c.agree.ensures.legal }))
-    (record {
-      belongs = c.agree-in-Ok-hold_issued.ensures.belongs;
-      legal = c.agree-in-Ok-hold_issued.ensures.legal;
-    })
-    (subst (λ q. Shows q c.args.stores.now) (sym share) c.requires.shown)
-    c.in-Ok-hold_issued.ensures.log c.in-Ok-hold_issued.ensures.share c.in-Ok-add.ensures.counters
-    c.in-Ok-add.ensures.added)
+pub returns-clause-log : goal.returns-clause-log
+returns-clause-log g c =
+    subst (λ (r : Siblings). OnOk c.hold_lent.result (c.hold_lent.new.book
+    ≡ with_untold c.args.book.now (Hold (place_for c.args.share.now.node c.args.home) r ∷ [])))
+    c.new-lent.ensures c.hold_lent.ensures.log
 
--- what was put is taken back
-pub returns-in-Err-hold_issued-clause-shown : goal.returns-in-Err-hold_issued-clause-shown
-returns-in-Err-hold_issued-clause-shown g c =
-    let rooms = ap (λ k. taken_back c.add.new.self.rooms c.args.home k c.in-Ok-add.placed) c.key.ensures
-    ∙ c.in-Ok-add.ensures.added.back in
-    let back : c.take_back.new.self ≡ c.args.stores.now =
-    c.take_back.ensures ∙ (λ i. record { rooms = rooms i; counters = c.in-Ok-add.ensures.counters i })
-    in
-    subst (Shows c.hold_issued.new.share) (sym back)
-    (subst (λ q. Shows q c.args.stores.now)
-    (sym (c.in-Err-hold_issued.ensures.err.1 ∙ c.agree.ensures.share)) c.requires.shown)
+pub returns-clause-share : goal.returns-clause-share
+returns-clause-share g c =
+    subst (λ (r : Siblings). OnOk c.hold_lent.result (c.hold_lent.new.share
+    ≡ with_steps c.args.share.now (Hold (place_for c.args.share.now.node c.args.home) r ∷ [])))
+    c.new-lent.ensures c.hold_lent.ensures.share
 
--- the check refused it
-pub returns-in-Err-clause-refused : goal.returns-in-Err-clause-refused
-returns-in-Err-clause-refused g c =
-    subst (λ b. HoldRefused b c.args.row.now (Some c.in-Err.fault)) c.agree.ensures.book
-    (hold_by c.agree.new.self c.args.row.now c.in-Err.fault c.in-Err.ensures.not_issued
-    c.in-Err.ensures.steps_full (⊎_elim (λ named. inl named) (λ full. inr (inl full)) c.in-Err.ensures.only))
+pub returns-clause-receipts : goal.returns-clause-receipts
+returns-clause-receipts g c =
+    subst (λ (r : Siblings). IfOk c.hold_lent.result (λ receipts. receipts.items
+    ≡ receipts_of r.versions c.args.share.now.node c.args.home))
+    c.new-lent.ensures c.hold_lent.ensures.receipts
 
--- the node lacked memory, or the book did
-pub returns-in-Err-add-clause-refused : goal.returns-in-Err-add-clause-refused
-returns-in-Err-add-clause-refused g c =
-    subst (λ b. HoldRefused b c.args.row.now (Some OutOfMemory)) c.agree.ensures.book
-    (hold_memory c.agree.new.self c.args.row.now c.in-Ok.ensures.ok.0 c.in-Ok.ensures.ok.1)
-
-pub returns-in-Err-hold_issued-clause-refused : goal.returns-in-Err-hold_issued-clause-refused
-returns-in-Err-hold_issued-clause-refused g c =
-    subst (λ b. HoldRefused b c.args.row.now (Some c.in-Err-hold_issued.fault)) c.agree.ensures.book
-    (subst (λ f. HoldRefused c.agree.new.self c.args.row.now (Some f))
-    (sym c.in-Err-hold_issued.ensures.memory)
-    (hold_memory c.agree.new.self c.args.row.now c.in-Ok.ensures.ok.0 c.in-Ok.ensures.ok.1))
-
--- the row is held
-pub returns-in-Ok-hold_issued-clause-refused : goal.returns-in-Ok-hold_issued-clause-refused
-returns-in-Ok-hold_issued-clause-refused g c =
-    subst (λ b. HoldRefused b c.args.row.now None) c.agree.ensures.book
-    (hold_done c.agree.new.self c.args.row.now c.in-Ok.ensures.ok.0 c.in-Ok.ensures.ok.1)
+pub returns-clause-refused : goal.returns-clause-refused
+returns-clause-refused g c =
+    subst (λ (r : Siblings). HoldRefused c.args.book.now r (result_err c.hold_lent.result))
+    c.new-lent.ensures c.hold_lent.ensures.refused

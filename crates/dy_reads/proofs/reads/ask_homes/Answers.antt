@@ -11,7 +11,7 @@ use Rattle.dy_transport.specs.declared.asked.What.{What}
 use Rattle.dy_reads.specs.Lists.{asked_homes}
 use Rattle.dy_reads.specs.Rules.{MayRequest, ask_of, home_asks, requested}
 use Rattle.dy_reads.proofs.reads.ask_homes.Goals as goal
-use Rattle.dy_reads.proofs.reads.ask_homes.Goals.{then-ne, else-ne}
+use Rattle.dy_reads.proofs.reads.ask_homes.Goals.{then-ne+in-Fetch-1, then-ne+in-Store-1, else-ne}
 
 homes_more : (held : ℕ) (homes : List ℕ) (i home : ℕ) → i < length homes →
     home ≡ get_or homes i home → asked_homes held (take (i + 1) homes)
@@ -70,7 +70,21 @@ loop-i-preserved g c =
     let few = inv.count in
     let before : List Asked = home_asks what held (take c.loop-i.i homes) in
     elim c.if-ne.branch [
-      | then-ne w ↦ rw (w.transport-is, w.ask.ensures) (record {
+      | then-ne+in-Fetch-1 w ↦ rw (w.transport-is, w.ask.ensures) (record {
+        asks = rw (
+          w.for_home.ensures.home,
+          w.for_home.ensures.what,
+          inv.replies,
+          inv.asks,
+          asks_more what held homes c.loop-i.i home c.loop-i-test.true c.index-homes-i.is
+              (sym c.ne.ensures ∙ w.if-ne.true),
+        ) (append_assoc start before _);
+        count = omega (arith, length-append {A = Asked});
+        replies = inv.replies;
+        tries = inv.tries;
+        room = inv.room;
+      })
+      | then-ne+in-Store-1 w ↦ rw (w.transport-is, w.ask.ensures) (record {
         asks = rw (
           w.for_home.ensures.home,
           w.for_home.ensures.what,

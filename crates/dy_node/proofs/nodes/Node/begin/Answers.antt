@@ -1,7 +1,7 @@
 -- What is planned is of the book that was lent, and past the plan want of memory is all that can
 -- be.
 use Rattle.std.proofs.Common.{◌≡◌, ◌∷◌, [], None, Some, sym, ap, ◌∙◌, subst}
-use Rattle.dy_siblings.specs.Siblings.{IsSameRow, merge}
+use Rattle.dy_siblings.specs.Siblings.{Siblings, IsSameRow, merge}
 use Rattle.dy_siblings.specs.declared.versions.Version.{Version}
 use Rattle.dy_core.specs.Steps.{version_made}
 use Rattle.dy_shares.specs.Shares.{NodePart}
@@ -45,6 +45,13 @@ returns-clause-refused g c =
     (sym (ap (λ (n : NodeState). n.is_up) c.self.view_is) ∙ c.if-not-self.false)
     c.in-Ok.ensures.refused
 
+-- the row is the one that is kept
+pub vouch_kept-vouched-requires-clause-kept : goal.vouch_kept-vouched-requires-clause-kept
+vouch_kept-vouched-requires-clause-kept g c =
+    c.in-Ok-issue_row.ensures.kept
+    ∙ ap (λ k. versions_at c.issue_row.new.stores.rooms c.args.home k)
+    (sym c.in-Ok-issue_row.ensures.key)
+
 -- the row is that of the version that the node would make
 pub returns-clause-row : goal.returns-clause-row
 returns-clause-row g c =
@@ -61,8 +68,11 @@ returns-clause-row g c =
     c.args.value) c.agree.ensures.share
     ∙ ap (λ (n : NodeState). version_made (world_of c.args.book.now) n.part.node key
     c.args.context.now c.args.value) c.self.view_is in
-    subst (λ (n : NodeState). IsSameRow row.versions
+    subst (λ (n : NodeState). IsSameRow c.vouch_kept-vouched.result.versions
     (merge (versions_at n.rooms home key) (begun ∷ []))) c.self.view_is
+    (subst (λ (r : Siblings). IsSameRow r.versions
+    (merge (versions_at c.self.inside.stores.rooms home key) (begun ∷ [])))
+    (sym c.vouch_kept-vouched.ensures.row)
     (subst (λ (v : Version). IsSameRow row.versions
     (merge (versions_at c.self.inside.stores.rooms home v.key) (v ∷ []))) version_is
-    c.in-Ok-issue_row.ensures.whole)
+    c.in-Ok-issue_row.ensures.whole))
