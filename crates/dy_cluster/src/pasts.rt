@@ -8,13 +8,13 @@ use dy_core::Holding;
 use dy_dots::{Context, Dot, Fault};
 use dy_siblings::{Key, Row};
 use std::alloc::Global;
-use std::collections::BTreeMap;
+use std::collections::HashMap;
 use std::marker::Model;
 
 // Pasts by key.
 #[derive(Drop)]
 pub(crate) struct Pasts {
-    keys: BTreeMap<Key, Context>,
+    keys: HashMap<Key, Context>,
 }
 
 impl Model for Pasts {
@@ -34,7 +34,7 @@ impl Pasts {
         ensures { result ≡ maps.empty }
     {
         Pasts {
-            keys: BTreeMap::new(alloc),
+            keys: HashMap::new(alloc),
         }
     }
 

@@ -3,7 +3,7 @@ use Rattle.std.proofs.Common.{unwrap_or, refl, sym, ap, ◌∙◌, IsSome, subst
 use Rattle.std.specs.Option.{option_copied_mut}
 use Rattle.std.specs.FinMap as maps
 use Rattle.std.specs.FinSet as set
-use Rattle.dy_node_store.proofs.Maps.{found, inserted}
+use Rattle.dy_node_store.proofs.Hashed.{found, inserted}
 use Rattle.dy_cluster.proofs.pasts.Pasts.add.Goals as goal
 
 pub returns-in_ok-union-in-Some-clause-ok : goal.returns-in_ok-union-in-Some-clause-ok

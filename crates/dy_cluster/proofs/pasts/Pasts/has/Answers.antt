@@ -2,7 +2,7 @@ use Rattle.std.proofs.Common.{unwrap_or, refl, sym, ap, ◌∙◌}
 use Rattle.std.specs.Option.{option_copied}
 use Rattle.std.specs.FinSet as set
 use Rattle.dy_dots.specs.Dots.{dot_cmp}
-use Rattle.dy_node_store.proofs.Maps.{found}
+use Rattle.dy_node_store.proofs.Hashed.{found}
 use Rattle.dy_cluster.proofs.pasts.Pasts.has.Goals as goal
 
 pub returns-in-Some : goal.returns-in-Some
