@@ -1,6 +1,7 @@
 //! The laws of every legal log. Each is a function that does nothing, and its contract is the law.
 ghost use Rattle.std.specs.{
-  Prelude.{◌≡◌, ℕ, ◌+◌, ◌<◌, ◌≤◌, ◌↔◌, ◌&&◌, IsTrue, List, ◌++◌, take, length, map, nat_eq, false, Option},
+  Prelude.{◌≡◌, ℕ, ◌+◌, ◌<◌, ◌≤◌, ◌↔◌, ◌&&◌, IsTrue, List, ◌++◌, take, length, map, nat_eq, false},
+  Prelude.{Option},
   List.{All, Contains, IsDistinct, filter},
 };
 ghost use Rattle.std.specs.FinSet as set;
@@ -16,7 +17,8 @@ ghost use Rattle.dy_core.specs.{
   Worlds.{Layout, layout_of, IsSettled, AreMadeOf, is_issued, row_at},
   Covers.{CoversAt, CoverThemselves, HasCover, AcksAreCovered, ReceiptHolds},
   Steps.{IsAllowed, IsKnown, past_of, same_place, world_after_step, IsReleaseAt},
-  Logs.{Known, world_after, IsLegal, Answer, MatchesLog, AreOfHomes, AnswerAgain, IsAnswer, rows_of},
+  Logs.{Known, world_after, IsLegal, Answer, MatchesLog, AreOfHomes, AnswerAgain, IsAnswer},
+  Logs.{rows_of},
   declared.places.Place.{Place},
   declared.steps.Step.{Step},
   declared.steps.Step.TheVariants.{Hold, Issue, Release},

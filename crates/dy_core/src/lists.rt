@@ -1,5 +1,6 @@
 ghost use Rattle.std.specs.{
-  Prelude.{◌≡◌, ◌≢◌, ◌≤◌, ◌<◌, ◌++◌, length, take, drop, slice_index_or, vec_len, vec_capacity, OnOk, OnErr, IsOkUnless},
+  Prelude.{◌≡◌, ◌≢◌, ◌≤◌, ◌<◌, ◌++◌, length, take, drop, slice_index_or, vec_len, vec_capacity},
+  Prelude.{OnOk, OnErr, IsOkUnless},
   declared.cmp.Ordering.{Ordering},
 };
 ghost use Rattle.dy_core.specs.Orders.{put};

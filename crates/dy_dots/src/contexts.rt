@@ -6,7 +6,8 @@ ghost use Rattle.std.specs.FinSet as set;
 ghost use Rattle.dy_dots.specs.{
   Dots.{DotSet, dot_set_code, AreDots},
   Runs.{AreKept, AreRunsOf, set_of},
-  Spelling.{HasText, IsFound, IsRefused, OneSet, OneSpelling, ReadsBack, Spells, SpellingIsText, context_text},
+  Spelling.{HasText, IsFound, IsRefused, OneSet, OneSpelling, ReadsBack, Spells, SpellingIsText},
+  Spelling.{context_text},
 };
 
 use crate::dots::Dot;

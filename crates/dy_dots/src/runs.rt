@@ -4,7 +4,8 @@ ghost use Rattle.dy_dots.specs.{
   Dots.{IsDot},
   declared.dots.Dot.{Dot},
   Runs.{AreApart, AreKept, StartsFrom, in_run, in_runs, single},
-  inside.Kinds.{joined, covers_run, IsBelow, IsReached, IsNextRun, AreBelow, IsPlace, HaveAllOf, HaveBoth, Added, count_of},
+  inside.Kinds.{joined, covers_run, IsBelow, IsReached, IsNextRun, AreBelow, IsPlace, HaveAllOf},
+  inside.Kinds.{HaveBoth, Added, count_of},
   Spelling.{run_text},
   inside.Reading.{run_to},
 };

@@ -1,5 +1,6 @@
 ghost use Rattle.std.specs.{
-  Prelude.{◌≡◌, ◌<◌, ◌-◌, ◌^◌, ◌++◌, [], None, Some, length, map, min, IsSome, IfSome, IfOk, OnErr, OnOk, IsOk, IsOkUnless},
+  Prelude.{◌≡◌, ◌<◌, ◌-◌, ◌^◌, ◌++◌, [], None, Some, length, map, min, IsSome, IfSome, IfOk, OnErr},
+  Prelude.{OnOk, IsOk, IsOkUnless},
   Option.{option_copied},
   List.{All},
 };

@@ -1,6 +1,7 @@
 // What is held of one key, place by place.
 ghost use Rattle.std.specs.{
-  Prelude.{◌≡◌, ◌<◌, ◌++◌, map, length, slice_index_or, false, true, [], vec_len, vec_capacity, IfOk, OnOk, OnErr, IfSome, IfNone, IsOkUnless, MatchOption},
+  Prelude.{◌≡◌, ◌<◌, ◌++◌, map, length, slice_index_or, false, true, [], vec_len, vec_capacity},
+  Prelude.{IfOk, OnOk, OnErr, IfSome, IfNone, IsOkUnless, MatchOption},
   List.{list_any},
 };
 ghost use Rattle.dy_siblings.specs.{

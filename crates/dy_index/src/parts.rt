@@ -1,6 +1,7 @@
 // What the book knows of one key.
 ghost use Rattle.std.specs.{
-  Prelude.{List, ◌≡◌, ◌<◌, ◌-◌, ◌++◌, ◌∷◌, ◌≢◌, ℕ, length, [], None, Some, OnOk, OnErr, IsOkUnless, slice_get, ◌&&◌, not},
+  Prelude.{List, ◌≡◌, ◌<◌, ◌-◌, ◌++◌, ◌∷◌, ◌≢◌, ℕ, length, [], None, Some, OnOk, OnErr, IsOkUnless},
+  Prelude.{slice_get, ◌&&◌, not},
   List.{list_any},
   Option.{option_copied},
 };

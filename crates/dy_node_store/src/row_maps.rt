@@ -1,5 +1,6 @@
 ghost use Rattle.std.specs.{
-  Prelude.{◌≡◌, ◌≢◌, ◌<◌, ◌++◌, [], None, Some, length, map, IsSome, IfSome, IfOk, OnOk, OnErr, IsOk, IsOkUnless},
+  Prelude.{◌≡◌, ◌≢◌, ◌<◌, ◌++◌, [], None, Some, length, map, IsSome, IfSome, IfOk, OnOk, OnErr},
+  Prelude.{IsOk, IsOkUnless},
   Cmp.Lexicographic.{slice_cmp},
   Option.{option_copied},
   Ordering.{nat_cmp},

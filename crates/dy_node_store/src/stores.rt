@@ -1,5 +1,6 @@
 ghost use Rattle.std.specs.{
-  Prelude.{◌≡◌, ◌<◌, ◌≤◌, ◌+◌, ◌++◌, ℕ, List, [], None, Some, length, map, IsSome, IfSome, IfOk, IfErr, OnOk, OnErr, IsOk, IsOkUnless},
+  Prelude.{◌≡◌, ◌<◌, ◌≤◌, ◌+◌, ◌++◌, ℕ, List, [], None, Some, length, map, IsSome, IfSome, IfOk},
+  Prelude.{IfErr, OnOk, OnErr, IsOk, IsOkUnless},
   Option.{option_copied},
   Result.{OkIff},
   List.{All},

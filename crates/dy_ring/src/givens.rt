@@ -1,5 +1,6 @@
 ghost use Rattle.std.specs.{
-  Prelude.{◌≡◌, ◌≤◌, ◌<◌, ◌++◌, ◌^◌, ℕ, true, false, length, map, IfOk, OnOk, IsOkUnless, MatchOption},
+  Prelude.{◌≡◌, ◌≤◌, ◌<◌, ◌++◌, ◌^◌, ℕ, true, false, length, map, IfOk, OnOk, IsOkUnless},
+  Prelude.{MatchOption},
   List.{All},
   List.Sorted.{IsNonDecreasingBy, IsPermutation},
 };

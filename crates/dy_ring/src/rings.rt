@@ -4,7 +4,8 @@ ghost use Rattle.std.specs.{
   Slice.Iter.{iter_rest},
 };
 ghost use Rattle.dy_ring.specs.{
-  Lists.{IsRingOf, RefusesTooMany, RefusesWithout, RefusesClash, TellsClash, MakesUnlessMemory, derived_lists},
+  Lists.{IsRingOf, RefusesTooMany, RefusesWithout, RefusesClash, TellsClash, MakesUnlessMemory},
+  Lists.{derived_lists},
   Rings.{IsRing, position_of},
 };
 

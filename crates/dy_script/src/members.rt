@@ -2,7 +2,8 @@ ghost use Rattle.std.specs.{Prelude.{◌≡◌, map, option_map}, List.{list_all
 ghost use Rattle.dy_script.specs.{
   inside.Documents.{view, items_view, members_view},
   inside.Keys.{is_one_of},
-  Members.{need, optional, seen, allow_only, small, flag, optional_list, optional_whole, as_whole, as_small},
+  Members.{need, optional, seen, allow_only, small, flag, optional_list, optional_whole, as_whole},
+  Members.{as_small},
 };
 ghost use Rattle.serde_json.specs.Find.{get as member_of, as_str, as_bool, as_array, as_object};
 

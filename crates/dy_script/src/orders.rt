@@ -1,7 +1,9 @@
 ghost use Rattle.std.specs.{Prelude.{◌≡◌, ◌<◌, IfSome}, Vec.{vec_items}};
 ghost use Rattle.dy_script.specs.{
   Members.{allow_only},
-  Orders.{command_parts, write_parts, put_names, node_named, lone_node, mode_of, session_of, bytes_of, value_of, write_of, put_of, delete_of, get_of, set_mode_of, show_of, at_node, command_of},
+  Orders.{command_parts, write_parts, put_names, node_named, lone_node, mode_of, session_of},
+  Orders.{bytes_of, value_of, write_of, put_of, delete_of, get_of, set_mode_of, show_of, at_node},
+  Orders.{command_of},
   inside.Documents.{view},
   inside.Fields.{place_of, name_at, name_text, source_data},
   inside.Readings.{IsReadingOf},

@@ -3,7 +3,9 @@ ghost use Rattle.std.specs.Prelude.{vec_items, map, ℕ};
 ghost use Rattle.dy_script.specs.{
   Members.{allow_only, each_of, seen},
   Orders.{command_parts},
-  Reading.{layout_parts, script_parts, script_names, token_at, token_list, tokens_at, token_lists, derived_of, tokens_given, limits_of, key_at, keys_of, command_at, commands_given, run_of, script_of, script_of_text},
+  Reading.{layout_parts, script_parts, script_names, token_at, token_list, tokens_at, token_lists},
+  Reading.{derived_of, tokens_given, limits_of, key_at, keys_of, command_at, commands_given},
+  Reading.{run_of, script_of, script_of_text},
   declared.scripts.TheConstants.{MAX_COMMANDS},
   inside.Documents.{view, items_view},
   inside.Readings.{IsReadingOf},

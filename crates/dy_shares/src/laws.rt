@@ -18,7 +18,8 @@ ghost use Rattle.dy_core.specs.{
   declared.steps.Step.{Step},
 };
 ghost use Rattle.dy_shares.specs.{
-  Shares.{Account, AckTold, AreAll, GetTold, IsAckOf, IsAckSpent, IsOfHomes, NodePart, ReceiptParts, SessionPart, SessionBelongsTo, own_homes, shows_held, steps_of},
+  Shares.{Account, AckTold, AreAll, GetTold, IsAckOf, IsAckSpent, IsOfHomes, NodePart},
+  Shares.{ReceiptParts, SessionPart, SessionBelongsTo, own_homes, shows_held, steps_of},
   Trails.{AreKept, Keeps},
   declared.entries.Entry.{Entry},
   declared.kept_steps.KeptStep.{KeptStep as Kept},

@@ -1,5 +1,6 @@
 ghost use Rattle.std.specs.{
-  Prelude.{◌≡◌, ◌≢◌, ℕ, ◌+◌, ◌<◌, ◌≤◌, ◌∷◌, ◌↔◌, Option, Some, None, [], vec_len, vec_capacity, map, length, IfOk, IfErr, OnOk, OnErr, IsErrOf, IsOkUnless, MatchBool, MatchOption},
+  Prelude.{◌≡◌, ◌≢◌, ℕ, ◌+◌, ◌<◌, ◌≤◌, ◌∷◌, ◌↔◌, Option, Some, None, [], vec_len, vec_capacity},
+  Prelude.{map, length, IfOk, IfErr, OnOk, OnErr, IsErrOf, IsOkUnless, MatchBool, MatchOption},
   List.{All},
 };
 ghost use mathlib.Core.List.{IsPrefix};
@@ -11,7 +12,10 @@ ghost use Rattle.dy_core.specs.{
 };
 ghost use Rattle.dy_shares.specs.{
   inside.Parts.{AreOf, IsPartOf, entries_of, with_done},
-  Shares.{AreAll, AreOwned, AreSpendable, BelongsTo, HasAll, IsMissing, IsReceipt, MayFollow, NodeStays, SessionBelongsTo, SessionStays, acks_of, answer_of, empty_account, first_parts, first_session, node_of, receipt_parts, steps_of, told_to, untold, with_ack, with_entries, with_session, with_steps},
+  Shares.{AreAll, AreOwned, AreSpendable, BelongsTo, HasAll, IsMissing, IsReceipt, MayFollow},
+  Shares.{NodeStays, SessionBelongsTo, SessionStays, acks_of, answer_of, empty_account},
+  Shares.{first_parts, first_session, node_of, receipt_parts, steps_of, told_to, untold, with_ack},
+  Shares.{with_entries, with_session, with_steps},
   Trails.{AreKept},
   declared.ledgers.TheConstants.{MAX_SESSIONS},
 };

@@ -1,5 +1,6 @@
 ghost use Rattle.std.specs.{
-  Prelude.{◌≡◌, ℕ, ◌+◌, ◌<◌, ◌≤◌, ◌++◌, max, nat_eq, map, length, List, [], OnOk, OnErr, IsOkUnless, vec_len, vec_capacity},
+  Prelude.{◌≡◌, ℕ, ◌+◌, ◌<◌, ◌≤◌, ◌++◌, max, nat_eq, map, length, List, [], OnOk, OnErr},
+  Prelude.{IsOkUnless, vec_len, vec_capacity},
   List.{All, IsDistinct},
 };
 ghost use mathlib.Core.List.{IsPrefix};

@@ -1,5 +1,6 @@
 ghost use Rattle.std.specs.{
-  Prelude.{◌≡◌, ◌<◌, ◌≤◌, ◌==◌, ◌⊎◌, ◌↔◌, ℕ, List, length, IfOk, IfErr, IfSome, IfNone, IsErrOf, IsOk, IsOkUnless, IsSome},
+  Prelude.{◌≡◌, ◌<◌, ◌≤◌, ◌==◌, ◌⊎◌, ◌↔◌, ℕ, List, length, IfOk, IfErr, IfSome, IfNone, IsErrOf},
+  Prelude.{IsOk, IsOkUnless, IsSome},
   Cmp.{partial_order_from_own_ties},
   Cmp.Lexicographic.{bytes_decides, pointwise, slice_cmp},
   Cmp.Rules.{comparing},

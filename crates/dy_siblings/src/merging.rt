@@ -5,7 +5,8 @@ ghost use Rattle.std.specs.{
 ghost use Rattle.std.specs.FinSet as set;
 ghost use Rattle.dy_siblings.specs.{
   inside.Lists.{items_of},
-  inside.Merging.{do_lists_conflict, AreAmong, IsMerge, IsNextVersion, IsUnionOutside, with_dots, with_histories},
+  inside.Merging.{do_lists_conflict, AreAmong, IsMerge, IsNextVersion, IsUnionOutside, with_dots},
+  inside.Merging.{with_histories},
   Siblings.{AreOneByDot, Rise, is_past, present_values},
   Versions.{VersionParts},
 };

@@ -1,5 +1,6 @@
 ghost use Rattle.std.specs.{
-  Prelude.{◌≡◌, ◌++◌, ◌↔◌, map, [], ◌∷◌, IfOk, OnOk, OnErr, IsOkUnless, IsTrue, IsOk, IfSome, IfNone, insert, length, ◌≤◌},
+  Prelude.{◌≡◌, ◌++◌, ◌↔◌, map, [], ◌∷◌, IfOk, OnOk, OnErr, IsOkUnless, IsTrue, IsOk, IfSome},
+  Prelude.{IfNone, insert, length, ◌≤◌},
   Slice.Iter.{iter_rest},
 };
 
@@ -50,7 +51,8 @@ impl Model for Row {
 
 impl Row {
     ghost use Rattle.dy_siblings.specs.{
-      Siblings.{AreOneByDot, IsSameRow, IsSiblingSet, covers, merge, context_of, own_dots, without, IsBeside, IsFollower, present_values},
+      Siblings.{AreOneByDot, IsSameRow, IsSiblingSet, covers, merge, context_of, own_dots, without},
+      Siblings.{IsBeside, IsFollower, present_values},
       Versions.{VersionParts},
     };
 
