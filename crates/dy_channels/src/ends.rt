@@ -1,4 +1,5 @@
-ghost use Rattle.std.specs.Prelude.{◌≡◌, ◌<◌, ◌+◌, true, false, IfNone, IfOk, IfSome, IsOkUnless};
+ghost use Rattle.std.specs.Prelude.{◌≡◌, ◌<◌, ◌+◌, true, false};
+ghost use Rattle.std.specs.Prelude.{IfErr, IfNone, IfOk, IfSome, IsOkUnless};
 ghost use Rattle.crossbeam_channel.specs.{
   Claims.{IsSeatAt, view},
   Ends.{receives_on, ruled_capacity, sends_on},
@@ -21,10 +22,14 @@ pub struct Sender<T: Drop> {
 
 /// The end of a channel that receives, and its pass, which counts what came. It sleeps as soon as
 /// nothing lies there, where the kit's looks for a while: who receives waits more often than not.
+/// Whoever sends what has to be read wakes it. So where it found nothing, it sleeps before it looks
+/// again.
 pub struct Receiver<T: Drop> {
     pub end: RuledReceiver<T, u64, Counted>,
     pub pass: Pass<T, u64>,
     parker: Parker,
+    // Whether nothing lay there when it looked last, and an end could still send.
+    found_nothing: bool,
     ghost here: { IsSeatAt (receives_on end) pass },
 }
 
@@ -34,6 +39,7 @@ impl<T: Drop> Drop for Receiver<T> {
             end: _,
             pass: _,
             parker: _,
+            found_nothing: _,
         } = self;
     }
 }
@@ -61,6 +67,7 @@ pub fn channel<T: Drop>(
         end: receiver,
         pass: second,
         parker,
+        found_nothing: false,
     };
     Ok((sending, receiving, waker))
 }
@@ -94,13 +101,26 @@ impl<T: Drop> Receiver<T> {
         ensures none { IfNone result (view self.new.pass ≡ view self.old.pass) }
     {
         for _ in rt.forever() {
-            match self.end.try_recv_as::<Counted, R>(rt, &mut self.pass) {
+            if self.found_nothing {
+                self.parker.park(rt);
+            }
+            match self.look(rt) {
                 Ok(message) => return Some(message),
                 Err(TryRecvError::Disconnected) => return None,
-                Err(TryRecvError::Empty) => self.parker.park(rt),
+                Err(TryRecvError::Empty) => {}
             }
         }
         None
+    }
+
+    // The next message, or why none lies there. Takes no memory.
+    fn look<R: Wait>(&mut self, rt: &R) -> Result<T, TryRecvError>
+        ensures some { IfOk result (λ _. view self.new.pass ≡ view self.old.pass + 1) }
+        ensures none { IfErr result (λ _. view self.new.pass ≡ view self.old.pass) }
+    {
+        let came = self.end.try_recv_as::<Counted, R>(rt, &mut self.pass);
+        self.found_nothing = matches!(came, Err(TryRecvError::Empty));
+        came
     }
 
     /// The next message, where one lies there. Takes no memory.
@@ -108,8 +128,7 @@ impl<T: Drop> Receiver<T> {
         ensures some { IfSome result (λ _. view self.new.pass ≡ view self.old.pass + 1) }
         ensures none { IfNone result (view self.new.pass ≡ view self.old.pass) }
     {
-        let came = self.end.try_recv_as::<Counted, R>(rt, &mut self.pass);
-        came.ok()
+        self.look(rt).ok()
     }
 
     /// Takes out what lies there. Takes no memory.

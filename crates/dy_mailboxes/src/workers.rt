@@ -43,15 +43,35 @@ pub fn serve<J: Naming, G: Gate, R: Wait>(
         let Some(first) = inbox.receive(rt) else {
             break;
         };
-        take_round(rt, &mut inbox, first, &mut round, gate);
+        gate.pass(first.to, &first.parcel.ask());
+        let Some(second) = inbox.take(rt) else {
+            serve_lone(rt, node, book, first, gate);
+            continue;
+        };
+        take_round(rt, &mut inbox, first, second, &mut round, gate);
         answer_round(rt, node, book, &mut round);
         send_round(rt, &mut round, gate);
     }
 }
 
-// An ask that has passed the gate, and has no answer yet.
-fn passed<J: Naming, G: Gate>(posted: Posted<J>, gate: &G) -> Served<J> {
-    gate.pass(posted.to, &posted.parcel.ask());
+// Answers an ask behind which no other lies in the mailbox. It need not be put into a round.
+fn serve_lone<J: Naming, G: Gate, R: Wait>(
+    rt: &R,
+    node: &Mutex<Node<J>>,
+    book: &Mutex<Book<J>>,
+    posted: Posted<J>,
+    gate: &G,
+) {
+    let (first, later) = {
+        let mut held = lock_soon(rt, node);
+        let mut open = lock_soon(rt, book);
+        answer_posted(&mut held, &mut open, &posted)
+    };
+    send_answers(rt, posted, first, later, gate);
+}
+
+// An ask that has no answer yet.
+fn unanswered<J: Naming>(posted: Posted<J>) -> Served<J> {
     Served {
         posted,
         first: Answer::NoAnswer,
@@ -59,21 +79,25 @@ fn passed<J: Naming, G: Gate>(posted: Posted<J>, gate: &G) -> Served<J> {
     }
 }
 
-// Takes the first ask, and those that lie in the mailbox behind it, as far as they fit into a
-// round. Each passes the gate before the next is taken.
+// Takes the first ask, which has passed the gate, the second, and those that lie in the mailbox
+// behind it, as far as they fit into a round. Each passes the gate before the next is taken.
 fn take_round<J: Naming, G: Gate, R: Wait>(
     rt: &R,
     inbox: &mut Inbox<J>,
     first: Posted<J>,
+    second: Posted<J>,
     round: &mut [Option<Served<J>>; ROUND],
     gate: &G,
 ) {
-    round[0] = Some(passed(first, gate));
-    for place in 1..ROUND {
+    gate.pass(second.to, &second.parcel.ask());
+    round[0] = Some(unanswered(first));
+    round[1] = Some(unanswered(second));
+    for place in 2..ROUND {
         let Some(posted) = inbox.take(rt) else {
             break;
         };
-        round[place] = Some(passed(posted, gate));
+        gate.pass(posted.to, &posted.parcel.ask());
+        round[place] = Some(unanswered(posted));
     }
 }
 
@@ -106,17 +130,23 @@ fn send_round<J: Naming, G: Gate, R: Wait>(
         let Some(served) = place.take() else {
             break;
         };
-        send_answers(rt, served, gate);
+        let Served {
+            posted,
+            first,
+            later,
+        } = served;
+        send_answers(rt, posted, first, later, gate);
     }
 }
 
 // Sends the answers to an ask.
-fn send_answers<J: Naming, G: Gate, R: Wait>(rt: &R, served: Served<J>, gate: &G) {
-    let Served {
-        posted,
-        first,
-        later,
-    } = served;
+fn send_answers<J: Naming, G: Gate, R: Wait>(
+    rt: &R,
+    posted: Posted<J>,
+    first: Answer<J>,
+    later: Option<Answer<J>>,
+    gate: &G,
+) {
     let to = posted.to;
     let mut reply_to = posted.reply_to;
     let (first, second) = messages(reply_to.call, reply_to.number, first, later);
