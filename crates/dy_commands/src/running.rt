@@ -36,7 +36,7 @@ pub fn run_command<J: Naming, R: Wait>(
                 session: write.session,
                 w: write.w.unwrap_or(w),
                 word: Word::Put,
-                given: read_put(lent.alloc, write, value),
+                given: read_put(lent.alloc, write, value.as_slice()),
             };
             run_write(lent, runner, judged)
         }

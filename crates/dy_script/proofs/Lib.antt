@@ -4,5 +4,6 @@ pub mod KnownKeys
 pub mod ListsRead
 pub mod LookUps
 pub mod Ranges
+pub mod RequestsRead
 pub mod TextsRead
 pub mod TokenPositions

@@ -38,6 +38,13 @@ impl<'a> Fields<'a> {
         }
     }
 
+    /// Takes all members out.
+    pub(crate) fn clear(&mut self)
+        ensures { members_told self.new ≡ no_members }
+    {
+        self.places = [None; PLACES];
+    }
+
     /// Puts the field in place of what had its name before.
     pub(crate) fn set(&mut self, name: Name, field: Field<'a>)
         ensures { members_told self.new

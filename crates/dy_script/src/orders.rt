@@ -1,4 +1,4 @@
-ghost use Rattle.std.specs.{Prelude.{◌≡◌, ◌<◌, IfSome}, Vec.{vec_items}};
+ghost use Rattle.std.specs.Prelude.{◌≡◌, ◌<◌, IfSome};
 ghost use Rattle.dy_script.specs.{
   Members.{allow_only},
   Orders.{command_parts, write_parts, put_names, node_named, lone_node, mode_of, session_of},
@@ -9,9 +9,10 @@ ghost use Rattle.dy_script.specs.{
   inside.Readings.{IsReadingOf},
 };
 
-use crate::commands::{Command, Write};
+use crate::commands::{Command, Payload, Write};
 use crate::scripts::MAX_SCRIPT_SESSIONS;
 use crate::sources::{Order, Source};
+use crate::texts::Text;
 use dy_dots::Fault;
 use dy_modes::Mode;
 use json::Value;
@@ -98,17 +99,17 @@ pub(crate) fn text_at(place: usize) -> &'static str
     }
 }
 
-/// The command that the value says, on a ring of so many nodes.
+/// The command that the value says, on a ring of so many nodes. The value is dropped at once.
 pub(crate) fn command_of(
     alloc: Global,
-    value: &Value,
+    value: Value,
     number: u32,
     nodes: usize,
 ) -> Result<Command, Fault>
-    ensures { IsReadingOf command_parts result (command_of nodes number (view value.now)) }
+    ensures { IsReadingOf command_parts result (command_of nodes number (view value.entry)) }
 {
     let order = Order {
-        source: Source::Tree(value),
+        source: Source::Tree(&value),
         command: number,
     };
     command_in(alloc, order, nodes)
@@ -238,7 +239,7 @@ fn get_of(alloc: Global, order: Order) -> Result<Command, Fault>
 {
     order.allow_only(&["do", "key", "session"])?;
     let session = session_of(order)?;
-    let key = String::from_str(alloc, order.text(Name::Key)?)?;
+    let key = Text::of(alloc, order.text(Name::Key)?)?;
     Ok(Command::Get { key, session })
 }
 
@@ -262,20 +263,20 @@ fn show_of(alloc: Global, order: Order, nodes: usize) -> Result<Command, Fault>
 {
     order.allow_only(&["do", "node", "key"])?;
     let node = node_named(order, nodes)?;
-    let key = String::from_str(alloc, order.text(Name::Key)?)?;
+    let key = Text::of(alloc, order.text(Name::Key)?)?;
     Ok(Command::Show { node, key })
 }
 
 /// The value of a put, given as a text or as hexadecimal digits.
 #[tactic(auto, unfolding(crate::specs::Orders::value_of, crate::specs::Orders::value_given))]
-fn value_of(alloc: Global, order: Order) -> Result<Vec<u8>, Fault>
-    ensures { IsReadingOf vec_items result
+fn value_of(alloc: Global, order: Order) -> Result<Payload, Fault>
+    ensures { IsReadingOf (λ value. value.items) result
         (value_of order.entry.command (source_data order.entry.source)) }
 {
     let text = order.optional_text(Name::Value)?;
     let digits = order.optional_text(Name::Valuehex)?;
     match (text, digits) {
-        (Some(text), None) => Ok(Vec::from_slice(alloc, text.as_bytes())?),
+        (Some(text), None) => Ok(Payload::from_slice(alloc, text.as_bytes())?),
         (None, Some(digits)) => bytes_of(alloc, order, digits),
         _ => Err(order.fault()),
     }
@@ -283,11 +284,11 @@ fn value_of(alloc: Global, order: Order) -> Result<Vec<u8>, Fault>
 
 /// The bytes of hexadecimal digits.
 #[tactic(auto, unfolding(crate::specs::Orders::bytes_of))]
-fn bytes_of(alloc: Global, order: Order, digits: &str) -> Result<Vec<u8>, Fault>
-    ensures { IsReadingOf vec_items result (bytes_of order.entry.command digits.now) }
+fn bytes_of(alloc: Global, order: Order, digits: &str) -> Result<Payload, Fault>
+    ensures { IsReadingOf (λ value. value.items) result (bytes_of order.entry.command digits.now) }
 {
     match hex::decode(alloc, digits) {
-        Ok(bytes) => Ok(bytes),
+        Ok(bytes) => Ok(Payload::from_vec(bytes)),
         Err(hex::FromHexError::OutOfMemory) => Err(Fault::OutOfMemory),
         Err(_) => Err(order.fault()),
     }
@@ -302,10 +303,10 @@ fn write_of(alloc: Global, order: Order) -> Result<Write, Fault>
     let session = session_of(order)?;
     let w = order.optional_small(Name::W)?;
     let context = match order.optional_text(Name::Context)? {
-        Some(text) => Some(String::from_str(alloc, text)?),
+        Some(text) => Some(Text::of(alloc, text)?),
         None => None,
     };
-    let key = String::from_str(alloc, order.text(Name::Key)?)?;
+    let key = Text::of(alloc, order.text(Name::Key)?)?;
     Ok(Write {
         key,
         context,

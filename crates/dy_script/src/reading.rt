@@ -258,7 +258,7 @@ fn commands_given(alloc: Global, list: Vec<Value>, nodes: usize) -> Result<Vec<C
     commands_in(alloc, list, nodes)
 }
 
-/// The commands of a list, numbered from 1. What a command was read from is dropped at once.
+/// The commands of a list, numbered from 1.
 fn commands_in(alloc: Global, list: Vec<Value>, nodes: usize) -> Result<Vec<Command>, Fault>
     requires { length list.items ≤ MAX_COMMANDS }
     ensures { IsReadingOf (λ run. map command_parts run.items) result
@@ -268,7 +268,7 @@ fn commands_in(alloc: Global, list: Vec<Value>, nodes: usize) -> Result<Vec<Comm
     let mut number = 0u32;
     for value in list {
         number += 1;
-        let command = command_of(alloc, &value, number, nodes)?;
+        let command = command_of(alloc, value, number, nodes)?;
         found.push(command)?;
     }
     Ok(found)

@@ -99,51 +99,57 @@ fn run_at(alloc: Global, reader: &mut Reader, nodes: usize) -> Result<Vec<Comman
 
 /// The commands to the end of their list, numbered from 1. What a command was read from is dropped
 /// at once.
-fn commands_at(alloc: Global, reader: &mut Reader, nodes: usize) -> Result<Vec<Command>, Fault>
+fn commands_at<'a>(
+    alloc: Global,
+    reader: &mut Reader<'a>,
+    nodes: usize,
+) -> Result<Vec<Command>, Fault>
     ensures { IfOk result
         (λ run. AreCommands nodes reader.old (map command_parts run.items) reader.new) }
 {
     let mut found = Vec::new(alloc);
+    let mut fields = Fields::new();
     let mut number = 0u32;
     'commands: while !reader.take_end_array() {
         if number as usize >= MAX_COMMANDS {
             return Err(WRONG_SCRIPT);
         }
         number += 1;
-        let command = command_at(alloc, reader, number, nodes)?;
+        let command = command_at(alloc, reader, &mut fields, number, nodes)?;
         found.push(command)?;
     }
     Ok(found)
 }
 
-/// The command that comes next, of this number.
-fn command_at(
+/// The command that comes next, of this number. Its members are read into the fields.
+fn command_at<'a>(
     alloc: Global,
-    reader: &mut Reader,
+    reader: &mut Reader<'a>,
+    fields: &mut Fields<'a>,
     number: u32,
     nodes: usize,
 ) -> Result<Command, Fault>
     ensures { IfOk result
         (λ command. IsCommand nodes number reader.old (command_parts command) reader.new) }
 {
-    let Some(fields) = fields_at(reader) else {
+    let Some(()) = read_fields(reader, fields) else {
         return Err(WRONG_SCRIPT);
     };
     let order = Order {
-        source: Source::Told(&fields),
+        source: Source::Told(&*fields),
         command: number,
     };
     command_in(alloc, order, nodes)
 }
 
-/// The members of the object that comes next, where each is one that some command has.
-fn fields_at<'a>(reader: &mut Reader<'a>) -> Option<Fields<'a>>
-    ensures { IfSome result (λ fields. AreTold reader.old (members_told fields) reader.new) }
+/// Reads the members of the object that comes next, where each is one that some command has.
+pub(crate) fn read_fields<'a>(reader: &mut Reader<'a>, fields: &mut Fields<'a>) -> Option<()>
+    ensures { IfSome result (λ _. AreTold reader.old (members_told fields.new) reader.new) }
 {
     if !begins_object(reader) {
         return None;
     }
-    let mut fields = Fields::new();
+    fields.clear();
     'members: loop {
         match reader.next() {
             Some(Token::Key(text)) => {
@@ -151,7 +157,7 @@ fn fields_at<'a>(reader: &mut Reader<'a>) -> Option<Fields<'a>>
                 let field = field_at(reader)?;
                 fields.set(name, field);
             }
-            Some(Token::EndObject) => return Some(fields),
+            Some(Token::EndObject) => return Some(()),
             _ => return None,
         }
     }

@@ -27,7 +27,7 @@ use dy_cluster::OpenCluster;
 use dy_commands::run_command;
 use dy_dots::Fault;
 use dy_lines::{CommandLine, Outcome, ServedLine, Stopped, write_whole};
-use dy_script::{Command, Request, read_request};
+use dy_script::{Command, Request, Scratch, read_request};
 use dy_shares::Naming;
 use std::alloc::Global;
 use std::io;
@@ -113,7 +113,13 @@ fn refuse<O: Write>(number: u32, fault: Fault, out: &mut O) -> io::Result<()>
 
 /// What the line asks for, of a store with so many nodes, and its number, which is behind this one
 /// unless the line is blank.
-fn asked_of_line(alloc: Global, nodes: usize, count: u32, line: &Line) -> Result<LineAsked, Fault>
+fn asked_of_line(
+    alloc: Global,
+    scratch: &mut Scratch,
+    nodes: usize,
+    count: u32,
+    line: &Line,
+) -> Result<LineAsked, Fault>
     ensures asked { IfOk result (λ asked. (whole : List ℕ) →
         IsKept line.now.is_long line.now.bytes.items whole →
         AsksSo nodes count whole asked) }
@@ -128,7 +134,7 @@ fn asked_of_line(alloc: Global, nodes: usize, count: u32, line: &Line) -> Result
         return Ok(LineAsked::Nothing);
     }
     let number = next_number(count)?;
-    match read_request(alloc, bytes, number, nodes) {
+    match read_request(alloc, scratch, bytes, number, nodes) {
         Ok(request) => Ok(LineAsked::Wanted { number, request }),
         Err(fault) => Ok(LineAsked::Wrong { number, fault }),
     }
@@ -166,7 +172,8 @@ pub(crate) fn answer_line<J: Naming, O: Write, R: Wait>(
     ensures only { IfErr result (IsStoppedFor
         (λ fault. (fault ≡ Fault.OutOfMemory) ⊎ HasNoNumber count fault)) }
 {
-    match asked_of_line(lent.alloc, opened.terms.nodes, count, line)? {
+    let nodes = opened.terms.nodes;
+    match asked_of_line(lent.alloc, &mut opened.scratch, nodes, count, line)? {
         LineAsked::Nothing => Ok(Answered {
             count,
             renews: false,

@@ -18,6 +18,7 @@ use dy_cluster::{Closed, Cluster, Mark, OpenCluster, carry_over};
 use dy_commands::Runner;
 use dy_dots::Fault;
 use dy_lines::{Stopped, write_step_lines};
+use dy_script::Scratch;
 use dy_shares::Naming;
 use std::alloc::Global;
 use std::io::Write;
@@ -39,12 +40,13 @@ pub(crate) struct Terms {
     pub nodes: usize,
 }
 
-/// What lines are served with in a cluster that is open: what runs the commands, and how far its
-/// steps were printed.
+/// What lines are served with in a cluster that is open: what reads and runs the commands, and how
+/// far its steps were printed.
 #[derive(Drop)]
 pub(crate) struct ServedCluster<'a, J: Naming> {
     pub runner: Runner<'a, J>,
     pub mark: Mark<J>,
+    pub scratch: Scratch,
     pub terms: Terms,
 }
 
@@ -63,6 +65,7 @@ impl<'a, J: Naming> ServedCluster<'a, J> {
         Ok(ServedCluster {
             runner,
             mark: Mark::new(),
+            scratch: Scratch::new(alloc),
             terms,
         })
     }

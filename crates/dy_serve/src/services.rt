@@ -112,6 +112,7 @@ impl<I: BufRead, O: Write> MarkedWork for Service<'_, '_, '_, '_, I, O> {
         let ServedCluster {
             runner,
             mark: read,
+            scratch: _,
             terms: _,
         } = opened;
         self.progress.seats = runner.seats;

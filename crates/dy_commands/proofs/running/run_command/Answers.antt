@@ -1,8 +1,9 @@
 -- What a put, a delete and a get did in their session.
 use Rattle.std.proofs.Common.{ℕ, List, subst}
-use Rattle.std.specs.Prelude.{option_map, string_bytes}
+use Rattle.std.specs.Prelude.{option_map}
 use Rattle.dy_lines.specs.declared.outcomes.Word.TheVariants as word
 use Rattle.dy_commands.specs.Seats.{seat_of}
+use Rattle.dy_script.specs.Texts.{text_bytes}
 use Rattle.dy_commands.specs.Texts.{IsKeyJudged, IsPutJudged}
 use Rattle.dy_commands.specs.Writes.{ReadsJudged, RunsJudged}
 use Rattle.dy_commands.proofs.Seating.{number_of_homes}
@@ -14,14 +15,14 @@ returns-in-Put-clause-done g c =
     let write = c.in-Put.write in
     let given = c.read_put.result in
     let after = c.run_write.new in
-    let Judged : List ℕ → Type 0 = λ v. IsPutJudged (string_bytes write.key)
-    (option_map string_bytes write.context) v given in
+    let Judged : List ℕ → Type 0 = λ v. IsPutJudged (text_bytes write.key)
+    (option_map text_bytes write.context) v given in
     let Runs : ℕ → Type 0 = λ w. RunsJudged g.row.J.Denot g.J.Naming.ring g.J.Naming.n
     (seat_of write.session after.runner.seats.numbers.items) w word.Put c.run_write.result
     after.runner.seats.refused c.args.lent.now.sessions.items after.lent.sessions.items given in
     rw c.in-Put.is (
       given,
-      subst Judged c.deref.ensures.value (record {
+      subst Judged c.as_slice.ensures (record {
         ok = c.read_put.ensures.ok;
         key_size = c.read_put.ensures.key_size;
         value_size = c.read_put.ensures.value_size;
@@ -68,7 +69,7 @@ returns-in-Delete-clause-done g c =
 pub returns-in-Get-clause-done : goal.returns-in-Get-clause-done
 returns-in-Get-clause-done g c =
     let told = c.run_get.ensures.told in
-    let same = c.as_str-key.ensures.value in
+    let same = c.as_str-key.ensures in
     let naming = g.J.Naming in
     let Judged : List ℕ → Type 0 = λ k. IsKeyJudged k told.0 in
     let Reads : List ℕ → Type 0 = λ k. ReadsJudged g.row.J.Denot naming.ring naming.n naming.r

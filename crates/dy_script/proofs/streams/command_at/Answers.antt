@@ -11,6 +11,6 @@ use Rattle.dy_script.proofs.streams.command_at.Goals as goal
 pub returns : goal.returns
 returns c =
     let told = c.in-Some.ensures in
-    command_read command_parts c.args.nodes c.args.number c.args.reader.now c.fields_at.new.reader (json.object told.members) c.command_in.result
-    (told_read c.args.reader.now c.fields_at.new.reader _ told) told.ranged
+    command_read command_parts c.args.nodes c.args.number c.args.reader.now c.read_fields.new.reader (json.object told.members) c.command_in.result
+    (told_read c.args.reader.now c.read_fields.new.reader _ told) told.ranged
     (subst (λ (ms : Members). IsReadingOf command_parts c.command_in.result (command_of c.args.nodes c.args.number (object ms))) (sym told.says) c.command_in.ensures)

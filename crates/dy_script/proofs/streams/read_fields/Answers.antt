@@ -4,10 +4,10 @@ use Rattle.json.specs.Token.{Token}
 use Rattle.serde_json.specs.Data.{put}
 use Rattle.dy_script.specs.inside.Fields.{field_data, members_told}
 use Rattle.dy_script.proofs.FieldsRead.{HasFields-start, HasFields-more, HasFields-end}
-use Rattle.dy_script.proofs.streams.fields_at.Goals as goal
+use Rattle.dy_script.proofs.streams.read_fields.Goals as goal
 
 pub members-init : goal.members-init
-members-init c = HasFields-start c.begins_object.new.reader (members_told c.new-fields.result) c.new-fields.ensures
+members-init c = HasFields-start c.begins_object.new.reader (members_told c.clear.new.self) c.clear.ensures
 
 pub members-preserved : goal.members-preserved
 members-preserved c =
