@@ -25,8 +25,7 @@ impl<J: Naming> Book<J> {
             IsSameRow row.versions (row_at (world_of self.now) holder home key.now)) }
         ensures memory { IsOkUnless result Fault.OutOfMemory }
     {
-        let row = dy_index::row_copy(self.alloc, self.part(key), holder, home, key)?;
-        Ok(row)
+        dy_index::row_copy(self.alloc, self.part(key), holder, home, key)
     }
 
     /// Makes a fetch of the row that the share's node holds for the home. The number of its step is
@@ -58,8 +57,7 @@ impl<J: Naming> Book<J> {
         if self.steps_left() < 1 {
             return Err(Fault::StepsFull);
         }
-        let seen = self.fetch_at(share.node(), home, key)?;
-        Ok(seen)
+        self.fetch_at(share.node(), home, key)
     }
 
     // The same, where a step is left.

@@ -93,6 +93,7 @@ impl<J: Naming> Cluster<J> {
     }
 
     // The same, by the key's list.
+    #[inline(always)]
     fn put_listed<T: Transport<J>, R: Wait>(
         &self,
         rt: &R,
@@ -185,6 +186,7 @@ impl<J: Naming> Cluster<J> {
     }
 
     // The same, by the key's list.
+    #[inline(always)]
     fn get_listed<T: Transport<J>, R: Wait>(
         &self,
         rt: &R,

@@ -1,4 +1,4 @@
-ghost use Rattle.std.specs.Prelude.{◌≡◌, ◌↔◌, ℕ, List, Result, false};
+ghost use Rattle.std.specs.Prelude.{◌≡◌, ◌↔◌, ℕ, List, Result, Ok, Err, false};
 ghost use Rattle.dy_dots.specs.{
   declared.nodes.TheConstants.{MAX_NODES},
   declared.faults.Fault.{Fault as FaultParts},
@@ -24,6 +24,7 @@ use std::sync::Wait;
 
 /// Gets the key in the session of this number, which is opened even where the key is refused, and
 /// repairs what was found stale.
+#[inline(never)]
 pub(crate) fn run_get<J: Naming, R: Wait>(
     lent: &mut OpenCluster<'_, J, R>,
     runner: &mut Runner<'_, J>,
@@ -71,40 +72,41 @@ fn get_in<J: Naming, R: Wait>(
     ensures told { IsRead J J.ring J.n J.r key.now result session.old session.new }
 {
     direct.renew(rt);
-    let done = match direct.get(rt, cluster, session, key) {
-        Ok(done) => done,
-        Err(refusal) => return read::<J>(Err(refusal)),
-    };
-    let _ = direct.mend(rt, cluster, &done);
-    read(Ok(done))
+    match direct.get(rt, cluster, session, key) {
+        Ok(done) => {
+            let _ = direct.mend(rt, cluster, &done);
+            read(done)
+        }
+        Err(refusal) => not_read::<J>(refusal),
+    }
 }
 
-// What came of a get, as its line tells it.
-fn read<J: Naming>(answer: Result<GetDone<J>, GetFault>) -> Outcome
-    ensures { TellsGet answer result }
+// What a get answered, as its line tells it.
+fn read<J: Naming>(done: GetDone<J>) -> Outcome
+    ensures { TellsGet {J = J} (Ok done) result }
 {
-    match answer {
-        Ok(done) => {
-            let GetDone {
-                row,
-                context,
-                since: _,
-                from,
-                seen: _,
-                answers: _,
-            } = done;
-            Outcome::Read { context, from, row }
-        }
-        Err(refusal) => {
-            let GetFault { fault, answers } = refusal;
-            match fault {
-                Fault::NotEnough => Outcome::Lacking {
-                    word: Word::Get,
-                    dot: None,
-                    answers,
-                },
-                _ => refused(Word::Get, fault),
-            }
-        }
+    let GetDone {
+        row,
+        context,
+        since: _,
+        from,
+        seen: _,
+        answers: _,
+    } = done;
+    Outcome::Read { context, from, row }
+}
+
+// Why a get was refused, as its line tells it.
+fn not_read<J: Naming>(refusal: GetFault) -> Outcome
+    ensures { TellsGet {J = J} (Err refusal) result }
+{
+    let GetFault { fault, answers } = refusal;
+    match fault {
+        Fault::NotEnough => Outcome::Lacking {
+            word: Word::Get,
+            dot: None,
+            answers,
+        },
+        _ => refused(Word::Get, fault),
     }
 }

@@ -70,6 +70,7 @@ fn tell<J: Naming>(
 }
 
 /// Ends a get that r homes answered.
+#[inline(always)]
 pub(crate) fn finish<J: Naming>(
     alloc: Global,
     gathering: Gathering<J>,

@@ -18,9 +18,13 @@ impl Ranked for Acked {
     ghost ranked = { ack_cmp };
 
     fn rank(&self, other: &Acked) -> Ordering {
-        self.key
-            .cmp(&other.key)
-            .then(self.dot.cmp(&other.dot))
-            .then(self.w.cmp(&other.w))
+        // Step by step: most acks that are compared have two keys, or two dots.
+        match self.key.cmp(&other.key) {
+            Ordering::Equal => match self.dot.cmp(&other.dot) {
+                Ordering::Equal => self.w.cmp(&other.w),
+                order => order,
+            },
+            order => order,
+        }
     }
 }

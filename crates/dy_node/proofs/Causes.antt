@@ -3,7 +3,7 @@ use Rattle.std.proofs.Common.{◌≡◌, ◌↔◌, ◌⊎◌, true, false, true
 use Rattle.std.proofs.Common.{inl, inr, ⊎_elim, refl, sym, ◌∙◌, ap, subst, arith}
 use Rattle.std.specs.declared.result.Result.{Result}
 use Rattle.std.specs.declared.result.Result.TheVariants.{Ok, Err}
-use Rattle.std.specs.Result.{IsErrOf, result_err}
+use Rattle.std.specs.Result.{IfErr, IsErrOf, result_err}
 use Rattle.dy_dots.specs.declared.dots.Dot.{Dot}
 use Rattle.dy_dots.specs.declared.faults.Fault.{Fault}
 use Rattle.dy_dots.specs.declared.faults.Fault.TheVariants.{OutOfMemory, CounterFull}
@@ -211,16 +211,13 @@ fetch_up b n r up full only =
       only = λ f is. inr (only f (told_from r f is));
     }
 
--- the fetch was made
-pub fetch_done : {X : Type 0} (b : BookParts) (n : NodeState) (x : X) → n.is_up ≡ true →
-    (IsErrOf {T = X} {E = Fault} (Ok x) StepsFull ↔ LacksRoom b 1) → FetchRefused b n None
-fetch_done b n x up full = fetch_up b n (Ok x) up full (λ f is. absurd (no_error x f is))
-
--- the fetch was refused
-pub fetch_by : {X : Type 0} (b : BookParts) (n : NodeState) (e : Fault) → n.is_up ≡ true →
-    (IsErrOf {T = X} {E = Fault} (Err e) StepsFull ↔ LacksRoom b 1) →
-    (e ≡ StepsFull) ⊎ (e ≡ OutOfMemory) → FetchRefused b n (Some e)
-fetch_by {X} b n e up full only =
+-- the node is up: a refusal of its fetch is one of the book
+pub fetch_of : {X : Type 0} (b : BookParts) (n : NodeState) (r : Result X Fault) →
+    n.is_up ≡ true → (IsErrOf r StepsFull ↔ LacksRoom b 1) →
+    IfErr r (λ e. (e ≡ StepsFull) ⊎ (e ≡ OutOfMemory)) → FetchRefused b n (result_err r)
+fetch_of b n (Ok x) up full only =
+    fetch_up b n (Ok x) up full (λ f is. absurd (no_error x f is))
+fetch_of {X} b n (Err e) up full only =
     fetch_up {X = X} b n (Err e) up full
     (λ f is. subst (λ g. (g ≡ StepsFull) ⊎ (g ≡ OutOfMemory)) (sym (one_error {X = X} e f is))
     only)

@@ -50,6 +50,33 @@ fn repeat<J: Naming>(node: &mut Node<J>, book: &mut Book<J>, ask: &Ask<'_, J>) -
     run(node, book, ask)
 }
 
+// The answers of a node that is up, in a mode that is not the plain one. It is a call of its own:
+// room for what an arm makes is cleared before the arms part.
+#[inline(never)]
+fn answer_by_mode<J: Naming>(
+    node: &mut Node<J>,
+    book: &mut Book<J>,
+    ask: &Ask<'_, J>,
+) -> (Answer<J>, Option<Answer<J>>)
+    requires { MayAsk J.ring J.n node.old.part.node ask.now }
+    ensures { AnsweredBy node.old.mode ask.now node.old book.old node.new book.new
+        result.0 result.1 }
+{
+    match node.mode() {
+        Mode::Plain => (run(node, book, ask), None),
+        Mode::Mute => {
+            let _done = run(node, book, ask);
+            (Answer::NoAnswer, None)
+        }
+        Mode::Late => {
+            let done = run(node, book, ask);
+            (Answer::NoAnswer, Some(done))
+        }
+        Mode::Repeat => (repeat(node, book, ask), None),
+        Mode::Delay => (delay(node, ask), None),
+    }
+}
+
 /// A node's answer to an ask, by its flag and mode. A node that is up and late gives a second one.
 pub fn answer<J: Naming>(
     node: &mut Node<J>,
@@ -68,15 +95,6 @@ pub fn answer<J: Naming>(
     }
     match node.mode() {
         Mode::Plain => (run(node, book, ask), None),
-        Mode::Mute => {
-            let _done = run(node, book, ask);
-            (Answer::NoAnswer, None)
-        }
-        Mode::Late => {
-            let done = run(node, book, ask);
-            (Answer::NoAnswer, Some(done))
-        }
-        Mode::Repeat => (repeat(node, book, ask), None),
-        Mode::Delay => (delay(node, ask), None),
+        _ => answer_by_mode(node, book, ask),
     }
 }

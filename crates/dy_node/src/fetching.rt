@@ -42,10 +42,6 @@ impl<J: Naming> Node<J> {
             return Err(Fault::Down);
         }
         book.agree(&mut self.share);
-        let seen = match book.fetch_step(&self.share, home, key, since) {
-            Ok(seen) => seen,
-            Err(fault) => return Err(fault),
-        };
-        Ok(seen)
+        book.fetch_step(&self.share, home, key, since)
     }
 }

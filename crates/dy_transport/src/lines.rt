@@ -1,5 +1,6 @@
 ghost use Rattle.std.specs.Prelude.{◌≡◌, ◌<◌, ◌+◌, ◌*◌, ◌^◌, ◌++◌, ◌∷◌, [], ℕ, length, IfNone};
 ghost use Rattle.std.specs.Prelude.{IfOk, IfSome, IsOkUnless};
+ghost use Rattle.std.specs.VecDeque.{deque_capacity, deque_len};
 ghost use Rattle.dy_node.specs.declared.asks.Answer.TheVariants.{NoAnswer};
 ghost use Rattle.dy_transport.specs.{
   Asking.{IsAnswerTo},
@@ -108,12 +109,7 @@ impl<J: Naming> Line<J> {
             answer,
         });
         if let Some(answer) = later {
-            self.second.push_back_reserved(Waiting {
-                number,
-                node: to,
-                home,
-                answer,
-            });
+            put_later(&mut self.second, number, to, home, answer);
         }
     }
 
@@ -149,6 +145,29 @@ impl<J: Naming> Line<J> {
         self.first.clear();
         self.second.clear();
     }
+}
+
+// Adds a later answer to the end of the line. It is a call of its own: few asks have one, and room
+// for it is cleared where it stands.
+#[inline(never)]
+fn put_later<J: Naming>(
+    second: &mut VecDeque<Waiting<J>>,
+    number: usize,
+    node: NodeId,
+    home: NodeId,
+    answer: Answer<J>,
+)
+    requires { deque_len second.old < deque_capacity second.old }
+    ensures items { second.new.items ≡ second.old.items
+        ++ record { number = number; node = node; home = home; answer = answer } ∷ [] }
+    ensures capacity { deque_capacity second.new ≡ deque_capacity second.old }
+{
+    second.push_back_reserved(Waiting {
+        number,
+        node,
+        home,
+        answer,
+    });
 }
 
 // Adds an answer to the trace, and gives it.

@@ -13,8 +13,8 @@ spared_by (Ok done) stale current = refl
 spared_by (Err fault) stale current = absurd (stale current)
 
 -- what the get answered, and what its mending did for its key's own list
-pub returns-clause-told : goal.returns-clause-told
-returns-clause-told g c =
+pub returns-in-Ok-clause-told : goal.returns-in-Ok-clause-told
+returns-in-Ok-clause-told g c =
     let got = c.in-Ok.ensures.ok in
     let done = c.in-Ok.done in
     let naming = g.J.Naming in
@@ -34,7 +34,7 @@ returns-clause-told g c =
       };
       unheard = tt;
       refused = tt;
-      tells = c.read-2.ensures;
+      tells = c.read.ensures;
     }
 
 -- why the get was refused
@@ -47,5 +47,5 @@ returns-in-Err-clause-told g c = record {
   mended = tt;
   unheard = c.in-Err.ensures.err;
   refused = c.in-Err.ensures.refused;
-  tells = c.read.ensures;
+  tells = c.not_read.ensures;
 }

@@ -1,5 +1,7 @@
 -- What the world holds at the node is what the node keeps, since share and book agree.
-use Rattle.std.proofs.Common.{sym, ap, ◌∙◌, subst, None, Some}
+use Rattle.std.proofs.Common.{sym, ap, ◌∙◌, subst, Result, Ok, Err, IfOk}
+use Rattle.std.specs.Result.{result_err}
+use Rattle.dy_dots.specs.declared.faults.Fault.{Fault}
 use Rattle.dy_siblings.specs.Siblings.{IsSameRow}
 use Rattle.dy_core.specs.Worlds.{layout_of, row_at}
 use Rattle.dy_core.proofs.Merging.{same_row_on, same_row_back}
@@ -8,26 +10,32 @@ use Rattle.dy_book.specs.Books.{BookParts, world_of}
 use Rattle.dy_node.specs.Stored.{versions_at}
 use Rattle.dy_node.specs.Nodes.{NodeState}
 use Rattle.dy_node.specs.Refusals.{FetchRefused}
-use Rattle.dy_node.proofs.Causes.{fetch_by, fetch_done, fetch_down}
+use Rattle.dy_node.proofs.Causes.{fetch_down, fetch_of}
 use Rattle.dy_node.proofs.Kept.{state_holds}
 use Rattle.dy_node.proofs.nodes.Node.fetch.Goals as goal
+
+on_ok : {A : Type 0} {P Q : A → Type 0} (r : Result A Fault) → ((x : A) → P x → Q x) → IfOk r P → IfOk r Q
+on_ok (Ok x) f p = f x p
+on_ok (Err e) f p = tt
 
 -- what the world holds at the node is what it keeps
 pub returns-clause-row : goal.returns-clause-row
 returns-clause-row g c =
     let home = c.args.home in
     let key = c.args.key.now in
+    let fetched = c.fetch_step.result in
     let kept = state_holds (layout_of g.J.Naming.ring g.J.Naming.n) c.args.book.now
     c.self.inside.share c.self.inside.stores
     (record { belongs = c.agree.ensures.belongs; legal = c.agree.ensures.legal }) c.self.invariant.0
     home key in
-    let at_book = subst (λ (b : BookParts). IsSameRow c.in-Ok.seen.row
-    (row_at (world_of b) c.agree.new.share.node home key)) c.agree.ensures.book
-    c.in-Ok.ensures.row in
-    let at_node = subst (λ (p : NodePart). IsSameRow c.in-Ok.seen.row
-    (row_at (world_of c.args.book.now) p.node home key)) c.agree.ensures.share at_book in
-    subst (λ (n : NodeState). IsSameRow c.in-Ok.seen.row (versions_at n.rooms home key))
-    c.self.view_is (same_row_on _ _ _ at_node (same_row_back _ _ kept))
+    let at_book = subst (λ (b : BookParts). IfOk fetched (λ seen. IsSameRow seen.row
+    (row_at (world_of b) c.agree.new.share.node home key))) c.agree.ensures.book
+    c.fetch_step.ensures.row in
+    let at_node = subst (λ (p : NodePart). IfOk fetched (λ seen. IsSameRow seen.row
+    (row_at (world_of c.args.book.now) p.node home key))) c.agree.ensures.share at_book in
+    subst (λ (n : NodeState). IfOk fetched (λ seen. IsSameRow seen.row (versions_at n.rooms home key)))
+    c.self.view_is
+    (on_ok fetched (λ seen same. same_row_on _ _ _ same (same_row_back _ _ kept)) at_node)
 
 -- the node is down
 pub returns-then-not-self-clause-refused : goal.returns-then-not-self-clause-refused
@@ -36,16 +44,9 @@ returns-then-not-self-clause-refused g c =
     (sym (ap (λ (n : NodeState). n.is_up) c.self.view_is) ∙ c.if-not-self.true)
 
 -- the book is the one that was lent
-pub returns-in-Err-clause-refused : goal.returns-in-Err-clause-refused
-returns-in-Err-clause-refused g c =
-    subst (λ b. FetchRefused b c.args.self.now (Some c.in-Err.fault)) c.agree.ensures.book
-    (fetch_by c.agree.new.self c.args.self.now c.in-Err.fault
-    (sym (ap (λ (n : NodeState). n.is_up) c.self.view_is) ∙ c.if-not-self.false)
-    c.in-Err.ensures.steps_full c.in-Err.ensures.only)
-
 pub returns-clause-refused : goal.returns-clause-refused
 returns-clause-refused g c =
-    subst (λ b. FetchRefused b c.args.self.now None) c.agree.ensures.book
-    (fetch_done c.agree.new.self c.args.self.now c.in-Ok.seen
+    subst (λ b. FetchRefused b c.args.self.now (result_err c.fetch_step.result)) c.agree.ensures.book
+    (fetch_of c.agree.new.self c.args.self.now c.fetch_step.result
     (sym (ap (λ (n : NodeState). n.is_up) c.self.view_is) ∙ c.if-not-self.false)
-    c.in-Ok.ensures.steps_full)
+    c.fetch_step.ensures.steps_full c.fetch_step.ensures.only)

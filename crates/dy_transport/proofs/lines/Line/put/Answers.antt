@@ -8,9 +8,9 @@ invariant_of-self g c =
     rw (
       c.note_ask-number.ensures.told,
       c.push_back_reserved.ensures.items,
-      c.push_back_reserved-in-Some.ensures.items,
+      c.put_later.ensures.items,
       c.push_back_reserved.ensures.capacity,
-      c.push_back_reserved-in-Some.ensures.capacity,
+      c.put_later.ensures.capacity,
     ) (
       puts_two _ _ _ _ _ c.args.to c.args.ask.now _ _ _ c.args.answer c.in-Some.answer
           c.self.invariant.0 (room_left (sym c.self.view_is) c.requires.room) c.note_ask-number.ensures.number
