@@ -96,6 +96,7 @@ impl<T: Drop> Sender<T> {
 impl<T: Drop> Receiver<T> {
     /// The next message; none where nothing lies there and no end sends. May wait for one. Takes no
     /// memory.
+    #[inline(always)]
     pub fn receive<R: Wait>(&mut self, rt: &R) -> Option<T>
         ensures some { IfSome result (λ _. view self.new.pass ≡ view self.old.pass + 1) }
         ensures none { IfNone result (view self.new.pass ≡ view self.old.pass) }
@@ -113,7 +114,9 @@ impl<T: Drop> Receiver<T> {
         None
     }
 
-    // The next message, or why none lies there. Takes no memory.
+    // The next message, or why none lies there. Takes no memory. It lies in its callers: a message
+    // is copied once for each function that hands it on.
+    #[inline(always)]
     fn look<R: Wait>(&mut self, rt: &R) -> Result<T, TryRecvError>
         ensures some { IfOk result (λ _. view self.new.pass ≡ view self.old.pass + 1) }
         ensures none { IfErr result (λ _. view self.new.pass ≡ view self.old.pass) }
@@ -124,6 +127,7 @@ impl<T: Drop> Receiver<T> {
     }
 
     /// The next message, where one lies there. Takes no memory.
+    #[inline(always)]
     pub fn take<R: Wait>(&mut self, rt: &R) -> Option<T>
         ensures some { IfSome result (λ _. view self.new.pass ≡ view self.old.pass + 1) }
         ensures none { IfNone result (view self.new.pass ≡ view self.old.pass) }

@@ -67,6 +67,7 @@ impl<J: Naming> Cluster<J> {
     }
 
     // The same, by the list that is kept of the key, or by one that is kept then.
+    #[inline(always)]
     pub(crate) fn put_kept<T: Transport<J>, R: Wait>(
         &self,
         rt: &R,
@@ -83,13 +84,31 @@ impl<J: Naming> Cluster<J> {
         let key = call.key;
         match lists.find(key) {
             Some(list) => self.put_listed(rt, call, transport, session, list),
-            None => {
-                let list = self.list(key);
-                let done = self.put_listed(rt, call, transport, session, &list);
-                lists.keep(self.alloc, key, list);
-                done
-            }
+            None => self.put_unlisted(rt, call, transport, session, lists),
         }
+    }
+
+    // The same of a key whose list is not kept: it is made, and kept then. It is a call of its own,
+    // since few calls make a list.
+    #[inline(never)]
+    fn put_unlisted<T: Transport<J>, R: Wait>(
+        &self,
+        rt: &R,
+        call: PutCall<'_>,
+        transport: &mut T,
+        session: &mut SessionShare<J>,
+        lists: &mut KeptLists<J>,
+    ) -> Result<PutDone<J>, PutFault>
+        requires fresh { IsFresh (T.told transport.old) }
+        ensures { PutsBy {J = J} (list_of J.ring J.n call.entry.key.now) call.entry.w
+            call.entry.key.now call.entry.context.now call.entry.value session.old session.new
+            (T.told transport.old) (T.told transport.new) result }
+    {
+        let key = call.key;
+        let list = self.list(key);
+        let done = self.put_listed(rt, call, transport, session, &list);
+        lists.keep(self.alloc, key, list);
+        done
     }
 
     // The same, by the key's list.
@@ -162,6 +181,7 @@ impl<J: Naming> Cluster<J> {
     }
 
     // The same, by the list that is kept of the key, or by one that is kept then.
+    #[inline(always)]
     pub(crate) fn get_kept<T: Transport<J>, R: Wait>(
         &self,
         rt: &R,
@@ -176,13 +196,29 @@ impl<J: Naming> Cluster<J> {
     {
         match lists.find(key) {
             Some(list) => self.get_listed(rt, transport, list, session, key),
-            None => {
-                let list = self.list(key);
-                let done = self.get_listed(rt, transport, &list, session, key);
-                lists.keep(self.alloc, key, list);
-                done
-            }
+            None => self.get_unlisted(rt, transport, lists, session, key),
         }
+    }
+
+    // The same of a key whose list is not kept: it is made, and kept then. It is a call of its own,
+    // since few calls make a list.
+    #[inline(never)]
+    fn get_unlisted<T: Transport<J>, R: Wait>(
+        &self,
+        rt: &R,
+        transport: &mut T,
+        lists: &mut KeptLists<J>,
+        session: &mut SessionShare<J>,
+        key: &Key,
+    ) -> Result<GetDone<J>, GetFault>
+        requires fresh { IsFresh (T.told transport.old) }
+        ensures { GetsBy {J = J} (list_of J.ring J.n key.now) key.now J.r session.old session.new
+            (T.told transport.old) (T.told transport.new) result }
+    {
+        let list = self.list(key);
+        let done = self.get_listed(rt, transport, &list, session, key);
+        lists.keep(self.alloc, key, list);
+        done
     }
 
     // The same, by the key's list.

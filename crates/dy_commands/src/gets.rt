@@ -24,7 +24,7 @@ use std::sync::Wait;
 
 /// Gets the key in the session of this number, which is opened even where the key is refused, and
 /// repairs what was found stale.
-#[inline(never)]
+#[inline(always)]
 pub(crate) fn run_get<J: Naming, R: Wait>(
     lent: &mut OpenCluster<'_, J, R>,
     runner: &mut Runner<'_, J>,

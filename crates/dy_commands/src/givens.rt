@@ -19,6 +19,7 @@ pub(crate) struct Given {
 }
 
 /// What a put is given.
+#[inline(always)]
 pub(crate) fn read_put(alloc: Global, write: &Write, value: &[u8]) -> Result<Given, Fault>
     ensures ok { IfOk result (λ given. IsGiven (text_bytes write.now.key)
         (option_map text_bytes write.now.context) (Some value.now) given) }
@@ -62,6 +63,7 @@ fn is_key(bytes: &[u8]) -> bool
 }
 
 // What is given beside the value.
+#[inline(always)]
 fn read_given(alloc: Global, write: &Write, value: Option<Value>) -> Result<Given, Fault>
     ensures ok { IfOk result (λ given. IsGiven (text_bytes write.now.key)
         (option_map text_bytes write.now.context) value given) }

@@ -16,6 +16,7 @@ use std::sync::Wait;
 
 /// What comes of the command, whose puts need this many homes where they name no number of their
 /// own. May wait for locks.
+#[inline(always)]
 pub fn run_command<J: Naming, R: Wait>(
     lent: &mut OpenCluster<'_, J, R>,
     runner: &mut Runner<'_, J>,

@@ -18,34 +18,36 @@ use dy_transport::AnswerVec;
 use std::alloc::Global;
 
 // Merges the rows of these answers, and adds the get to the session's list.
+#[inline(always)]
 fn tell_of<J: Naming>(
     alloc: Global,
-    used: Vec<Seen<J>>,
+    used: &Vec<Seen<J>>,
     session: &mut SessionShare<J>,
 ) -> Result<(Row, Context), Fault>
     requires some { 1 ≤ J.r }
-    requires count { length used.items ≡ J.r }
-    requires one_key { (key : List ℕ) × All (λ a. a.key ≡ key) used.items }
-    requires homes { IsDistinct nat_eq (answer_homes used.items) }
-    requires later { All (λ a. since_of session.old < a.at) used.items }
-    ensures row { IfOk result (λ p. IsSameRow p.0.versions (newest (rows_of used.items))) }
-    ensures key { (key : List ℕ) → All (λ a. a.key ≡ key) used.items →
+    requires count { length used.now.items ≡ J.r }
+    requires one_key { (key : List ℕ) × All (λ a. a.key ≡ key) used.now.items }
+    requires homes { IsDistinct nat_eq (answer_homes used.now.items) }
+    requires later { All (λ a. since_of session.old < a.at) used.now.items }
+    ensures row { IfOk result (λ p. IsSameRow p.0.versions (newest (rows_of used.now.items))) }
+    ensures key { (key : List ℕ) → All (λ a. a.key ≡ key) used.now.items →
         IfOk result (λ p. p.0.key ≡ key) }
     ensures context { IfOk result (λ p. p.1 ≡ context_of p.0.versions) }
     ensures told { OnOk result
-        (session.new ≡ with_get session.old (since_of session.old) used.items) }
+        (session.new ≡ with_get session.old (since_of session.old) used.now.items) }
     ensures err { OnErr result (session.new ≡ session.old) }
     ensures memory { IsOkUnless result Fault.OutOfMemory }
 {
     let row = merge_all(alloc, used.as_slice())?;
     let context = row.context(alloc)?;
-    session.note_get(used)?;
+    session.note_get_lent(used)?;
     Ok((row, context))
 }
 
-// Merges the rows of the first answer of each home, and adds the get, with copies of them, to the
-// session's list.
-fn tell<J: Naming>(
+// The same of copies of the first answer of each home. It is a call of its own: in few gets a home
+// answers twice.
+#[inline(never)]
+fn tell_chosen<J: Naming>(
     alloc: Global,
     gathering: &Gathering<J>,
     session: &mut SessionShare<J>,
@@ -65,8 +67,36 @@ fn tell<J: Naming>(
     ensures memory { IsOkUnless result Fault.OutOfMemory }
 {
     let chosen = gathering.chosen(alloc)?;
-    let told = tell_of(alloc, chosen, session)?;
+    let told = tell_of(alloc, &chosen, session)?;
     Ok(told)
+}
+
+// Merges the rows of the first answer of each home, and adds the get to the session's list.
+#[inline(always)]
+fn tell<J: Naming>(
+    alloc: Global,
+    gathering: &Gathering<J>,
+    session: &mut SessionShare<J>,
+) -> Result<(Row, Context), Fault>
+    requires some { 1 ≤ J.r }
+    requires count { length (first_answers gathering.now.seens) ≡ J.r }
+    requires one_key { (key : List ℕ) × All (λ a. a.key ≡ key) gathering.now.seens }
+    requires later { All (λ a. since_of session.old < a.at) gathering.now.seens }
+    ensures row { IfOk result (λ p.
+        IsSameRow p.0.versions (newest (rows_of (first_answers gathering.now.seens)))) }
+    ensures key { (key : List ℕ) → All (λ a. a.key ≡ key) gathering.now.seens →
+        IfOk result (λ p. p.0.key ≡ key) }
+    ensures context { IfOk result (λ p. p.1 ≡ context_of p.0.versions) }
+    ensures told { OnOk result (session.new ≡
+        with_get session.old (since_of session.old) (first_answers gathering.now.seens)) }
+    ensures err { OnErr result (session.new ≡ session.old) }
+    ensures memory { IsOkUnless result Fault.OutOfMemory }
+{
+    if gathering.has_firsts_alone() {
+        tell_of(alloc, gathering.seens(), session)
+    } else {
+        tell_chosen(alloc, gathering, session)
+    }
 }
 
 /// Ends a get that r homes answered.

@@ -43,6 +43,7 @@ fn prepare<J: Naming>(
 /// A get (Dynamo, section 4.5). It looks at the first node of the list that is not down, and asks
 /// each home. It reads until r homes have answered with a row, by themselves or by a stand-in, and
 /// adds the get to the session's list. May wait for locks and answers.
+#[inline(always)]
 pub fn get<J: Naming, T: Transport<J>, R: Wait>(
     rt: &R,
     alloc: Global,

@@ -187,6 +187,7 @@ impl PutTask<'_> {
 /// homes and then stand-ins, and reads every answer. It is acknowledged where w homes hold the
 /// version on w nodes. May wait for answers, and for locks. Takes no memory after its first try,
 /// but for what the transport sends.
+#[inline(always)]
 pub fn put<J: Naming, T: Transport<J>, R: Wait>(
     rt: &R,
     alloc: Global,

@@ -114,8 +114,7 @@ impl HintStore {
     {
         let at = home.number() as usize;
         homes::make_room(self.alloc, &mut self.homes, at)?;
-        let placed = self.homes[at].absorb(row)?;
-        Ok(placed)
+        self.homes[at].absorb(row)
     }
 
     /// Puts the row in the place of its key's for the home, and gives that back. Takes no memory.

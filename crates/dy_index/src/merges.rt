@@ -1,11 +1,12 @@
 // How a row is merged into what is held. The merge is made ready first; then it stands without
 // memory, or it is taken back.
 ghost use Rattle.std.specs.{
-  Prelude.{◌≡◌, ◌<◌, ◌++◌, true, IfOk, OnErr, IsOkUnless, vec_len, vec_capacity},
+  Prelude.{◌≡◌, ◌<◌, ◌++◌, true, false, IfOk, OnErr, IsOkUnless, vec_len, vec_capacity},
+  List.{list_any},
   List.Sorted.{IsStrictlySortedBy},
 };
 ghost use Rattle.dy_siblings.specs.Siblings.{AreOneByDot, IsSameRow, merge};
-ghost use Rattle.dy_core.specs.{Orders.{holding_cmp}, inside.Meanings.{row_in}};
+ghost use Rattle.dy_core.specs.{Orders.{holding_cmp}, inside.Meanings.{is_at, row_in}};
 ghost use Rattle.dy_index.specs.Merges.{FitsAt, FitsIn, IsHeldAt, is_first, merged_by, placed_by};
 ghost use Rattle.dy_index.specs.Merges.{taken_back, taken_from};
 
@@ -55,6 +56,24 @@ impl Custody {
         if let Some(dot) = self.put_beside(alloc, row)? {
             return Ok(Merging::Beside { dot });
         }
+        self.begin_over(alloc, row)
+    }
+
+    // The same of a merge that is to take the place. It is a call of its own, since few are.
+    #[inline(never)]
+    fn begin_over(&mut self, alloc: Global, row: &Row) -> Result<Merging, Fault>
+        requires one_key { self.old.row.key ≡ row.now.key }
+        requires agree { AreOneByDot (self.old.row.versions ++ row.now.versions) }
+        ensures fits { IfOk result (λ m. FitsIn m self.new) }
+        ensures holder { IfOk result (λ m. (merged_by m self.new).holder ≡ self.old.holder) }
+        ensures home { IfOk result (λ m. (merged_by m self.new).home ≡ self.old.home) }
+        ensures key { IfOk result (λ m. (merged_by m self.new).row.key ≡ self.old.row.key) }
+        ensures row { IfOk result (λ m. IsSameRow (merged_by m self.new).row.versions
+            (merge self.old.row.versions row.now.versions)) }
+        ensures back { IfOk result (λ m. taken_back m self.new ≡ self.old) }
+        ensures same { self.new ≡ self.old }
+        ensures memory { IsOkUnless result Fault.OutOfMemory }
+    {
         let custody = self.merged(alloc, row)?;
         Ok(Merging::Over { custody })
     }
@@ -83,6 +102,33 @@ impl Custody {
     }
 }
 
+// Makes ready that the row is the first that the holder holds for the home. It is a call of its
+// own, since most rows come where one is held.
+#[inline(never)]
+fn begin_first(
+    alloc: Global,
+    places: &mut Vec<Custody>,
+    holder: NodeId,
+    home: NodeId,
+    row: &Row,
+) -> Result<Placing, Fault>
+    requires nothing { list_any (is_at holder home row.now.key) places.old.items ≡ false }
+    requires agree { AreOneByDot
+        (row_in places.old.items holder home row.now.key ++ row.now.versions) }
+    ensures fits { IfOk result (λ p. FitsAt p places.new.items) }
+    ensures room { IfOk result (λ p. is_first p ≡ true →
+        vec_len places.new < vec_capacity places.new) }
+    ensures held { IfOk result (λ p.
+        IsHeldAt places.old.items holder home row.now (placed_by p places.new.items)) }
+    ensures back { IfOk result (λ p. taken_from p places.new.items ≡ places.old.items) }
+    ensures err { OnErr result (places.new.items ≡ places.old.items) }
+    ensures memory { IsOkUnless result Fault.OutOfMemory }
+{
+    let custody = held_first(alloc, holder, home, row)?;
+    places.reserve(1)?;
+    Ok(Placing::First { custody })
+}
+
 // Makes ready that the row is merged into what the holder holds for the home.
 fn begin_at(
     alloc: Global,
@@ -107,9 +153,7 @@ fn begin_at(
         let merging = places[at].begin(alloc, row)?;
         return Ok(Placing::At { at, merging });
     }
-    let custody = held_first(alloc, holder, home, row)?;
-    places.reserve(1)?;
-    Ok(Placing::First { custody })
+    begin_first(alloc, places, holder, home, row)
 }
 
 // The merge stands in the list. Takes no memory.
@@ -158,8 +202,7 @@ impl KeyPart {
         ensures err { OnErr result (self.new.places.items ≡ self.old.places.items) }
         ensures memory { IsOkUnless result Fault.OutOfMemory }
     {
-        let placing = begin_at(alloc, &mut self.places, holder, home, row)?;
-        Ok(placing)
+        begin_at(alloc, &mut self.places, holder, home, row)
     }
 
     /// The merge that was made ready stands. Takes no memory.

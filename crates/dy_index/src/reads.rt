@@ -62,10 +62,7 @@ pub fn row_copy(
     ensures memory { IsOkUnless result Fault.OutOfMemory }
 {
     match part {
-        Some(part) => {
-            let row = custodies::copy_at(alloc, part.places.as_slice(), holder, home, key)?;
-            Ok(row)
-        }
+        Some(part) => custodies::copy_at(alloc, part.places.as_slice(), holder, home, key),
         None => {
             let key = key.try_clone(alloc)?;
             Ok(Row::new(alloc, key))

@@ -27,6 +27,7 @@ pub enum Parcel<J: Naming> {
 
 impl<J: Naming> Parcel<J> {
     /// A copy of what is asked.
+    #[inline(always)]
     pub fn new(alloc: Global, ask: &Ask<'_, J>) -> Result<Parcel<J>, Fault>
         ensures value { IfOk result (λ parcel. IsParcelOf ask.now parcel) }
         ensures memory { IsOkUnless result Fault.OutOfMemory }

@@ -73,6 +73,7 @@ impl<J: Naming> Inbox<J> {
     }
 
     /// The next ask, where one lies there. Takes no memory.
+    #[inline(always)]
     pub(crate) fn take<R: Wait>(&mut self, rt: &R) -> Option<Posted<J>>
         ensures same { self.new ≡ self.old }
     {

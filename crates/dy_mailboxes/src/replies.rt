@@ -220,6 +220,7 @@ impl<J: Naming> ReplyTo<J> {
 
     /// Sends the node's answer past the gate. It wakes the client where nothing more is to come, or
     /// where it may have to act before. One to an earlier call is dropped. Takes no memory.
+    #[inline(always)]
     pub fn send<G: Gate, R: Wait>(&mut self, rt: &R, gate: &G, to: NodeId, answered: Answered<J>) {
         let present = self.line.present.load(Ordering::SeqCst);
         if answered.call == present {

@@ -180,6 +180,7 @@ impl<J: Naming> Sheet<J> {
 
     /// Reads an answer that came to this call: it is handed on, as that nothing came where it is no
     /// answer to its ask; one too many for its ask is dropped. Takes no memory.
+    #[inline(always)]
     pub fn take(&mut self, answered: Answered<J>) -> Option<(Place, Answer<J>)>
         requires { answered.call ≡ self.old.call }
         ensures none { IfNone result (self.new ≡ self.old) }
@@ -221,6 +222,7 @@ impl<J: Naming> Sheet<J> {
 
     /// Answers an ask that could not be sent: refused where there was no memory, else that nothing
     /// came. No further answer to it comes. Takes no memory.
+    #[inline(always)]
     pub fn take_unsent(&mut self) -> Option<(Place, Answer<J>)>
         ensures none { IfNone result (self.new ≡ self.old) }
         ensures all_sent { IfNone result

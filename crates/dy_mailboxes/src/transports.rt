@@ -166,6 +166,7 @@ fn receive_awaited<J: Naming, R: Wait>(
 // The next answer: that of an ask that could not be sent, else the next that comes to this call and
 // is not one too many. Where none is left to come, that nothing came to an ask without an answer,
 // else none.
+#[inline(always)]
 fn next_of<J: Naming, R: Wait>(
     rt: &R,
     replies: &mut Replies<J>,
@@ -227,6 +228,7 @@ impl<J: Naming> Transport<J> for Mailboxes<'_, J> {
         tell_ask(&mut self.sheet, to, ask, posted);
     }
 
+    #[inline(always)]
     fn next_reply<R: Wait>(&mut self, rt: &R) -> Option<(Place, Answer<J>)> {
         next_of(rt, &mut self.replies, &mut self.sheet)
     }

@@ -1,14 +1,15 @@
 // A worker of a node: it answers what comes to the node's mailbox.
-ghost use Rattle.std.specs.Prelude.{◌≡◌, true, false, None};
+ghost use Rattle.std.specs.Prelude.{◌≡◌, true, false, None, IfNone, IfSome};
 ghost use Rattle.dy_node.specs.Answers.{AnsweredBy, IsDown, MayAsk};
-ghost use Rattle.dy_mailboxes.specs.inside.Calls.{messages_of};
+ghost use Rattle.dy_mailboxes.specs.inside.Calls.{message, messages_of};
 
 use crate::gates::Gate;
 use crate::parcels::{Answered, Posted};
 use crate::posts::Inbox;
+use crate::replies::ReplyTo;
 use dy_book::Book;
 use dy_dots::NodeId;
-use dy_node::{Answer, Ask, Node, answer};
+use dy_node::{Answer, Ask, Node, answer, answer_plainly};
 use dy_shares::Naming;
 use dy_transport::lock_soon;
 use std::sync::{Mutex, Wait};
@@ -56,6 +57,27 @@ pub fn serve<J: Naming, G: Gate, R: Wait>(
 
 // Answers an ask behind which no other lies in the mailbox. It need not be put into a round.
 fn serve_lone<J: Naming, G: Gate, R: Wait>(
+    rt: &R,
+    node: &Mutex<Node<J>>,
+    book: &Mutex<Book<J>>,
+    posted: Posted<J>,
+    gate: &G,
+) {
+    let plain = {
+        let mut held = lock_soon(rt, node);
+        let mut open = lock_soon(rt, book);
+        answer_plain(&mut held, &mut open, &posted)
+    };
+    match plain {
+        Some(answer) => send_answer(rt, posted, answer, gate),
+        None => serve_by_mode(rt, node, book, posted, gate),
+    }
+}
+
+// The same at a node that is down, or in another mode than the plain one. It is a call of its own,
+// since few nodes are.
+#[inline(never)]
+fn serve_by_mode<J: Naming, G: Gate, R: Wait>(
     rt: &R,
     node: &Mutex<Node<J>>,
     book: &Mutex<Book<J>>,
@@ -139,7 +161,34 @@ fn send_round<J: Naming, G: Gate, R: Wait>(
     }
 }
 
+// Sends the one answer to an ask.
+fn send_answer<J: Naming, G: Gate, R: Wait>(
+    rt: &R,
+    posted: Posted<J>,
+    answer: Answer<J>,
+    gate: &G,
+) {
+    let to = posted.to;
+    let mut reply_to = posted.reply_to;
+    let answered = lone_message(reply_to.call, reply_to.number, answer);
+    reply_to.send(rt, gate, to, answered);
+}
+
+// The message that carries the one answer to an ask.
+fn lone_message<J: Naming>(call: u64, number: usize, answer: Answer<J>) -> Answered<J>
+    ensures { result ≡ message call number answer true }
+{
+    let is_last = true;
+    Answered {
+        call,
+        number,
+        answer,
+        is_last,
+    }
+}
+
 // Sends the answers to an ask.
+#[inline(always)]
 fn send_answers<J: Naming, G: Gate, R: Wait>(
     rt: &R,
     posted: Posted<J>,
@@ -152,8 +201,20 @@ fn send_answers<J: Naming, G: Gate, R: Wait>(
     let (first, second) = messages(reply_to.call, reply_to.number, first, later);
     reply_to.send(rt, gate, to, first);
     if let Some(second) = second {
-        reply_to.send(rt, gate, to, second);
+        send_later(rt, &mut reply_to, to, second, gate);
     }
+}
+
+// Sends the later answer of a node that is late. It is a call of its own, since few nodes are.
+#[inline(never)]
+fn send_later<J: Naming, G: Gate, R: Wait>(
+    rt: &R,
+    reply_to: &mut ReplyTo<J>,
+    to: NodeId,
+    later: Answered<J>,
+    gate: &G,
+) {
+    reply_to.send(rt, gate, to, later);
 }
 
 // The messages that carry the answers to an ask.
@@ -181,6 +242,36 @@ fn messages<J: Naming>(
         }),
     };
     (first, second)
+}
+
+// The answer to an ask on its way of a node that is up and in the plain mode. None where it is not,
+// and nothing is done then.
+fn answer_plain<J: Naming>(
+    held: &mut Node<J>,
+    book: &mut Book<J>,
+    posted: &Posted<J>,
+) -> Option<Answer<J>> {
+    answer_plain_held(held, book, posted.to, &posted.parcel.ask())
+}
+
+// The same of a node that has another number than the one asked: none.
+fn answer_plain_held<J: Naming>(
+    held: &mut Node<J>,
+    book: &mut Book<J>,
+    to: NodeId,
+    ask: &Ask<'_, J>,
+) -> Option<Answer<J>>
+    requires { MayAsk J.ring J.n to ask.now }
+    ensures own { IfSome result (λ _. held.old.part.node ≡ to) }
+    ensures up { IfSome result (λ _. held.old.is_up ≡ true) }
+    ensures some { IfSome result (λ answer. AnsweredBy held.old.mode ask.now
+        held.old book.old held.new book.new answer None) }
+    ensures none { IfNone result ((held.new ≡ held.old) × (book.new ≡ book.old)) }
+{
+    if held.number() != to {
+        return None;
+    }
+    answer_plainly(held, book, ask)
 }
 
 // The node's answers to an ask on its way.

@@ -1,5 +1,5 @@
 // A node's answers, by its flag and mode.
-ghost use Rattle.std.specs.Prelude.{◌≡◌, ◌↔◌, true, false, None};
+ghost use Rattle.std.specs.Prelude.{◌≡◌, ◌↔◌, true, false, None, IfNone, IfSome};
 ghost use Rattle.dy_node.specs.Answers.{AnsweredBy, IsDone, IsDown, IsPutOff, IsRepeated, MayAsk};
 
 use crate::asks::{Answer, Ask};
@@ -8,8 +8,9 @@ use dy_book::Book;
 use dy_modes::Mode;
 use dy_shares::Naming;
 
-// Does what is asked, whatever the mode.
-fn run<J: Naming>(node: &mut Node<J>, book: &mut Book<J>, ask: &Ask<'_, J>) -> Answer<J>
+// Does what is asked, whatever the mode. It lies in its callers, which copy the answer once less.
+#[inline(always)]
+fn run_here<J: Naming>(node: &mut Node<J>, book: &mut Book<J>, ask: &Ask<'_, J>) -> Answer<J>
     requires { MayAsk J.ring J.n node.old.part.node ask.now }
     ensures done { IsDone ask.now node.old book.old node.new book.new result }
     ensures number { node.new.part.node ≡ node.old.part.node }
@@ -24,6 +25,16 @@ fn run<J: Naming>(node: &mut Node<J>, book: &mut Book<J>, ask: &Ask<'_, J>) -> A
             Err(fault) => Answer::Refused(fault),
         },
     }
+}
+
+// The same as a call of its own, in the rarer modes.
+#[inline(never)]
+fn run<J: Naming>(node: &mut Node<J>, book: &mut Book<J>, ask: &Ask<'_, J>) -> Answer<J>
+    requires { MayAsk J.ring J.n node.old.part.node ask.now }
+    ensures done { IsDone ask.now node.old book.old node.new book.new result }
+    ensures number { node.new.part.node ≡ node.old.part.node }
+{
+    run_here(node, book, ask)
 }
 
 // Keeps a row for later. Of a fetch it does nothing.
@@ -77,7 +88,32 @@ fn answer_by_mode<J: Naming>(
     }
 }
 
+/// The answer of a node that is up and in the plain mode, which is all that it answers. None where
+/// it is not, and nothing is done then: `answer` tells what it answers.
+#[inline(always)]
+pub fn answer_plainly<J: Naming>(
+    node: &mut Node<J>,
+    book: &mut Book<J>,
+    ask: &Ask<'_, J>,
+) -> Option<Answer<J>>
+    requires { MayAsk J.ring J.n node.old.part.node ask.now }
+    ensures up { IfSome result (λ _. node.old.is_up ≡ true) }
+    ensures some { IfSome result (λ answer.
+        AnsweredBy node.old.mode ask.now node.old book.old node.new book.new answer None) }
+    ensures none { IfNone result ((node.new ≡ node.old) × (book.new ≡ book.old)) }
+    ensures only { IfNone result (node.old.is_up ≡ true → node.old.mode ≡ Mode.Plain → ⊥) }
+{
+    if !node.is_up() {
+        return None;
+    }
+    match node.mode() {
+        Mode::Plain => Some(run_here(node, book, ask)),
+        _ => None,
+    }
+}
+
 /// A node's answer to an ask, by its flag and mode. A node that is up and late gives a second one.
+#[inline(always)]
 pub fn answer<J: Naming>(
     node: &mut Node<J>,
     book: &mut Book<J>,
@@ -94,7 +130,7 @@ pub fn answer<J: Naming>(
         return (Answer::Down, None);
     }
     match node.mode() {
-        Mode::Plain => (run(node, book, ask), None),
+        Mode::Plain => (run_here(node, book, ask), None),
         _ => answer_by_mode(node, book, ask),
     }
 }

@@ -61,6 +61,7 @@ fn plan_next<J: Naming>(
 }
 
 // Copies what is kept for the home, and then issues the version in the book.
+#[inline(always)]
 fn copy_and_issue<J: Naming>(
     alloc: Global,
     stores: &Stores,

@@ -17,6 +17,7 @@ use dy_siblings::Key;
 impl<J: Naming> Node<J> {
     /// Fetches the row that the node keeps of the key for the home. Where it keeps none, the row
     /// has no version. The number of the step is greater than the since.
+    #[inline(always)]
     pub fn fetch(
         &mut self,
         book: &mut Book<J>,

@@ -15,7 +15,7 @@ mod rests;
 mod settling;
 mod stores;
 
-pub use answering::answer;
+pub use answering::{answer, answer_plainly};
 pub use asks::{Answer, Ask};
 pub use begun::Begun;
 pub use dy_book::{RowRef, VouchedRow};

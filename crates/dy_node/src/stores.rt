@@ -150,6 +150,7 @@ impl Stores {
 
     /// Merges the row into what is kept for the home, and says how to undo that. Takes no memory
     /// where this very row is kept already.
+    #[inline(always)]
     pub(crate) fn add(&mut self, home: NodeId, row: &Row) -> Result<Placed, Fault>
         requires { AreOneByDot
             (versions_at self.old.rooms home row.now.key ++ row.now.versions) }
@@ -162,11 +163,9 @@ impl Stores {
         // They are the versions of a row: none of them lies in another's past.
         let _versions = row.versions();
         if home == self.node {
-            let placed = self.own.absorb(row)?;
-            Ok(placed)
+            self.own.absorb(row)
         } else {
-            let placed = self.hints.absorb(home, row)?;
-            Ok(placed)
+            self.hints.absorb(home, row)
         }
     }
 

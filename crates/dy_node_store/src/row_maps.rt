@@ -116,19 +116,27 @@ impl RowMap {
         ensures memory { IsOkUnless result Fault.OutOfMemory }
     {
         match self.rows.get_mut(row.key()) {
-            Some(kept) => {
-                let placed = merge_into(self.alloc, kept, row)?;
-                Ok(placed)
-            }
-            None => {
-                if row.is_empty() {
-                    return Ok(Placed::Nothing);
-                }
-                let copy = row.try_clone(self.alloc)?;
-                self.put_new(copy)?;
-                Ok(Placed::New)
-            }
+            Some(kept) => merge_into(self.alloc, kept, row),
+            None => self.absorb_new(row),
         }
+    }
+
+    // Keeps a copy of the row, where it has a version. Its key has none yet. It is a call of its
+    // own, since most keys have one.
+    #[inline(never)]
+    fn absorb_new(&mut self, row: &Row) -> Result<Placed, Fault>
+        requires absent { maps.get self.old row.now.key ≡ None }
+        ensures ok { IfOk result
+            (IsAbsorbed self.old self.new (with_versions self.old row.now.key) None row.now) }
+        ensures err { OnErr result (self.new ≡ self.old) }
+        ensures memory { IsOkUnless result Fault.OutOfMemory }
+    {
+        if row.is_empty() {
+            return Ok(Placed::Nothing);
+        }
+        let copy = row.try_clone(self.alloc)?;
+        self.put_new(copy)?;
+        Ok(Placed::New)
     }
 
     /// Puts the row in the place of its key's, and gives that back. Takes no memory.
@@ -234,10 +242,7 @@ fn merge_into(alloc: Global, kept: &mut Row, row: &Row) -> Result<Placed, Fault>
     }
     match kept.put_beside(alloc, row)? {
         Some(put) => Ok(Placed::Beside(put.1)),
-        None => {
-            let placed = merge_over(alloc, kept, row)?;
-            Ok(placed)
-        }
+        None => merge_over(alloc, kept, row),
     }
 }
 

@@ -87,6 +87,7 @@ impl NodeStore {
 
     /// Merges the row into what is kept of its key, in the place of that, and tells what was there.
     /// Takes no memory where the row is kept as it is.
+    #[inline(always)]
     pub fn absorb(&mut self, row: &Row) -> Result<Placed, Fault>
         requires { AreOneByDot (versions_of self.old.rows row.now.key ++ row.now.versions) }
         ensures ok { IfOk result (IsAbsorbed self.old self.new
@@ -96,8 +97,7 @@ impl NodeStore {
         ensures spared { maps.get self.old.rows row.now.key ≡ Some row.now → IsOk result }
         ensures memory { IsOkUnless result Fault.OutOfMemory }
     {
-        let placed = self.rows.absorb(row)?;
-        Ok(placed)
+        self.rows.absorb(row)
     }
 
     /// Puts the row in the place of its key's, and gives that back. Takes no memory.

@@ -196,6 +196,56 @@ module _ {A : Type 0} where
       subst P (append_assoc before (x ∷ []) xs)
       (are_from home (before ++ x ∷ []) xs (are_push home before x i))
 
+  one_more : (home : A → ℕ) (before : List A) (x : A) →
+      length (firsts_by home (before ++ x ∷ [])) ≤ length (firsts_by home before) + 1
+  one_more home before x = elim (cases_Bool (home_in (map home (firsts_by home before)) (home x))) [
+    | inl has ↦ (let same = ap length (firsts_same home before x has) in omega arith)
+    | inr lacks ↦ (let more = ap length (firsts_more home before x lacks)
+        ∙ length-append (firsts_by home before) (x ∷ []) in omega arith)
+  ]
+
+  few_from : (home : A → ℕ) (before xs : List A) →
+      length (firsts_by home (before ++ xs)) ≤ length (firsts_by home before) + length xs
+  few_from home before [] =
+      let P : List A → Type 0 =
+      λ ys. length (firsts_by home ys) ≤ length (firsts_by home before) + 0 in
+      subst P (sym (append-nil before)) (omega arith)
+  few_from home before (x ∷ xs) =
+      let rest : length (firsts_by home ((before ++ x ∷ []) ++ xs))
+      ≤ length (firsts_by home (before ++ x ∷ [])) + length xs =
+      few_from home (before ++ x ∷ []) xs in
+      let first = one_more home before x in
+      let P : List A → Type 0 =
+      λ ys. length (firsts_by home ys) ≤ length (firsts_by home before) + suc (length xs) in
+      subst P (append_assoc before (x ∷ []) xs) (omega (arith, rest, first))
+
+  -- where as many are taken as there are, all are
+  all_taken_from : (home : A → ℕ) (before xs : List A) → firsts_by home before ≡ before →
+      length (firsts_by home (before ++ xs)) ≡ length before + length xs →
+      firsts_by home (before ++ xs) ≡ before ++ xs
+  all_taken_from home before [] all count =
+      let P : List A → Type 0 = λ ys. firsts_by home ys ≡ ys in
+      subst P (sym (append-nil before)) all
+  all_taken_from home before (x ∷ xs) all count =
+      let same : (before ++ x ∷ []) ++ xs ≡ before ++ x ∷ xs = append_assoc before (x ∷ []) xs in
+      let P : List A → Type 0 = λ ys. firsts_by home ys ≡ ys in
+      let counted : length (firsts_by home ((before ++ x ∷ []) ++ xs))
+      ≡ length before + suc (length xs) = ap (λ ys. length (firsts_by home ys)) same ∙ count in
+      let longer : length (before ++ x ∷ []) ≡ length before + 1 = length-append before (x ∷ []) in
+      elim (cases_Bool (home_in (map home (firsts_by home before)) (home x))) [
+        | inl has ↦ absurd (
+            let few = few_from home (before ++ x ∷ []) xs in
+            let as_before = ap length (firsts_same home before x has) in
+            let whole = ap length all in omega (arith, few, as_before, whole, counted))
+        | inr lacks ↦ subst P same (all_taken_from home (before ++ x ∷ []) xs
+            (firsts_more home before x lacks ∙ ap (λ fs. fs ++ x ∷ []) all)
+            (counted ∙ (omega (arith, longer))))
+      ]
+
+  pub all_taken : (home : A → ℕ) (xs : List A) → length (firsts_by home xs) ≡ length xs →
+      firsts_by home xs ≡ xs
+  all_taken home xs count = all_taken_from home [] xs refl (count ∙ omega arith)
+
   -- whatever the list, what is taken is the first of each home
   pub are_firsts : (home : A → ℕ) (xs : List A) → AreFirstsBy home xs (firsts_by home xs)
   are_firsts home xs = are_from home [] xs (are_none home)

@@ -1,5 +1,6 @@
 ghost use Rattle.std.specs.{
   Prelude.{◌≡◌, ◌<◌, ◌≤◌, ◌++◌, ◌∷◌, [], length, map, take, IfOk, IsOkUnless, MatchBool, ◌==◌},
+  Prelude.{◌↔◌, IsTrue},
   List.{list_any},
 };
 ghost use Rattle.dy_quorum.specs.Gatherings.{answer_place, first_answers};
@@ -115,6 +116,21 @@ impl<J: Naming> Gathering<J> {
             (length (first_answers self.now.seens) < self.now.r) }
     {
         self.r <= self.places.len()
+    }
+
+    /// All answers, in the order in which they were added. Takes no memory.
+    pub fn seens(&self) -> &Vec<Seen<J>>
+        ensures { result.now.items ≡ self.now.seens }
+    {
+        &self.seens
+    }
+
+    /// Whether no home answered twice: then all answers are used, and none need be copied. Takes no
+    /// memory.
+    pub fn has_firsts_alone(&self) -> bool
+        ensures { IsTrue result ↔ (first_answers self.now.seens ≡ self.now.seens) }
+    {
+        self.places.len() == self.seens.len()
     }
 
     /// Copies of the first answer of each home, in the order in which they were added.

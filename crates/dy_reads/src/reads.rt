@@ -71,6 +71,7 @@ fn ask_next<J: Naming, T: Transport<J>, R: Wait>(
 
 /// Reads the next answer and lists it; where it is not what was asked for, the next node is asked
 /// to stand in. May wait for an answer, and for locks. Takes no memory.
+#[inline(always)]
 pub fn read_next<J: Naming, T: Transport<J>, R: Wait>(
     rt: &R,
     transport: &mut T,

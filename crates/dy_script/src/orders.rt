@@ -116,6 +116,7 @@ pub(crate) fn command_of(
 }
 
 /// The command that the members say, on a ring of so many nodes.
+#[inline(always)]
 #[tactic(auto, unfolding(crate::specs::Orders::command_of, crate::specs::Orders::command_named))]
 pub(crate) fn command_in(alloc: Global, order: Order, nodes: usize) -> Result<Command, Fault>
     ensures { IsReadingOf command_parts result

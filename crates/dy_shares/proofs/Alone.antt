@@ -1,5 +1,5 @@
 -- A set of one dot is one run.
-use Rattle.std.proofs.Common.{◌≡◌, ◌≤◌, List, [], ◌∷◌, refl, sym, ◌∙◌, subst, inl, inr, ⊎_elim, arith}
+use Rattle.std.proofs.Common.{[], ◌∷◌, refl, sym, ◌∙◌, subst, inl, inr, ⊎_elim, arith}
 use Rattle.std.proofs.lemmas.Bool.{cases_lt, or_cases, true≢false}
 use Rattle.std.specs.FinSet as set
 use Rattle.dy_dots.specs.Dots.{AreDots, DotSet, IsDot, dot_cmp, same_dot}

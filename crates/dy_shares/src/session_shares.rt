@@ -189,13 +189,27 @@ impl<J: Naming> SessionShare<J> {
         ensures err { OnErr result (self.new ≡ self.old) }
         ensures memory { IsOkUnless result Fault.OutOfMemory }
     {
+        self.note_get_lent(&seens)
+    }
+
+    /// `note_get` of answers that the caller goes on to use.
+    pub fn note_get_lent(&mut self, seens: &Vec<Seen<J>>) -> Result<(), Fault>
+        requires count { length seens.now.items ≡ J.r }
+        requires one_key { (key : List ℕ) × All (λ a. a.key ≡ key) seens.now.items }
+        requires homes { IsDistinct nat_eq (map (λ a. a.home) seens.now.items) }
+        requires later { All (λ a. since_of self.old < a.at) seens.now.items }
+        ensures ok { OnOk result
+            (self.new ≡ with_get self.old (since_of self.old) seens.now.items) }
+        ensures err { OnErr result (self.new ≡ self.old) }
+        ensures memory { IsOkUnless result Fault.OutOfMemory }
+    {
         self.gets.reserve(1)?;
         self.numbers.fetches.reserve(seens.len())?;
         let since = self.since;
         self.since = learn_all(&mut self.front, since, seens.as_slice());
         let acks = self.spent.len();
         push_numbers(&mut self.numbers.fetches, seens.as_slice());
-        self.gets.push_reserved(Get::of(since, &seens, acks));
+        self.gets.push_reserved(Get::of(since, seens, acks));
         Ok(())
     }
 

@@ -121,10 +121,7 @@ impl<'a> StepRef<'a> {
                 let version = version.try_clone(alloc)?;
                 Ok(KeptStep::Issued { version })
             }
-            Said::Held { place, row } => {
-                let kept = keep_hold(alloc, *place, row)?;
-                Ok(kept)
-            }
+            Said::Held { place, row } => keep_hold(alloc, *place, row),
             Said::Released { place, key, dot } => {
                 let key = key.try_clone(alloc)?;
                 Ok(KeptStep::Released {

@@ -125,6 +125,17 @@ fn newer<'a>(mine: &'a Version, theirs: &'a Version) -> Option<&'a Version>
     }
 }
 
+/// Whether each list is one version, and both versions are one: what most homes answer to a get.
+pub(crate) fn are_one(a: &[Version], b: &[Version]) -> bool
+    requires { AreOneByDot (a.now ++ b.now) }
+    ensures { IsTrue result → IsMerge a.now b.now a.now }
+{
+    match (only(a), only(b)) {
+        (Some(mine), Some(theirs)) => mine.dot() == theirs.dot(),
+        _ => false,
+    }
+}
+
 /// Whether each version of the one list has its dot among those of the other, in one pass over
 /// both.
 fn are_among(a: &[Version], b: &[Version]) -> bool

@@ -68,6 +68,7 @@ impl Row {
     }
 
     /// The row of the version's key that has this version alone.
+    #[inline(always)]
     pub fn of(alloc: Global, version: Version) -> Result<Row, Fault>
         ensures ok { IfOk result (λ row.
             row ≡ record { key = version.key; versions = version ∷ [] }) }
@@ -183,6 +184,9 @@ impl Row {
         if other.is_empty() {
             return Ok(());
         }
+        if merging::are_one(mine, other.versions.as_slice()) {
+            return Ok(());
+        }
         self.versions = merging::merged(alloc, mine, other.versions.as_slice())?;
         self.may_follow = self.may_follow | other.may_follow;
         Ok(())
@@ -282,6 +286,7 @@ impl Row {
     }
 
     /// A copy.
+    #[inline(always)]
     pub fn try_clone(&self, alloc: Global) -> Result<Row, Fault>
         ensures ok { IfOk result (λ row. row ≡ self.now) }
         ensures valid { IfOk result (λ row. IsSiblingSet row.key row.versions) }

@@ -1,7 +1,7 @@
 -- What a node gives is what is asked for: whatever its mode, its first answer fits, and a second one
 -- comes only after the news that nothing came; and what it begins has the version in its row.
 use Rattle.std.proofs.Common.{◌≡◌, ℕ, List, [], ◌∷◌, ◌++◌, Bool, true, false, not, None, Some}
-use Rattle.std.proofs.Common.{Option, refl, sym, ◌∙◌, ⊎_elim}
+use Rattle.std.proofs.Common.{Option, refl, sym, true≢false, ◌∙◌, ⊎_elim}
 use Rattle.std.proofs.Common.{ap, subst, Result, Ok, Err, IfOk, IfSome, IsTrue, OnOk}
 use Rattle.std.specs.FinSet as set
 use Rattle.std.specs.List.{Contains}
@@ -191,6 +191,16 @@ module _ {J : Type 0} where
       AreAnswers old.part.node ask first second
   answers_fit ask old b new c first second down nothing up =
       by_flag old.is_up ask old b new c first second refl down nothing up
+
+  -- so does the one answer of a node that is up and in the plain mode
+  pub plainly_fits : (ask : Ask J) (old : NodeState) (b : BookParts) (new : NodeState)
+      (c : BookParts) (answer : Option (Answer J)) → IfSome answer (λ _. old.is_up ≡ true) →
+      IfSome answer (λ a. AnsweredBy old.mode ask old b new c a None) →
+      IfSome answer (λ a. IsAnswerTo old.part.node ask a)
+  plainly_fits ask old b new c None up some = tt
+  plainly_fits ask old b new c (Some a) up some =
+      (answers_fit ask old b new c a None (λ down. absurd (true≢false (sym up ∙ down)))
+      (λ down. absurd (true≢false (sym up ∙ down))) (λ _. some)).is_first
 
   -- what is begun, from the version that was made and from what was held
   pub begun_fits : (layout : Layout) (node home : ℕ) (key : List ℕ) (context : DotSet)

@@ -1,5 +1,6 @@
-ghost use Rattle.std.specs.Prelude.{◌≡◌, ◌<◌, ◌^◌, IfOk, IsOk, IsOkUnless, OnErr, OnOk};
-ghost use Rattle.dy_transport.specs.Told.{nothing_told};
+ghost use Rattle.std.specs.Prelude.{◌≡◌, ◌<◌, ◌^◌, IfOk, IsOk, IsOkUnless, OnErr, OnOk, length};
+ghost use Rattle.dy_node.specs.Answers.{MayAsk};
+ghost use Rattle.dy_transport.specs.Told.{nothing_told, with_ask};
 
 use crate::lines::Line;
 use crate::reaches::Reach;
@@ -57,6 +58,18 @@ impl<'a, J: Naming> Direct<'a, J> {
         let reach = Reach::new(alloc, nodes, book);
         Ok(Direct { reach, line })
     }
+
+    // Asks a node that is down, or in another mode than the plain one. It is a call of its own,
+    // since few nodes are.
+    #[inline(never)]
+    fn ask_by_mode<R: Wait>(&mut self, rt: &R, to: NodeId, ask: &Ask<'_, J>)
+        requires room { length self.old.asks < self.old.room }
+        requires may_ask { MayAsk J.ring J.n to ask.now }
+        ensures { self.new ≡ with_ask self.old to ask.now }
+    {
+        let (first, second) = self.reach.answer_at(rt, to, ask);
+        self.line.put(to, ask, first, second);
+    }
 }
 
 impl<J: Naming> Transport<J> for Direct<'_, J> {
@@ -77,10 +90,13 @@ impl<J: Naming> Transport<J> for Direct<'_, J> {
     }
 
     fn ask<R: Wait>(&mut self, rt: &R, to: NodeId, ask: &Ask<'_, J>) {
-        let (first, second) = self.reach.answer_at(rt, to, ask);
-        self.line.put(to, ask, first, second);
+        match self.reach.answer_plainly_at(rt, to, ask) {
+            Some(answer) => self.line.put(to, ask, answer, None),
+            None => self.ask_by_mode(rt, to, ask),
+        }
     }
 
+    #[inline(always)]
     fn next_reply<R: Wait>(&mut self, rt: &R) -> Option<(Place, Answer<J>)> {
         let _ = rt;
         self.line.next()

@@ -1,6 +1,6 @@
 ghost use Rattle.std.specs.{
   Prelude.{◌≡◌, ◌↔◌, true, false, None, IsTrue, IfOk, IfErr, IfSome, IsErrOf, IsOkUnless, OnErr},
-  Prelude.{OnOk},
+  Prelude.{IfNone, OnOk},
   Result.{result_err},
   List.{All},
   Sync.Mutex.{mutex_guard_value},
@@ -24,7 +24,7 @@ use crate::locks::lock_soon;
 use dy_book::Book;
 use dy_core::Place;
 use dy_dots::{Context, Fault, NodeId};
-use dy_node::{Answer, Ask, Begun, Node, RowFor, answer};
+use dy_node::{Answer, Ask, Begun, Node, RowFor, answer, answer_plainly};
 use dy_shares::{Naming, Receipt, Seen, Since};
 use dy_siblings::{Key, Value};
 use std::alloc::Global;
@@ -119,6 +119,19 @@ fn answer_by<J: Naming>(
     answer(held, book, ask)
 }
 
+// The answer of this node, where it is up and in the plain mode.
+fn answer_plainly_by<J: Naming>(
+    held: &mut Node<J>,
+    book: &mut Book<J>,
+    ask: &Ask<'_, J>,
+) -> Option<Answer<J>>
+    requires { MayAsk J.ring J.n held.old.part.node ask.now }
+    ensures answer { IfSome result (λ answer. IsAnswerTo held.old.part.node ask.now answer) }
+    ensures none { IfNone result ((held.new ≡ held.old) × (book.new ≡ book.old)) }
+{
+    answer_plainly(held, book, ask)
+}
+
 impl<'a, J: Naming> Reach<'a, J> {
     /// These nodes and this book. Takes no memory.
     pub fn new(
@@ -142,6 +155,7 @@ impl<'a, J: Naming> Reach<'a, J> {
     }
 
     // Begins a put at the holder for the home, under the node's lock and the book's.
+    #[inline(always)]
     pub(crate) fn begin_at<R: Wait>(
         &self,
         rt: &R,
@@ -164,6 +178,7 @@ impl<'a, J: Naming> Reach<'a, J> {
     }
 
     // Fetches at the holder for the home, under the node's lock and the book's.
+    #[inline(always)]
     pub(crate) fn look_at<R: Wait>(
         &self,
         rt: &R,
@@ -210,6 +225,22 @@ impl<'a, J: Naming> Reach<'a, J> {
         };
         let mut open = lock_soon(rt, self.book);
         held.settle(&mut open, receipts)
+    }
+
+    // The answer of the node, where it is up and in the plain mode. None where it is not, and
+    // nothing was done then.
+    pub(crate) fn answer_plainly_at<R: Wait>(
+        &self,
+        rt: &R,
+        to: NodeId,
+        ask: &Ask<'_, J>,
+    ) -> Option<Answer<J>>
+        requires { MayAsk J.ring J.n to ask.now }
+        ensures { IfSome result (λ answer. IsAnswerTo to ask.now answer) }
+    {
+        let mut held = self.lock_node(rt, to)?;
+        let mut open = lock_soon(rt, self.book);
+        answer_plainly_by(&mut held, &mut open, ask)
     }
 
     /// The node's first and later answer. May wait for locks.

@@ -1,49 +1,23 @@
 -- Where nothing is held at the place, the merge is put among the places; else it replaces what is.
-use Rattle.std.proofs.Common.{◌≡◌, ◌<◌, ◌++◌, List, [], IfNone, true, false, length, get_or, set, sym}
+use Rattle.std.proofs.Common.{◌≡◌, ◌<◌, List, IfNone, true, false, length, get_or, set, sym}
 use Rattle.std.proofs.Common.{ap, ◌∙◌, subst}
 use Rattle.std.specs.List.{list_any}
 use Rattle.std.proofs.lemmas.List.{get_or-set_same, length-set, set-get_or, set-set}
-use Rattle.dy_siblings.specs.Siblings.{AreOneByDot, IsSameRow, merge}
-use Rattle.dy_core.specs.Orders.{holding_cmp, put}
+use Rattle.dy_siblings.specs.Siblings.{IsSameRow, merge}
 use Rattle.dy_core.specs.inside.Meanings.{is_at, row_in}
 use Rattle.dy_core.specs.declared.holdings.Holding.{Holding}
 use Rattle.dy_core.proofs.Held.{Spot, spot_from}
 use Rattle.dy_index.specs.Merges.{FitsIn, merged_by, nothing, taken_back}
-use Rattle.dy_index.proofs.Besides.{nothing_there, put_there}
+use Rattle.dy_index.proofs.Besides.{put_there}
 use Rattle.dy_index.proofs.merges.begin_at.Goals as goal
 
-pub held_first-requires : goal.held_first-requires
-held_first-requires c =
-    let old : List Holding = c.args.places.now.items in
-    let row = c.args.row.now in
+pub begin_first-requires-clause-nothing : goal.begin_first-requires-clause-nothing
+begin_first-requires-clause-nothing c =
     let none = subst (λ o. IfNone o (list_any
     (is_at c.args.holder c.args.home c.key.result.now) c.as_slice.result.now ≡ false))
     c.in_default.is c.index_of.ensures.none in
-    let empty : row_in old c.args.holder c.args.home row.key ≡ [] =
-    sym (λ i. row_in (c.as_slice.ensures.value i) c.args.holder c.args.home (c.key.ensures i))
-    ∙ nothing_there c.args.holder c.args.home c.key.result.now c.as_slice.result.now none in
-    subst (λ vs. AreOneByDot (vs ++ row.versions)) empty c.requires.agree
-
-pub returns-clause-held : goal.returns-clause-held
-returns-clause-held c =
-    let old : List Holding = c.args.places.now.items in
-    let row = c.args.row.now in
-    let custody = c.in_ok-custody.custody in
-    let none = subst (λ o. IfNone o (list_any
-    (is_at c.args.holder c.args.home c.key.result.now) c.as_slice.result.now ≡ false))
-    c.in_default.is c.index_of.ensures.none in
-    let empty : row_in old c.args.holder c.args.home row.key ≡ [] =
-    sym (λ i. row_in (c.as_slice.ensures.value i) c.args.holder c.args.home (c.key.ensures i))
-    ∙ nothing_there c.args.holder c.args.home c.key.result.now c.as_slice.result.now none in
-    record {
-      held = custody;
-      holder_is = c.in_ok-custody.ensures.holder;
-      home_is = c.in_ok-custody.ensures.home;
-      key_is = c.in_ok-custody.ensures.key;
-      merged = subst (λ vs. IsSameRow custody.row.versions (merge vs row.versions)) (sym empty)
-          c.in_ok-custody.ensures.row;
-      placed = ap (λ hs. put holding_cmp hs custody) c.reserve.ensures.items;
-    }
+    sym (λ i. list_any (is_at c.args.holder c.args.home (c.key.ensures i)) (c.as_slice.ensures.value i))
+    ∙ none
 
 pub returns-in-Some-clause-held : goal.returns-in-Some-clause-held
 returns-in-Some-clause-held c =

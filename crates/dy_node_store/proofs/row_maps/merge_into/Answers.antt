@@ -1,5 +1,5 @@
 -- By whether one version follows the one that is there, or comes beside those that are.
-use Rattle.std.proofs.Common.{◌≡◌, ◌∷◌, [], true, false, List, Some, IfSome, IfNone, refl, sym, ap, ◌∙◌, subst, arith}
+use Rattle.std.proofs.Common.{◌≡◌, ◌∷◌, [], true, false, List, Some, IfSome, IfNone, IfOk, refl, sym, ap, ◌∙◌, subst, arith}
 use Rattle.dy_siblings.specs.Siblings.{Siblings, IsSameRow, merge, without}
 use Rattle.dy_siblings.specs.Versions.{VersionParts}
 use Rattle.dy_node_store.specs.Absorbing.{IsAbsorbed, IsMergeOf}
@@ -54,10 +54,10 @@ returns-in-Some-2-clause-ok c =
     )
 
 -- none does: what is there stayed
-pub returns-in_ok-placed-in-None-clause-ok : goal.returns-in_ok-placed-in-None-clause-ok
-returns-in_ok-placed-in-None-clause-ok c =
+pub returns-in-None-clause-ok : goal.returns-in-None-clause-ok
+returns-in-None-clause-ok c =
     let row = c.args.row.now in
-    subst (λ (k : Siblings). IsAbsorbed k c.merge_over.new.kept (λ (vs : List VersionParts). record { key = row.key; versions = vs }) (Some k) row
-    c.in_ok-placed-in-None.placed)
+    subst (λ (k : Siblings). IfOk c.merge_over.result (IsAbsorbed k c.merge_over.new.kept
+    (λ (vs : List VersionParts). record { key = row.key; versions = vs }) (Some k) row))
     (subst (λ o. IfNone o (c.put_beside.new.self ≡ c.args.kept.now)) c.in-None.is c.in_ok-put.ensures.same)
-    c.in_ok-placed-in-None.ensures.ok
+    c.merge_over.ensures.ok

@@ -1,5 +1,5 @@
 -- The row that is lent has the dots that are kept.
-use Rattle.std.proofs.Common.{◌≡◌, ◌+◌, ◌<◌, ◌≤◌, List, [], ◌∷◌, length, get_or, refl, sym, ap, ◌∙◌, subst, arith}
+use Rattle.std.proofs.Common.{◌≡◌, ◌<◌, ◌≤◌, List, [], ◌∷◌, length, get_or, refl, sym, ap, ◌∙◌, subst, arith}
 use Rattle.dy_dots.specs.Runs.{AreRunsOf}
 use Rattle.dy_dots.specs.declared.runs.Run.{Run}
 use Rattle.dy_siblings.specs.Siblings.{own_dots}

@@ -1,5 +1,6 @@
 -- Room for the home shows the same hints, and then its map took in the row or refused it.
-use Rattle.std.proofs.Common.{◌≡◌, ◌++◌, true, false, OnErr, Result, Ok, Err, sym, ap, ◌∙◌, set, subst}
+use Rattle.std.proofs.Common.{◌++◌, OnErr, Result, Ok, Err, sym, ap, ◌∙◌, set, subst}
+use Rattle.std.proofs.lemmas.Result.{IfOk-weaker, on_err_weaker}
 use Rattle.std.specs.FinMap as maps
 use Rattle.std.proofs.lemmas.List.{get_or_default, set-get_or}
 use Rattle.dy_siblings.specs.Siblings.{AreOneByDot}
@@ -34,19 +35,19 @@ absorb-requires c =
     subst (λ o. AreOneByDot (versions_in o ++ c.args.row.now.versions)) there c.requires
 
 -- the map refused the row, and is as it was
-pub returns-in_err-placed-clause-err : goal.returns-in_err-placed-clause-err
-returns-in_err-placed-clause-err c =
-    refused _ (ap (λ rows. maps.from_entries (entries_from 0 (set c.make_room.new.homes.items c.number-at.result rows))) (c.in_err-placed.ensures.err ∙ c.index_mut.ensures.value)
+pub returns-clause-err : goal.returns-clause-err
+returns-clause-err c = on_err_weaker c.absorb.result
+    (λ same. ap (λ rows. maps.from_entries (entries_from 0 (set c.make_room.new.homes.items c.number-at.result rows))) (same ∙ c.index_mut.ensures.value)
     ∙ ap (λ homes. maps.from_entries (entries_from 0 homes)) (set-get_or _ _ c.index_mut.result.now)
     ∙ same_hints _ _ c.make_room.ensures.same ∙ c.self.view_is)
+    c.absorb.ensures.err
 
-pub returns-in_err-placed-clause-spared : goal.returns-in_err-placed-clause-spared
-returns-in_err-placed-clause-spared c same =
+pub returns-clause-spared : goal.returns-clause-spared
+returns-clause-spared c same =
     let view = same_hints _ _ c.make_room.ensures.same ∙ c.self.view_is in
     let rows_are = c.index_mut.ensures.value ∙ get_or_default _ _ c.index_mut.result.now maps.empty c.in_ok-make_room.ensures.room in
     let there = found_hint _ _ _ _ c.args.row.now.key _ view c.number-at.ensures.value rows_are in
-    let both : false ≡ true = c.in_err-placed.ensures.spared (sym there ∙ same) in
-    absurd (let no : ⊥ = cc in no)
+    c.absorb.ensures.spared (sym there ∙ same)
 
 -- the map took it in
 pub returns-clause-ok : goal.returns-clause-ok
@@ -54,6 +55,8 @@ returns-clause-ok c =
     let view = same_hints _ _ c.make_room.ensures.same ∙ c.self.view_is in
     let inside = c.in_ok-make_room.ensures.room in
     let rows_are = c.index_mut.ensures.value ∙ get_or_default _ _ c.index_mut.result.now maps.empty inside in
-    absorbed_for c.make_room.new.homes.items c.args.self.now c.number-at.result c.args.home
-    c.index_mut.result.now c.absorb.new.self c.args.row.now c.in_ok-placed.placed view
-    c.number-at.ensures.value inside rows_are c.in_ok-placed.ensures.ok
+    IfOk-weaker c.absorb.result _ _
+    (λ placed ok. absorbed_for c.make_room.new.homes.items c.args.self.now c.number-at.result c.args.home
+    c.index_mut.result.now c.absorb.new.self c.args.row.now placed view
+    c.number-at.ensures.value inside rows_are ok)
+    c.absorb.ensures.ok

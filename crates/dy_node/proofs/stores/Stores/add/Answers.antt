@@ -1,6 +1,11 @@
 -- By whose row it is.
-use Rattle.std.proofs.Common.{sym, ◌∙◌, subst}
+use Rattle.std.proofs.Common.{◌≡◌, ℕ, List, None, Option, IfOk, OnErr, Result, Ok, Err, sym, ap, ◌∙◌, subst}
+use Rattle.std.proofs.lemmas.Result.{IfOk-weaker}
 use Rattle.std.specs.FinMap as maps
+use Rattle.dy_dots.specs.declared.faults.Fault.{Fault}
+use Rattle.dy_siblings.specs.Siblings.{Siblings}
+use Rattle.dy_node_store.specs.Absorbing.{IsAbsorbed}
+use Rattle.dy_node_store.specs.declared.placed.Placed.{Placed}
 use Rattle.dy_node_store.specs.Kept.{Kept}
 use Rattle.dy_node_store.specs.Rows.{with_versions}
 use Rattle.dy_node_store.proofs.AbsorbLemmas.{absorbed_in}
@@ -12,9 +17,20 @@ use Rattle.dy_node.proofs.MergedRows.{own_hints_absent}
 use Rattle.dy_node.proofs.RoomLemmas.{apart_from}
 use Rattle.dy_node.proofs.stores.Stores.add.Goals as goal
 
+-- no hint is for the node itself, whatever came of the row
+absent_after : (hints new : Hints) (node home : ℕ) (kept : Option Siblings) (row : Siblings)
+    (r : Result Placed Fault) → (home ≡ node → ⊥) →
+    IfOk r (IsAbsorbed hints new (with_versions_for hints home row.key) kept row) →
+    OnErr r (new ≡ hints) → (k : List ℕ) →
+    maps.get hints (node, k) ≡ None → maps.get new (node, k) ≡ None
+absent_after hints new node home kept row (Ok placed) apart ok err k none =
+    own_hints_absent hints new node home kept row placed apart ok k none
+absent_after hints new node home kept row (Err e) apart ok err k none =
+    ap (λ m. maps.get m (node, k)) err ∙ none
+
 -- the node's own
-pub returns-in_ok-placed-clause-added : goal.returns-in_ok-placed-clause-added
-returns-in_ok-placed-clause-added c =
+pub returns-then-eq-clause-added : goal.returns-then-eq-clause-added
+returns-then-eq-clause-added c =
     let row = c.args.row.now in
     let own = c.self.inside.own in
     let rooms_of : Kept → Rooms = λ k. record {
@@ -22,8 +38,8 @@ returns-in_ok-placed-clause-added c =
       rows = k.rows;
       hints = c.self.inside.hints;
     } in
-    let placed = c.in_ok-placed.placed in
-    subst (λ (s : Stored). IsAdded s.rooms (rooms_of c.absorb.new.self) c.args.home row placed)
+    IfOk-weaker c.absorb.result _ _
+    (λ placed ok. subst (λ (s : Stored). IsAdded s.rooms (rooms_of c.absorb.new.self) c.args.home row placed)
     c.self.view_is
     (added_absorbed (rooms_of own) (rooms_of c.absorb.new.self) c.args.home row placed
     c.versions-versions.ensures.valid
@@ -31,18 +47,19 @@ returns-in_ok-placed-clause-added c =
     (sym c.eq.ensures ∙ c.if-eq.true)
     (absorbed_in rooms_of own c.absorb.new.self
     (λ vs. record own { rows = with_versions own.rows row.key vs }) (maps.get own.rows row.key) row
-    placed c.in_ok-placed.ensures.ok)))
+    placed ok))))
+    c.absorb.ensures.ok
 
 -- a hint
 pub invariant_of-self-else-eq : goal.invariant_of-self-else-eq
 invariant_of-self-else-eq c = λ key.
-    own_hints_absent c.self.inside.hints c.absorb-else-eq.new.self c.self.inside.node c.args.home
+    absent_after c.self.inside.hints c.absorb-else-eq.new.self c.self.inside.node c.args.home
     (maps.get c.self.inside.hints (c.args.home, c.args.row.now.key)) c.args.row.now
-    c.in_ok-placed-2.placed (apart_from _ _ (sym c.eq.ensures ∙ c.if-eq.false))
-    c.in_ok-placed-2.ensures.ok key (c.self.invariant key)
+    c.absorb-else-eq.result (apart_from _ _ (sym c.eq.ensures ∙ c.if-eq.false))
+    c.absorb-else-eq.ensures.ok c.absorb-else-eq.ensures.err key (c.self.invariant key)
 
-pub returns-in_ok-placed-2-clause-added : goal.returns-in_ok-placed-2-clause-added
-returns-in_ok-placed-2-clause-added c =
+pub returns-else-eq-clause-added : goal.returns-else-eq-clause-added
+returns-else-eq-clause-added c =
     let row = c.args.row.now in
     let hints = c.self.inside.hints in
     let rooms_of : Hints → Rooms = λ h. record {
@@ -50,8 +67,8 @@ returns-in_ok-placed-2-clause-added c =
       rows = c.self.inside.own.rows;
       hints = h;
     } in
-    let placed = c.in_ok-placed-2.placed in
-    subst (λ (s : Stored). IsAdded s.rooms (rooms_of c.absorb-else-eq.new.self) c.args.home row
+    IfOk-weaker c.absorb-else-eq.result _ _
+    (λ placed ok. subst (λ (s : Stored). IsAdded s.rooms (rooms_of c.absorb-else-eq.new.self) c.args.home row
     placed) c.self.view_is
     (added_absorbed (rooms_of hints) (rooms_of c.absorb-else-eq.new.self) c.args.home row placed
     c.versions-versions.ensures.valid
@@ -59,4 +76,5 @@ returns-in_ok-placed-2-clause-added c =
     (sym c.eq.ensures ∙ c.if-eq.false)
     (absorbed_in rooms_of hints c.absorb-else-eq.new.self
     (with_versions_for hints c.args.home row.key) (maps.get hints (c.args.home, row.key)) row
-    placed c.in_ok-placed-2.ensures.ok)))
+    placed ok))))
+    c.absorb-else-eq.ensures.ok

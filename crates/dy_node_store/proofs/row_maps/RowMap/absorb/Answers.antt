@@ -1,21 +1,27 @@
 -- By whether the key has a row.
-use Rattle.std.proofs.Common.{◌≡◌, ◌++◌, true, false, Some, IsSome, IfSome, OnErr, Result, Ok, Err, refl, sym, ap, ◌∙◌, subst}
+use Rattle.std.proofs.Common.{◌≡◌, ◌++◌, None, Some, IsSome, IfSome, IfOk, OnErr, Result, Ok, Err, refl, sym, ap, ◌∙◌, subst}
+use Rattle.std.proofs.lemmas.Result.{IfOk-weaker, on_err_weaker}
 use Rattle.std.specs.Option.{option_copied_mut}
 use Rattle.std.specs.Ordering.{nat_cmp}
 use Rattle.std.specs.Cmp.Lexicographic.{slice_cmp}
 use Rattle.std.specs.FinMap as maps
 use Rattle.dy_siblings.specs.Siblings.{Siblings, AreOneByDot}
+use Rattle.dy_dots.specs.declared.faults.Fault.{Fault}
+use Rattle.dy_node_store.specs.Absorbing.{IsAbsorbed}
 use Rattle.dy_node_store.specs.Rows.{with_versions, versions_in, IsRowOf}
-use Rattle.dy_node_store.proofs.AbsorbLemmas.{absorbed_row, absorbed_rows, empty_adds, found_row, not_none}
+use Rattle.dy_node_store.specs.declared.placed.Placed.{Placed}
+use Rattle.dy_node_store.proofs.AbsorbLemmas.{absorbed_row, absorbed_rows, found_row, not_none}
 use Rattle.dy_node_store.proofs.Hashed.{found, inserted}
 use Rattle.dy_node_store.proofs.Maps.{insert_present}
-use Rattle.dy_node_store.proofs.RowLemmas.{AreRows-changed, has_version}
+use Rattle.dy_node_store.proofs.RowLemmas.{AreRows-changed}
 use Rattle.dy_node_store.proofs.row_maps.RowMap.absorb.Goals as goal
 
--- what holds, holds of a refusal
-refused : {A E : Type 0} {P : Type 0} (r : Result A E) → P → OnErr r P
-refused (Ok x) p = tt
-refused (Err e) p = p
+-- the row that is kept of a key stays one of that key, whatever comes of it
+stays_of_key : (old new row : Siblings) (r : Result Placed Fault) → IsRowOf row.key old →
+    IfOk r (IsAbsorbed old new (λ vs. record { key = row.key; versions = vs }) (Some old) row) →
+    OnErr r (new ≡ old) → IsRowOf row.key new
+stays_of_key old new row (Ok placed) is ok err = absorbed_row old new row placed is ok
+stays_of_key old new row (Err e) is ok err = subst (IsRowOf row.key) (sym err) is
 
 -- it has one
 pub merge_into-requires-clause-of_key : goal.merge_into-requires-clause-of_key
@@ -30,81 +36,61 @@ merge_into-requires-clause-agree c =
 
 pub invariant_of-self : goal.invariant_of-self
 invariant_of-self c =
-    let row = found_row _ _ _ _ c.self.invariant refl
-    (sym c.get_mut.ensures.value ∙ ap option_copied_mut c.in-Some.is) in
-    let present = subst IsSome (sym (ap option_copied_mut c.in-Some.is) ∙ c.get_mut.ensures.value) refl in
-    AreRows-changed _ _ _ (Some c.merge_into.new.kept) c.self.invariant
-    (subst (IsRowOf c.key.result.now) (sym c.in_err-placed-in-Some.ensures.err) row)
-    ((c.get_mut.follows.holds c.merge_into.new.kept).3 present).0
-
-pub returns-in_err-placed-in-Some-clause-err : goal.returns-in_err-placed-in-Some-clause-err
-returns-in_err-placed-in-Some-clause-err c =
-    let present = subst IsSome (sym (ap option_copied_mut c.in-Some.is) ∙ c.get_mut.ensures.value) refl in
-    let there = found _ _ _ _ _ c.self.view_is refl c.get_mut.ensures.value ∙ ap option_copied_mut c.in-Some.is in
-    refused _ (inserted _ _ _ _ ((c.get_mut.follows.holds c.merge_into.new.kept).3 present).0
-    ∙ (λ i. maps.insert (c.self.view_is i) c.key.result.now (c.in_err-placed-in-Some.ensures.err i))
-    ∙ insert_present _ _ _ there)
-
-pub returns-in_err-placed-in-Some-clause-spared : goal.returns-in_err-placed-in-Some-clause-spared
-returns-in_err-placed-in-Some-clause-spared c same =
-    let there = found _ _ _ _ _ c.self.view_is c.key.ensures c.get_mut.ensures.value ∙ ap option_copied_mut c.in-Some.is in
-    let one : c.in-Some.kept.now ≡ c.args.row.now =
-    subst (λ o. IfSome o (λ (row : Siblings). c.in-Some.kept.now ≡ row)) (sym there ∙ same) refl in
-    let both : false ≡ true = c.in_err-placed-in-Some.ensures.spared one in
-    absurd (let no : ⊥ = cc in no)
-
-pub invariant_of-self-in-Some : goal.invariant_of-self-in-Some
-invariant_of-self-in-Some c =
     let row = found_row _ _ _ _ c.self.invariant c.key.ensures
     (sym c.get_mut.ensures.value ∙ ap option_copied_mut c.in-Some.is) in
     let present = subst IsSome (sym (ap option_copied_mut c.in-Some.is) ∙ c.get_mut.ensures.value) refl in
     AreRows-changed _ _ _ (Some c.merge_into.new.kept) c.self.invariant
     (subst (λ k. IsRowOf k c.merge_into.new.kept) (sym c.key.ensures)
-    (absorbed_row c.in-Some.kept.now c.merge_into.new.kept c.args.row.now
-    c.in_ok-placed-in-Some.placed row c.in_ok-placed-in-Some.ensures.ok))
+    (stays_of_key c.in-Some.kept.now c.merge_into.new.kept c.args.row.now c.merge_into.result row
+    c.merge_into.ensures.ok c.merge_into.ensures.err))
     ((c.get_mut.follows.holds c.merge_into.new.kept).3 present).0
 
-pub returns-in_ok-placed-in-Some-clause-ok : goal.returns-in_ok-placed-in-Some-clause-ok
-returns-in_ok-placed-in-Some-clause-ok c =
+pub returns-in-Some-clause-ok : goal.returns-in-Some-clause-ok
+returns-in-Some-clause-ok c =
     let present = subst IsSome (sym (ap option_copied_mut c.in-Some.is) ∙ c.get_mut.ensures.value) refl in
     let there = found _ _ _ _ _ c.self.view_is c.key.ensures c.get_mut.ensures.value ∙ ap option_copied_mut c.in-Some.is in
-    absorbed_rows c.args.self.now _ c.in-Some.kept.now c.merge_into.new.kept c.args.row.now
-    c.in_ok-placed-in-Some.placed there
+    IfOk-weaker c.merge_into.result _ _
+    (λ placed ok. absorbed_rows c.args.self.now _ c.in-Some.kept.now c.merge_into.new.kept
+    c.args.row.now placed there
     (inserted _ _ _ _ ((c.get_mut.follows.holds c.merge_into.new.kept).3 present).0
-    ∙ (λ i. maps.insert (c.self.view_is i) (c.key.ensures i) c.merge_into.new.kept))
-    c.in_ok-placed-in-Some.ensures.ok
+    ∙ (λ i. maps.insert (c.self.view_is i) (c.key.ensures i) c.merge_into.new.kept)) ok)
+    c.merge_into.ensures.ok
+
+pub returns-in-Some-clause-err : goal.returns-in-Some-clause-err
+returns-in-Some-clause-err c =
+    let present = subst IsSome (sym (ap option_copied_mut c.in-Some.is) ∙ c.get_mut.ensures.value) refl in
+    let there = found _ _ _ _ _ c.self.view_is refl c.get_mut.ensures.value ∙ ap option_copied_mut c.in-Some.is in
+    on_err_weaker c.merge_into.result
+    (λ same. inserted _ _ _ _ ((c.get_mut.follows.holds c.merge_into.new.kept).3 present).0
+    ∙ (λ i. maps.insert (c.self.view_is i) c.key.result.now (same i))
+    ∙ insert_present _ _ _ there)
+    c.merge_into.ensures.err
+
+pub returns-in-Some-clause-spared : goal.returns-in-Some-clause-spared
+returns-in-Some-clause-spared c same =
+    let there = found _ _ _ _ _ c.self.view_is c.key.ensures c.get_mut.ensures.value ∙ ap option_copied_mut c.in-Some.is in
+    c.merge_into.ensures.spared
+    (subst (λ o. IfSome o (λ (row : Siblings). c.in-Some.kept.now ≡ row)) (sym there ∙ same) refl)
 
 -- it has none
-pub returns-then-is_empty-clause-ok : goal.returns-then-is_empty-clause-ok
-returns-then-is_empty-clause-ok c =
-    let none = found _ _ _ _ _ c.self.view_is c.key.ensures c.get_mut.ensures.value ∙ ap option_copied_mut c.in-None.is in (
-      ap (λ m. maps.from_entries m.entries) c.get_mut.follows.holds-at-none ∙ c.self.view_is,
-      empty_adds c.args.row.now _ none (c.is_empty.ensures.0 c.if-is_empty.true),
-    )
+pub absorb_new-requires : goal.absorb_new-requires
+absorb_new-requires c = record {
+  absent = ap (λ m. maps.get (maps.from_entries {R = slice_cmp nat_cmp} m.entries) c.args.row.now.key) c.get_mut.follows.holds-at-none
+      ∙ found _ _ _ _ _ refl c.key.ensures c.get_mut.ensures.value ∙ ap option_copied_mut c.in-None.is;
+}
 
-pub returns-in_err-copy-in-None-clause-spared : goal.returns-in_err-copy-in-None-clause-spared
-returns-in_err-copy-in-None-clause-spared c same =
-    absurd (not_none c.args.row.now (sym same
-    ∙ found _ _ _ _ _ c.self.view_is c.key.ensures c.get_mut.ensures.value ∙ ap option_copied_mut c.in-None.is))
-
-pub put_new-requires-clause-absent : goal.put_new-requires-clause-absent
-put_new-requires-clause-absent c =
-    ap (λ m. maps.get (maps.from_entries {R = slice_cmp nat_cmp} m.entries) c.in_ok-copy-in-None.copy.key) c.get_mut.follows.holds-at-none
-    ∙ ap (λ (row : Siblings). maps.get (maps.from_entries {R = slice_cmp nat_cmp} c.self.inside.rows.entries) row.key) c.in_ok-copy-in-None.ensures.ok
-    ∙ found _ _ _ _ _ refl c.key.ensures c.get_mut.ensures.value ∙ ap option_copied_mut c.in-None.is
-
-pub returns-in_err-put_new-in-None-clause-spared : goal.returns-in_err-put_new-in-None-clause-spared
-returns-in_err-put_new-in-None-clause-spared c same =
-    absurd (not_none c.args.row.now (sym same
-    ∙ found _ _ _ _ _ c.self.view_is c.key.ensures c.get_mut.ensures.value ∙ ap option_copied_mut c.in-None.is))
-
-pub returns-in_ok-put_new-in-None-clause-ok : goal.returns-in_ok-put_new-in-None-clause-ok
-returns-in_ok-put_new-in-None-clause-ok c =
+pub returns-in-None-clause-ok : goal.returns-in-None-clause-ok
+returns-in-None-clause-ok c =
+    let row = c.args.row.now in
+    let new = c.absorb_new.new.self in
     let none = found _ _ _ _ _ c.self.view_is c.key.ensures c.get_mut.ensures.value ∙ ap option_copied_mut c.in-None.is in
-    let stays = ap (λ m. maps.from_entries m.entries) c.get_mut.follows.holds-at-none ∙ c.self.view_is in (
-      c.in_ok-put_new-in-None.ensures.ok
-          ∙ ap (λ m. with_versions m c.in_ok-copy-in-None.copy.key c.in_ok-copy-in-None.copy.versions) stays
-          ∙ ap (λ (row : Siblings). with_versions c.args.self.now row.key row.versions) c.in_ok-copy-in-None.ensures.ok,
-      none,
-      has_version _ _ c.is_empty.ensures.1 c.if-is_empty.false,
-    )
+    let stays = ap (λ m. maps.from_entries m.entries) c.get_mut.follows.holds-at-none ∙ c.self.view_is in
+    IfOk-weaker c.absorb_new.result _ _
+    (λ placed ok. subst (λ o. IsAbsorbed c.args.self.now new (with_versions c.args.self.now row.key) o row placed)
+    (sym none) (subst (λ m. IsAbsorbed m new (with_versions m row.key) None row placed) stays ok))
+    c.absorb_new.ensures.ok
+
+pub returns-in-None-clause-spared : goal.returns-in-None-clause-spared
+returns-in-None-clause-spared c same =
+    absurd (not_none c.args.row.now (sym same
+    ∙ found _ _ _ _ _ c.self.view_is c.key.ensures c.get_mut.ensures.value ∙ ap option_copied_mut c.in-None.is))

@@ -1,7 +1,7 @@
 use Rattle.std.proofs.Common.{ap, ◌∙◌, sym, subst}
 use Rattle.dy_siblings.specs.inside.Lists.{items_of}
 use Rattle.dy_siblings.specs.inside.Merging.{IsMerge}
-use Rattle.dy_siblings.specs.Siblings.{IsSameRow, IsSiblingSet, merge}
+use Rattle.dy_siblings.specs.Siblings.{IsSameRow, IsSiblingSet, Siblings, merge}
 use Rattle.dy_siblings.proofs.Walking.{merge_siblings}
 use Rattle.dy_siblings.proofs.Merges.{unmerged}
 use Rattle.dy_siblings.proofs.Following.{merge_follows_nothing, neither}
@@ -11,7 +11,7 @@ use Rattle.dy_siblings.proofs.rows.Row.merge.Goals.{After-self-2-1}
 is_merge : (c : After-self-2-1) → IsMerge (items_of c.self.inside.versions) (items_of c.other.inside.versions) (items_of c.in_ok-self-inside.field-0)
 is_merge c =
     subst (λ x. IsMerge x (items_of c.other.inside.versions) (items_of c.in_ok-self-inside.field-0)) c.as_slice-mine.ensures
-    (subst (λ y. IsMerge c.as_slice-mine.result.now y (items_of c.in_ok-self-inside.field-0)) c.as_slice.ensures c.in_ok-self-inside.ensures.ok)
+    (subst (λ y. IsMerge c.as_slice-mine.result.now y (items_of c.in_ok-self-inside.field-0)) c.as_slice-2.ensures c.in_ok-self-inside.ensures.ok)
 
 pub invariant_of-self : goal.invariant_of-self
 invariant_of-self c = record {
@@ -44,3 +44,15 @@ returns-then-is_empty-clause-ok c =
     let mine = c.args.self.now.versions in
     subst (λ l. IsSameRow mine (merge mine l)) (sym (c.is_empty.ensures.0 c.if-is_empty.true))
     (unmerged mine (returns-then-is_empty-clause-valid c).none_past)
+
+-- both are one version: the merge is what is there
+pub returns-then-are_one-clause-ok : goal.returns-then-are_one-clause-ok
+returns-then-are_one-clause-ok c =
+    let mine = items_of c.self.inside.versions in
+    let theirs = items_of c.other.inside.versions in
+    let merged : IsSameRow mine (merge mine theirs) =
+    subst (λ x. IsSameRow x (merge x theirs)) c.as_slice-mine.ensures
+    (subst (λ y. IsSameRow c.as_slice-mine.result.now (merge c.as_slice-mine.result.now y)) c.as_slice.ensures
+    (c.are_one.ensures c.if-are_one.true).1) in
+    subst (λ (s : Siblings). IsSameRow s.versions (merge s.versions c.args.other.now.versions)) c.self.view_is
+    (subst (λ (s : Siblings). IsSameRow mine (merge mine s.versions)) c.other.view_is merged)

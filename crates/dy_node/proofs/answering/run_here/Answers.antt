@@ -1,7 +1,7 @@
 use Rattle.std.proofs.Common.{sym, subst}
 use Rattle.dy_node.specs.Answers.{IsDone}
 use Rattle.dy_node.specs.declared.asks.Answer.TheVariants.{Refused, Rows}
-use Rattle.dy_node.proofs.answering.run.Goals as goal
+use Rattle.dy_node.proofs.answering.run_here.Goals as goal
 
 -- a store that is refused changes nothing
 pub returns-in-Err-clause-done : goal.returns-in-Err-clause-done

@@ -6,7 +6,7 @@ use Rattle.dy_shares.specs.inside.Parts.{IsSessionShare, done_acks}
 use Rattle.dy_shares.specs.Shares.{GetTold, SessionPart, answer_numbers, greatest, since_of, steps_of, with_get}
 use Rattle.dy_shares.proofs.Keeping.{answer_numbers-append}
 use Rattle.dy_shares.proofs.Sessions.{session_got, spent_each}
-use Rattle.dy_shares.proofs.session_shares.SessionShare.note_get.Goals as goal
+use Rattle.dy_shares.proofs.session_shares.SessionShare.note_get_lent.Goals as goal
 
 -- the get matches at the new front, as those before it do
 pub invariant_of-self-2 : goal.invariant_of-self-2
@@ -16,7 +16,7 @@ invariant_of-self-2 g c =
     let nodes = g.J.Naming.ring.nodes in
     let part : SessionPart = record { session = s.number; acks = done_acks s.share.part; spent = s.spent.items; gets = s.gets.items } in
     let acks : length s.spent.items ≡ length part.acks = spent_each (steps_of s.front) part.acks s.spent.items i.spent_are in
-    let seens = c.args.seens.items in
+    let seens = c.args.seens.now.items in
     let l = c.learn_all-self-inside in
     let lent = c.as_slice.ensures.value in
     let are = subst (All (IsAnswer (steps_of l.new.front))) lent l.ensures.are in
@@ -50,7 +50,7 @@ returns-clause-ok g c =
     let i = c.self.invariant.0 in
     let part : SessionPart = record { session = s.number; acks = done_acks s.share.part; spent = s.spent.items; gets = s.gets.items } in
     let acks : length s.spent.items ≡ length part.acks = spent_each (steps_of s.front) part.acks s.spent.items i.spent_are in
-    let seens = c.args.seens.items in
+    let seens = c.args.seens.now.items in
     let len : c.len-acks.result ≡ length s.spent.items = search rules in
     let told : ℕ → ℕ → GetTold = λ since acks. record { since = since; answers = seens; acks = acks } in
     let pushed : c.push_reserved.new.self.items ≡ s.gets.items ++ told (since_of part) (length part.acks) ∷ [] =
