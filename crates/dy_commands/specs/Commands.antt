@@ -1,5 +1,5 @@
 -- What a command of a script does.
-use Rattle.std.specs.Prelude.{◌≡◌, ℕ, ◌+◌, Bool, false, List, [], None, Result, length}
+use Rattle.std.specs.Prelude.{◌≡◌, ℕ, false, List, [], None, Result, length}
 use Rattle.dy_dots.specs.declared.faults.Fault.{Fault}
 use Rattle.dy_dots.specs.declared.faults.Fault.TheVariants.{Down}
 use Rattle.dy_script.specs.Orders.{CommandParts, WriteParts, puts, deletes, gets}

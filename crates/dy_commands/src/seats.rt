@@ -40,6 +40,7 @@ impl Seats {
 
     /// The place of the session of this number, which is opened where it was not. May wait for a
     /// lock.
+    #[inline(always)]
     pub(crate) fn place_of<J: Naming, R: Wait>(
         &mut self,
         rt: &R,

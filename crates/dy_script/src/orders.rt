@@ -190,6 +190,7 @@ fn mode_of(order: Order) -> Result<Mode, Fault>
 }
 
 /// The number of the session, 0 where none is named.
+#[inline(always)]
 #[tactic(auto, unfolding(crate::specs::Orders::session_of))]
 fn session_of(order: Order) -> Result<u8, Fault>
     ensures { result ≡ session_of order.entry.command (source_data order.entry.source) }
@@ -202,6 +203,7 @@ fn session_of(order: Order) -> Result<u8, Fault>
 }
 
 /// A put, whose value is a text or hexadecimal digits.
+#[inline(always)]
 #[tactic(auto, unfolding(crate::specs::Orders::put_of))]
 fn put_of(alloc: Global, order: Order) -> Result<Command, Fault>
     ensures { IsReadingOf command_parts result
@@ -233,6 +235,7 @@ fn delete_of(alloc: Global, order: Order) -> Result<Command, Fault>
 }
 
 /// A get of a session.
+#[inline(always)]
 #[tactic(auto, unfolding(crate::specs::Orders::get_of))]
 fn get_of(alloc: Global, order: Order) -> Result<Command, Fault>
     ensures { IsReadingOf command_parts result
@@ -296,6 +299,7 @@ fn bytes_of(alloc: Global, order: Order, digits: &str) -> Result<Payload, Fault>
 }
 
 /// What a put and a delete say beside the value.
+#[inline(always)]
 #[tactic(auto, unfolding(crate::specs::Orders::write_of))]
 fn write_of(alloc: Global, order: Order) -> Result<Write, Fault>
     ensures { IsReadingOf write_parts result

@@ -195,6 +195,7 @@ fn key_at<'a>(reader: &mut Reader<'a>) -> Option<&'a str>
 }
 
 /// Whether an object begins next.
+#[inline(always)]
 fn begins_object(reader: &mut Reader) -> bool
     ensures { IsTrue result → reader.old ≡ token.begin_object ∷ reader.new }
 {
