@@ -1,7 +1,7 @@
 -- What the world holds at the node is what the node keeps, since share and book agree.
-use Rattle.std.proofs.Common.{sym, ap, ◌∙◌, subst, Result, Ok, Err, IfOk}
+use Rattle.std.proofs.Common.{sym, ap, ◌∙◌, subst, IfOk}
+use Rattle.std.proofs.lemmas.Result.{IfOk-weaker}
 use Rattle.std.specs.Result.{result_err}
-use Rattle.dy_dots.specs.declared.faults.Fault.{Fault}
 use Rattle.dy_siblings.specs.Siblings.{IsSameRow}
 use Rattle.dy_core.specs.Worlds.{layout_of, row_at}
 use Rattle.dy_core.proofs.Merging.{same_row_on, same_row_back}
@@ -13,10 +13,6 @@ use Rattle.dy_node.specs.Refusals.{FetchRefused}
 use Rattle.dy_node.proofs.Causes.{fetch_down, fetch_of}
 use Rattle.dy_node.proofs.Kept.{state_holds}
 use Rattle.dy_node.proofs.nodes.Node.fetch.Goals as goal
-
-on_ok : {A : Type 0} {P Q : A → Type 0} (r : Result A Fault) → ((x : A) → P x → Q x) → IfOk r P → IfOk r Q
-on_ok (Ok x) f p = f x p
-on_ok (Err e) f p = tt
 
 -- what the world holds at the node is what it keeps
 pub returns-clause-row : goal.returns-clause-row
@@ -35,7 +31,7 @@ returns-clause-row g c =
     (row_at (world_of c.args.book.now) p.node home key))) c.agree.ensures.share at_book in
     subst (λ (n : NodeState). IfOk fetched (λ seen. IsSameRow seen.row (versions_at n.rooms home key)))
     c.self.view_is
-    (on_ok fetched (λ seen same. same_row_on _ _ _ same (same_row_back _ _ kept)) at_node)
+    (IfOk-weaker fetched _ _ (λ seen same. same_row_on _ _ _ same (same_row_back _ _ kept)) at_node)
 
 -- the node is down
 pub returns-then-not-self-clause-refused : goal.returns-then-not-self-clause-refused
