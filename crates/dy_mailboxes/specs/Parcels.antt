@@ -1,5 +1,5 @@
--- What is asked, on its way: copies, and what they are held against.
-use Rattle.std.specs.Prelude.{◌≡◌, ℕ, Bool, true, Option, None, Some}
+-- What is asked, on its way: copies.
+use Rattle.std.specs.Prelude.{◌≡◌, ℕ, Bool, true}
 use Rattle.dy_ring.specs.Rings.{Tokens}
 use Rattle.dy_preference.specs.Preferences.{homes_of, may_hold}
 use Rattle.dy_node.specs.declared.asks.Ask.{Ask}
@@ -25,11 +25,6 @@ module _ {J : Type 0} where
   -- the copy is of the ask
   abbrev pub IsParcelOf : Ask J → Parcel J → Type 0
   IsParcelOf ask parcel = (home_of ask ≡ home_in parcel) × IsCopy (what_of ask) parcel
-
-  -- what was kept of an ask is a copy of it, where there was memory for one
-  abbrev pub IsKept : What → Option (Parcel J) → Type 0
-  IsKept w None = Unit {0}
-  IsKept w (Some parcel) = IsCopy w parcel
 
   -- whether the node may hold what a copy carries
   abbrev pub may_carry : Tokens → ℕ → ℕ → Parcel J → Bool

@@ -1,3 +1,2 @@
 -- What contracts of private functions and invariants alone speak of.
 pub mod Calls
-pub mod Sheets

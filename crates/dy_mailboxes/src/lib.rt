@@ -5,8 +5,6 @@ mod gates;
 mod parcels;
 mod posts;
 mod replies;
-mod sent;
-mod sheets;
 mod transports;
 mod workers;
 

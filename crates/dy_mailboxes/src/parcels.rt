@@ -73,13 +73,3 @@ pub struct Posted<J: Naming> {
     pub(crate) reply_to: ReplyTo<J>,
     ghost may_carry: { may_carry J.ring J.n to parcel ≡ true },
 }
-
-/// An answer on its way back, with the number of its client's call, that of its ask, and whether it
-/// is the last to its ask.
-#[derive(Drop)]
-pub struct Answered<J: Naming> {
-    pub call: u64,
-    pub number: usize,
-    pub answer: Answer<J>,
-    pub is_last: bool,
-}

@@ -66,6 +66,7 @@ impl<J: Naming> Inbox<J> {
 
     /// The next ask; none where none lies there and every post is dropped. May wait for one. Takes
     /// no memory.
+    #[inline(always)]
     pub(crate) fn receive<R: Wait>(&mut self, rt: &R) -> Option<Posted<J>>
         ensures same { self.new ≡ self.old }
     {

@@ -6,13 +6,13 @@ ghost use Rattle.crossbeam_channel.specs.{Claims.{IsSeatAt}, Ends.{ruled_capacit
 ghost use Rattle.dy_mailboxes.specs.inside.Calls.{first_call, next_call, with_ask};
 
 use crate::gates::Gate;
-use crate::parcels::Answered;
 use crossbeam_channel::{Pass, RuledSender};
 use crossbeam_utils::sync::Unparker;
 use dy_channels::{Apart, Counted, Receiver, Sender, channel};
 use dy_dots::{Fault, NodeId};
 use dy_node::Answer;
 use dy_shares::Naming;
+use dy_sheets::Answered;
 use std::alloc::Global;
 use std::marker::Model;
 use std::sync::atomic::{AtomicI64, AtomicU64, Ordering};
@@ -94,6 +94,7 @@ fn line_of<J: Naming>(
 }
 
 // The next answer to the call of this number; one to another is dropped.
+#[inline(always)]
 fn next_to<J: Naming, R: Wait>(
     rt: &R,
     answers: &mut Receiver<Answered<J>>,
@@ -165,6 +166,7 @@ impl<J: Naming> Replies<J> {
 
     /// The next answer to the present call; one to an earlier call is dropped. May wait for it.
     /// Takes no memory.
+    #[inline(always)]
     pub fn receive<R: Wait>(&mut self, rt: &R) -> Option<Answered<J>>
         ensures some { IfSome result (λ answered. answered.call ≡ self.old.call) }
         ensures same { self.new ≡ self.old }

@@ -2,24 +2,25 @@ ghost use Rattle.std.specs.Prelude.{◌≡◌, ◌<◌, ◌≤◌, ◌+◌, ◌*
 ghost use Rattle.std.specs.Prelude.{IsOkUnless, OnErr, Some, None, true, false};
 ghost use Rattle.dy_core.specs.declared.places.Place.{Place};
 ghost use Rattle.dy_node.specs.{declared.asks.Answer.{Answer}, Answers.{MayAsk}};
+ghost use Rattle.dy_transport.specs.Asking.{what_of};
 ghost use Rattle.dy_transport.specs.Told.{AllAnswered, Answers, IsAwaited};
 ghost use Rattle.dy_transport.specs.Told.{nothing_told, with_ask, with_none};
-ghost use Rattle.dy_mailboxes.specs.{
-  Parcels.{IsParcelOf},
+ghost use Rattle.dy_sheets.specs.{
+  Kept.{IsKept},
   declared.sent.Sent.{Sent},
-  inside.Calls.{with_ask as with_posted},
-  inside.Sheets.{IsOfUnsent, IsUnsent, is_awaiting, with_answer, with_sent, with_told},
+  Sheets.{IsOfUnsent, IsUnsent, is_awaiting, with_answer, with_sent, with_told},
 };
+ghost use Rattle.dy_mailboxes.specs.inside.Calls.{with_ask as with_posted};
 
-use crate::parcels::{Answered, Parcel, Posted};
+use crate::parcels::{Parcel, Posted};
 use crate::posts::Post;
 use crate::replies::Replies;
-use crate::sheets::Sheet;
 use dy_book::Book;
 use dy_core::Place;
 use dy_dots::{Fault, NodeId};
 use dy_node::{Answer, Ask, Node};
 use dy_shares::Naming;
+use dy_sheets::{Answered, Kept, Sheet};
 use dy_transport::{Reach, Transport, Try};
 use std::alloc::Global;
 use std::marker::Model;
@@ -91,8 +92,8 @@ impl<'a, J: Naming> Mailboxes<'a, J> {
     }
 }
 
-// Posts an ask of the present call: the copy that its answers are held against, and whether it is
-// on its way.
+// Posts an ask of the present call: what its answers are held against, and whether it is on its
+// way.
 fn post_ask<J: Naming, R: Wait>(
     rt: &R,
     alloc: Global,
@@ -101,16 +102,16 @@ fn post_ask<J: Naming, R: Wait>(
     number: usize,
     to: NodeId,
     ask: &Ask<'_, J>,
-) -> Result<(Parcel<J>, bool), Fault>
+) -> Result<(Kept, bool), Fault>
     requires may_ask { MayAsk J.ring J.n to ask.now }
     requires few { replies.old.posted + 1 < 2 ^ 64 }
-    ensures copy { IfOk result (λ posted. IsParcelOf ask.now posted.0) }
+    ensures kept { IfOk result (λ posted. IsKept (what_of ask.now) (Some posted.0)) }
     ensures counted { IfOk result (λ _. replies.new ≡ with_posted replies.old) }
     ensures err { OnErr result (replies.new ≡ replies.old) }
     ensures same { post.new ≡ post.old }
     ensures memory { IsOkUnless result Fault.OutOfMemory }
 {
-    let kept = Parcel::new(alloc, ask)?;
+    let kept = Kept::new(alloc, ask)?;
     let parcel = Parcel::new(alloc, ask)?;
     let reply_to = replies.reply_to(number)?;
     let is_posted = post.send(
@@ -127,16 +128,16 @@ fn post_ask<J: Naming, R: Wait>(
     Ok((kept, is_posted))
 }
 
-// Tells of an ask what came of posting it: its copy, and whether it is on its way, or that there
-// was no memory for it.
+// Tells of an ask what came of posting it: what is kept of it, and whether it is on its way, or
+// that there was no memory for it.
 fn tell_ask<J: Naming>(
     sheet: &mut Sheet<J>,
     to: NodeId,
     ask: &Ask<'_, J>,
-    posted: Result<(Parcel<J>, bool), Fault>,
+    posted: Result<(Kept, bool), Fault>,
 )
     requires room { length sheet.old.told.asks < sheet.old.told.room }
-    requires kept { IfOk posted (λ p. IsParcelOf ask.now p.0) }
+    requires kept { IfOk posted (λ p. IsKept (what_of ask.now) (Some p.0)) }
     ensures ok { IfOk posted (λ p. sheet.new ≡ with_sent sheet.old to ask.now (Some p.0) p.1) }
     ensures err { OnErr posted (sheet.new ≡ with_sent sheet.old to ask.now None false) }
     ensures told { sheet.new.told ≡ with_ask sheet.old.told to ask.now }
@@ -149,6 +150,7 @@ fn tell_ask<J: Naming>(
 }
 
 // The next answer that comes to this call, while one may still come.
+#[inline(always)]
 fn receive_awaited<J: Naming, R: Wait>(
     rt: &R,
     replies: &mut Replies<J>,
@@ -180,7 +182,7 @@ fn next_of<J: Naming, R: Wait>(
         × (sheet.new ≡ with_answer sheet.old number r.0.holder r.0.home r.1 left)
         × Answers sheet.old.told.asks number r.0.holder r.0.home r.1
         × IsAwaited sheet.old.told.replies number) }
-    ensures unsent { (k : ℕ) (s : Sent J) → IsUnsent sheet.old.sent sheet.old.left k s →
+    ensures unsent { (k : ℕ) (s : Sent) → IsUnsent sheet.old.sent sheet.old.left k s →
         (r : Place × Answer J) × (result ≡ Some r) × IsOfUnsent sheet.old r.1 }
     ensures within { IfSome result
         (λ _. length sheet.old.told.replies < 2 * length sheet.old.told.asks) }

@@ -4,13 +4,14 @@ ghost use Rattle.dy_node.specs.Answers.{AnsweredBy, IsDown, MayAsk};
 ghost use Rattle.dy_mailboxes.specs.inside.Calls.{message, messages_of};
 
 use crate::gates::Gate;
-use crate::parcels::{Answered, Posted};
+use crate::parcels::Posted;
 use crate::posts::Inbox;
 use crate::replies::ReplyTo;
 use dy_book::Book;
 use dy_dots::NodeId;
 use dy_node::{Answer, Ask, Node, answer, answer_plainly};
 use dy_shares::Naming;
+use dy_sheets::Answered;
 use dy_transport::lock_soon;
 use std::sync::{Mutex, Wait};
 

@@ -2,8 +2,8 @@
 use Rattle.std.specs.Prelude.{◌≡◌, ◌<◌, ◌≤◌, ◌+◌, ◌*◌, ◌^◌, ℕ, Bool, true, false, length}
 use Rattle.std.specs.Prelude.{Option, None, Some}
 use Rattle.dy_node.specs.declared.asks.Answer.{Answer}
-use Rattle.dy_mailboxes.specs.inside.Sheets.{SheetParts}
-use Rattle.dy_mailboxes.specs.declared.parcels.Answered.{Answered}
+use Rattle.dy_sheets.specs.Sheets.{SheetParts}
+use Rattle.dy_sheets.specs.declared.answered.Answered.{Answered}
 
 -- what the answers to a client are seen as: for how many there is room, the number of the present
 -- call, and how many asks of it may be answered
