@@ -73,6 +73,7 @@ impl<'a, J: Naming> RowRef<'a, J> {
     }
 
     /// A copy, which is vouched for as the row is.
+    #[inline(always)]
     pub fn copied(&self, alloc: Global) -> Result<VouchedRow<J>, Fault>
         ensures value { IfOk result (λ copy. copy ≡ self.now) }
         ensures memory { IsOkUnless result Fault.OutOfMemory }
