@@ -71,7 +71,7 @@ impl Client for Clients {
         number: usize,
         lent: &mut Access<'_, J, T, R>,
     ) -> Result<(), Fault> {
-        let mut player = Player::new(number);
+        let mut player = Player::new(lent.alloc, number);
         self.make_turns(lent.rt, lent.alloc, &mut player, &mut lent.connection);
         Ok(())
     }

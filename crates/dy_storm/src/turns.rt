@@ -4,7 +4,7 @@ ghost use Rattle.dy_book.specs.declared.options.Options.{Options as OptionsParts
 ghost use Rattle.dy_cluster.specs.{Lists.{list_of}, Settings.{setting}};
 ghost use Rattle.dy_storm.specs.{Turns.{IsGetOf, IsTurnOf}, Words.{key_text, value_text}};
 
-use crate::words::{key_of, value_of};
+use crate::words::Words;
 use dy_clients::{Connection, Context, Key, MendingGet, Naming, Transport, Value};
 use std::alloc::Global;
 use std::sync::Wait;
@@ -17,15 +17,20 @@ const W: u8 = 2;
 pub(crate) struct Player {
     pub client: usize,
     turns: u32,
+    words: Words,
 }
 
 impl Player {
     /// A client that has made no turn.
-    pub fn new(client: usize) -> Player
+    pub fn new(alloc: Global, client: usize) -> Player
         ensures client { result.client ≡ client }
         ensures turns { result.turns ≡ 0 }
     {
-        Player { client, turns: 0 }
+        Player {
+            client,
+            turns: 0,
+            words: Words::new(alloc),
+        }
     }
 
     /// Makes the next turn. Gets the key of this number, repairs it, and puts it with the context
@@ -46,10 +51,10 @@ impl Player {
     {
         let turn = self.turns;
         self.turns += 1;
-        let Ok(key) = key_of(alloc, number) else {
+        let Ok(key) = self.words.key_of(number) else {
             return false;
         };
-        let Ok(value) = value_of(alloc, self.client, turn) else {
+        let Ok(value) = self.words.value_of(self.client, turn) else {
             return false;
         };
         play_with(rt, alloc, connection, &key, value)
