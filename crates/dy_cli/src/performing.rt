@@ -18,7 +18,7 @@ use dy_jobs::Job;
 use dy_lines::Stopped;
 use dy_plans::{Storm, write_ring};
 use dy_runner::write_run;
-use dy_script::read;
+use dy_script::{Buffers, read};
 use dy_serve::serve;
 use dy_storm::write_storm;
 use std::alloc::Global;
@@ -169,7 +169,8 @@ fn write_lines_of_run<W: Write, R: Wait>(
         (W.contents out.old) (W.contents out.new) }
     ensures only { IsHaltedFor (AreRefused HasClusterFault bytes.now) result }
 {
-    match read(alloc, bytes) {
+    let mut buffers = Buffers::new(alloc);
+    match read(alloc, &mut buffers, bytes) {
         Ok(script) => write_run(rt, alloc, &script, with_steps, out),
         Err(fault) => Err(Stopped::Refused(fault)),
     }
@@ -192,7 +193,8 @@ fn write_lines_of_service<L: BufRead, W: Write, R: Wait>(
     ensures only { IsHaltedFor (AreRefused (HasServiceFault with_steps
         (L.remaining lines.old) (W.contents out.old) (W.contents out.new)) bytes.now) result }
 {
-    match read(alloc, bytes) {
+    let mut buffers = Buffers::new(alloc);
+    match read(alloc, &mut buffers, bytes) {
         Ok(script) => serve(rt, alloc, &script, with_steps, lines, out),
         Err(fault) => Err(Stopped::Refused(fault)),
     }
@@ -206,7 +208,8 @@ fn write_lines_of_ring<W: Write>(alloc: Global, bytes: &[u8], out: &mut W) -> Re
         (W.contents out.old) (W.contents out.new) }
     ensures only { IsHaltedFor (AreRefused HasRingFault bytes.now) result }
 {
-    match read(alloc, bytes) {
+    let mut buffers = Buffers::new(alloc);
+    match read(alloc, &mut buffers, bytes) {
         Ok(script) => write_ring(alloc, &script, out),
         Err(fault) => Err(Stopped::Refused(fault)),
     }

@@ -2,7 +2,6 @@
 ghost use Rattle.std.specs.Prelude.{◌≡◌, ◌<◌, ◌⊎◌, ◌↔◌, Some, None, IfOk, IfErr, IsErrOf};
 ghost use Rattle.std.specs.Prelude.{length, IsTrue, option_map};
 ghost use Rattle.dy_siblings.specs.{Sizes.{IsKey}, declared.values.TheConstants.{MAX_VALUE_BYTES}};
-ghost use Rattle.dy_script.specs.Texts.{text_bytes};
 ghost use Rattle.dy_commands.specs.Texts.{IsGiven, IsGivenRefused, IsKeyJudged};
 
 use dy_dots::{Context, Fault};
@@ -21,16 +20,16 @@ pub(crate) struct Given {
 /// What a put is given.
 #[inline(always)]
 pub(crate) fn read_put(alloc: Global, write: &Write, value: &[u8]) -> Result<Given, Fault>
-    ensures ok { IfOk result (λ given. IsGiven (text_bytes write.now.key)
-        (option_map text_bytes write.now.context) (Some value.now) given) }
-    ensures key_size { IsErrOf result Fault.KeySize ↔ ¬ (IsKey (text_bytes write.now.key)) }
+    ensures ok { IfOk result (λ given. IsGiven write.now.key.now
+        (option_map (λ s. s.now) write.now.context) (Some value.now) given) }
+    ensures key_size { IsErrOf result Fault.KeySize ↔ ¬ (IsKey write.now.key.now) }
     ensures value_size { IsErrOf result Fault.ValueSize
-        ↔ (IsKey (text_bytes write.now.key) × (MAX_VALUE_BYTES < length value.now)) }
+        ↔ (IsKey write.now.key.now × (MAX_VALUE_BYTES < length value.now)) }
     ensures only { IfErr result (λ fault. (fault ≡ Fault.ValueSize)
-        ⊎ IsGivenRefused (text_bytes write.now.key)
-        (option_map text_bytes write.now.context) fault) }
+        ⊎ IsGivenRefused write.now.key.now
+        (option_map (λ s. s.now) write.now.context) fault) }
 {
-    if !is_key(write.key.as_str().as_bytes()) {
+    if !is_key(write.key.as_bytes()) {
         return Err(Fault::KeySize);
     }
     let value = Value::new(alloc, value)?;
@@ -39,11 +38,11 @@ pub(crate) fn read_put(alloc: Global, write: &Write, value: &[u8]) -> Result<Giv
 
 /// What a delete is given.
 pub(crate) fn read_delete(alloc: Global, write: &Write) -> Result<Given, Fault>
-    ensures ok { IfOk result (λ given. IsGiven (text_bytes write.now.key)
-        (option_map text_bytes write.now.context) None given) }
-    ensures key_size { IsErrOf result Fault.KeySize ↔ ¬ (IsKey (text_bytes write.now.key)) }
-    ensures only { IfErr result (IsGivenRefused (text_bytes write.now.key)
-        (option_map text_bytes write.now.context)) }
+    ensures ok { IfOk result (λ given. IsGiven write.now.key.now
+        (option_map (λ s. s.now) write.now.context) None given) }
+    ensures key_size { IsErrOf result Fault.KeySize ↔ ¬ (IsKey write.now.key.now) }
+    ensures only { IfErr result (IsGivenRefused write.now.key.now
+        (option_map (λ s. s.now) write.now.context)) }
 {
     read_given(alloc, write, None)
 }
@@ -65,15 +64,15 @@ fn is_key(bytes: &[u8]) -> bool
 // What is given beside the value.
 #[inline(always)]
 fn read_given(alloc: Global, write: &Write, value: Option<Value>) -> Result<Given, Fault>
-    ensures ok { IfOk result (λ given. IsGiven (text_bytes write.now.key)
-        (option_map text_bytes write.now.context) value given) }
-    ensures key_size { IsErrOf result Fault.KeySize ↔ ¬ (IsKey (text_bytes write.now.key)) }
-    ensures only { IfErr result (IsGivenRefused (text_bytes write.now.key)
-        (option_map text_bytes write.now.context)) }
+    ensures ok { IfOk result (λ given. IsGiven write.now.key.now
+        (option_map (λ s. s.now) write.now.context) value given) }
+    ensures key_size { IsErrOf result Fault.KeySize ↔ ¬ (IsKey write.now.key.now) }
+    ensures only { IfErr result (IsGivenRefused write.now.key.now
+        (option_map (λ s. s.now) write.now.context)) }
 {
-    let key = Key::new(alloc, write.key.as_str().as_bytes())?;
-    let context = match &write.context {
-        Some(text) => Context::read_text(alloc, text.as_str())?,
+    let key = Key::new(alloc, write.key.as_bytes())?;
+    let context = match write.context {
+        Some(text) => Context::read_text(alloc, text)?,
         None => Context::new(alloc),
     };
     Ok(Given {

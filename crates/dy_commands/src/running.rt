@@ -50,15 +50,12 @@ pub fn run_command<J: Naming, R: Wait>(
             };
             run_write(lent, runner, judged)
         }
-        Command::Get { key, session } => {
-            let key = key.as_str();
-            run_get(lent, runner, *session, key)
-        }
+        Command::Get { key, session } => run_get(lent, runner, *session, key),
         Command::Down { node } => run_set_up(lent, Word::Down, *node, false),
         Command::Up { node } => run_set_up(lent, Word::Up, *node, true),
         Command::SetMode { node, mode } => run_set_mode(lent, *node, *mode),
         Command::Deliver { node } => run_deliver(lent, *node),
         Command::Handoff { node } => run_handoff(lent, *node),
-        Command::Show { node, key } => run_show(lent, *node, key.as_str()),
+        Command::Show { node, key } => run_show(lent, *node, key),
     }
 }

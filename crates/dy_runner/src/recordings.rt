@@ -43,7 +43,7 @@ impl Recorded {
 /// A script that is run on a cluster, and what it did.
 #[derive(Drop)]
 pub(crate) struct Recording<'a> {
-    pub script: &'a Script,
+    pub script: &'a Script<'a>,
     pub recorded: Recorded,
 }
 

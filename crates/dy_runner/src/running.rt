@@ -16,7 +16,7 @@ use std::sync::Wait;
 /// A script that is run on a cluster, with its output: what it prints, and the first error of it.
 #[derive(Drop)]
 pub(crate) struct Run<'a, O: Write> {
-    pub script: &'a Script,
+    pub script: &'a Script<'a>,
     pub out: &'a mut O,
     pub lost: Option<io::Error>,
 }

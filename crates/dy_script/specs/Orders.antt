@@ -4,6 +4,7 @@ use Rattle.std.specs.Prelude.{ℕ, nat_lt, List, [], ◌∷◌, codes, bytes_eq}
 use Rattle.std.specs.Prelude.{if◌then◌else◌, Option, Some, None, option_map, option_and_then}
 use Rattle.std.specs.Prelude.{Result, Ok, Err}
 use Rattle.std.specs.Result.{result_ok}
+use Rattle.std.specs.Cow.{cow_slice_items}
 use Rattle.hex.specs.Hex.{decode_of}
 use Rattle.serde_json.specs.Data.{Data}
 use Rattle.serde_json.specs.Find.{get as member_of}
@@ -17,7 +18,6 @@ use Rattle.dy_script.specs.declared.commands.Write.{Write}
 use Rattle.dy_script.specs.declared.scripts.TheConstants.{MAX_SCRIPT_SESSIONS}
 use Rattle.dy_script.specs.Members.{◌>>=◌, need, allow_only, as_whole}
 use Rattle.dy_script.specs.Members.{text, optional_text, optional_small}
-use Rattle.dy_script.specs.Texts.{text_bytes}
 
 -- what a put and a delete say beside the value
 pub record WriteParts : Type 0 where
@@ -40,22 +40,22 @@ pub data CommandParts : Type 0 where
 
 abbrev pub write_parts : Write → WriteParts
 write_parts x = record {
-  key = text_bytes x.key;
-  context = option_map text_bytes x.context;
+  key = x.key.now;
+  context = option_map (λ s. s.now) x.context;
   session = x.session;
   w = x.w;
 }
 
 abbrev pub command_parts : Command → CommandParts
-command_parts (command.Put write value) = puts (write_parts write) value.items
+command_parts (command.Put write value) = puts (write_parts write) (cow_slice_items value)
 command_parts (command.Delete write) = deletes (write_parts write)
-command_parts (command.Get key session) = gets (text_bytes key) session
+command_parts (command.Get key session) = gets key.now session
 command_parts (command.Down node) = downs node
 command_parts (command.Up node) = ups node
 command_parts (command.SetMode node mode) = sets_mode node mode
 command_parts (command.Deliver node) = delivers node
 command_parts (command.Handoff node) = hands_off node
-command_parts (command.Show node key) = shows node (text_bytes key)
+command_parts (command.Show node key) = shows node key.now
 
 -- a node is a whole number below the number of nodes
 unfoldable pub node_named : ℕ → ℕ → Data → Result ℕ Fault

@@ -1,6 +1,7 @@
 //! Scripts of commands, and their reader from JSON.
 #![tactic(auto)]
 
+mod buffers;
 mod commands;
 mod documents;
 mod fields;
@@ -12,15 +13,11 @@ mod requests;
 mod scripts;
 mod sources;
 mod streams;
-mod texts;
 mod tokens;
 
-pub use commands::{Command, Payload, SHORT_VALUE_BYTES, Write};
+pub use buffers::Buffers;
+pub use commands::{Command, Payload, Write};
 pub use reading::read;
 pub use requests::{Request, read_request};
 pub use scripts::{Layout, Limits, MAX_COMMANDS, MAX_SCRIPT_SESSIONS, Script};
-pub use texts::{SHORT_TEXT_BYTES, Text};
 pub use tokens::token;
-
-// What reading takes, to be kept from line to line.
-pub use json::Scratch;

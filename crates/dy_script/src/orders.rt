@@ -1,4 +1,5 @@
-ghost use Rattle.std.specs.Prelude.{◌≡◌, ◌<◌, IfSome};
+ghost use Rattle.std.specs.Prelude.{◌≡◌, ◌<◌, IfSome, vec_items};
+ghost use Rattle.std.specs.Cow.{cow_slice_items};
 ghost use Rattle.dy_script.specs.{
   Members.{allow_only},
   Orders.{command_parts, write_parts, put_names, node_named, lone_node, mode_of, session_of},
@@ -12,11 +13,11 @@ ghost use Rattle.dy_script.specs.{
 use crate::commands::{Command, Payload, Write};
 use crate::scripts::MAX_SCRIPT_SESSIONS;
 use crate::sources::{Order, Source};
-use crate::texts::Text;
 use dy_dots::Fault;
 use dy_modes::Mode;
 use json::Value;
 use std::alloc::Global;
+use std::borrow::CowSlice;
 
 /// The name of a member that some command has, in the order of their texts.
 #[derive(Clone, Copy, Debug)]
@@ -100,12 +101,12 @@ pub(crate) fn text_at(place: usize) -> &'static str
 }
 
 /// The command that the value says, on a ring of so many nodes. The value is dropped at once.
-pub(crate) fn command_of(
+pub(crate) fn command_of<'a>(
     alloc: Global,
-    value: Value,
+    value: Value<'a>,
     number: u32,
     nodes: usize,
-) -> Result<Command, Fault>
+) -> Result<Command<'a>, Fault>
     ensures { IsReadingOf command_parts result (command_of nodes number (view value.entry)) }
 {
     let order = Order {
@@ -118,24 +119,28 @@ pub(crate) fn command_of(
 /// The command that the members say, on a ring of so many nodes.
 #[inline(always)]
 #[tactic(auto, unfolding(crate::specs::Orders::command_of, crate::specs::Orders::command_named))]
-pub(crate) fn command_in(alloc: Global, order: Order, nodes: usize) -> Result<Command, Fault>
+pub(crate) fn command_in<'a>(
+    alloc: Global,
+    order: Order<'_, 'a>,
+    nodes: usize,
+) -> Result<Command<'a>, Fault>
     ensures { IsReadingOf command_parts result
         (command_of nodes order.entry.command (source_data order.entry.source)) }
 {
     let word = order.text(Name::Do)?;
     match word {
         "put" => put_of(alloc, order),
-        "delete" => delete_of(alloc, order),
-        "get" => get_of(alloc, order),
+        "delete" => delete_of(order),
+        "get" => get_of(order),
         "fault" => set_mode_of(order, nodes),
-        "show" => show_of(alloc, order, nodes),
+        "show" => show_of(order, nodes),
         _ => at_node(word, order, nodes),
     }
 }
 
 /// The command of this word that names a node alone.
 #[tactic(auto, unfolding(crate::specs::Orders::at_node))]
-fn at_node(word: &str, order: Order, nodes: usize) -> Result<Command, Fault>
+fn at_node<'a>(word: &str, order: Order<'_, 'a>, nodes: usize) -> Result<Command<'a>, Fault>
     ensures { IsReadingOf command_parts result
         (at_node nodes order.entry.command (source_data order.entry.source) word.now) }
 {
@@ -205,13 +210,13 @@ fn session_of(order: Order) -> Result<u8, Fault>
 /// A put, whose value is a text or hexadecimal digits.
 #[inline(always)]
 #[tactic(auto, unfolding(crate::specs::Orders::put_of))]
-fn put_of(alloc: Global, order: Order) -> Result<Command, Fault>
+fn put_of<'a>(alloc: Global, order: Order<'_, 'a>) -> Result<Command<'a>, Fault>
     ensures { IsReadingOf command_parts result
         (put_of order.entry.command (source_data order.entry.source)) }
 {
     allow_put(order)?;
     let value = value_of(alloc, order)?;
-    let write = write_of(alloc, order)?;
+    let write = write_of(order)?;
     Ok(Command::Put { write, value })
 }
 
@@ -225,31 +230,31 @@ fn allow_put(order: Order) -> Result<(), Fault>
 
 /// A delete, which has no value.
 #[tactic(auto, unfolding(crate::specs::Orders::delete_of))]
-fn delete_of(alloc: Global, order: Order) -> Result<Command, Fault>
+fn delete_of<'a>(order: Order<'_, 'a>) -> Result<Command<'a>, Fault>
     ensures { IsReadingOf command_parts result
         (delete_of order.entry.command (source_data order.entry.source)) }
 {
     order.allow_only(&["do", "key", "context", "session", "w"])?;
-    let write = write_of(alloc, order)?;
+    let write = write_of(order)?;
     Ok(Command::Delete { write })
 }
 
 /// A get of a session.
 #[inline(always)]
 #[tactic(auto, unfolding(crate::specs::Orders::get_of))]
-fn get_of(alloc: Global, order: Order) -> Result<Command, Fault>
+fn get_of<'a>(order: Order<'_, 'a>) -> Result<Command<'a>, Fault>
     ensures { IsReadingOf command_parts result
         (get_of order.entry.command (source_data order.entry.source)) }
 {
     order.allow_only(&["do", "key", "session"])?;
     let session = session_of(order)?;
-    let key = Text::of(alloc, order.text(Name::Key)?)?;
+    let key = order.text(Name::Key)?;
     Ok(Command::Get { key, session })
 }
 
 /// A node's new mode.
 #[tactic(auto, unfolding(crate::specs::Orders::set_mode_of))]
-fn set_mode_of(order: Order, nodes: usize) -> Result<Command, Fault>
+fn set_mode_of<'a>(order: Order<'_, 'a>, nodes: usize) -> Result<Command<'a>, Fault>
     ensures { IsReadingOf command_parts result
         (set_mode_of nodes order.entry.command (source_data order.entry.source)) }
 {
@@ -261,38 +266,38 @@ fn set_mode_of(order: Order, nodes: usize) -> Result<Command, Fault>
 
 /// A question for what a node holds of a key.
 #[tactic(auto, unfolding(crate::specs::Orders::show_of))]
-fn show_of(alloc: Global, order: Order, nodes: usize) -> Result<Command, Fault>
+fn show_of<'a>(order: Order<'_, 'a>, nodes: usize) -> Result<Command<'a>, Fault>
     ensures { IsReadingOf command_parts result
         (show_of nodes order.entry.command (source_data order.entry.source)) }
 {
     order.allow_only(&["do", "node", "key"])?;
     let node = node_named(order, nodes)?;
-    let key = Text::of(alloc, order.text(Name::Key)?)?;
+    let key = order.text(Name::Key)?;
     Ok(Command::Show { node, key })
 }
 
 /// The value of a put, given as a text or as hexadecimal digits.
 #[tactic(auto, unfolding(crate::specs::Orders::value_of, crate::specs::Orders::value_given))]
-fn value_of(alloc: Global, order: Order) -> Result<Payload, Fault>
-    ensures { IsReadingOf (λ value. value.items) result
+fn value_of<'a>(alloc: Global, order: Order<'_, 'a>) -> Result<Payload<'a>, Fault>
+    ensures { IsReadingOf cow_slice_items result
         (value_of order.entry.command (source_data order.entry.source)) }
 {
     let text = order.optional_text(Name::Value)?;
     let digits = order.optional_text(Name::Valuehex)?;
     match (text, digits) {
-        (Some(text), None) => Ok(Payload::from_slice(alloc, text.as_bytes())?),
-        (None, Some(digits)) => bytes_of(alloc, order, digits),
+        (Some(text), None) => Ok(CowSlice::Borrowed(text.as_bytes())),
+        (None, Some(digits)) => Ok(CowSlice::Owned(bytes_of(alloc, order, digits)?)),
         _ => Err(order.fault()),
     }
 }
 
 /// The bytes of hexadecimal digits.
 #[tactic(auto, unfolding(crate::specs::Orders::bytes_of))]
-fn bytes_of(alloc: Global, order: Order, digits: &str) -> Result<Payload, Fault>
-    ensures { IsReadingOf (λ value. value.items) result (bytes_of order.entry.command digits.now) }
+fn bytes_of(alloc: Global, order: Order, digits: &str) -> Result<Vec<u8>, Fault>
+    ensures { IsReadingOf vec_items result (bytes_of order.entry.command digits.now) }
 {
     match hex::decode(alloc, digits) {
-        Ok(bytes) => Ok(Payload::from_vec(bytes)),
+        Ok(bytes) => Ok(bytes),
         Err(hex::FromHexError::OutOfMemory) => Err(Fault::OutOfMemory),
         Err(_) => Err(order.fault()),
     }
@@ -301,17 +306,14 @@ fn bytes_of(alloc: Global, order: Order, digits: &str) -> Result<Payload, Fault>
 /// What a put and a delete say beside the value.
 #[inline(always)]
 #[tactic(auto, unfolding(crate::specs::Orders::write_of))]
-fn write_of(alloc: Global, order: Order) -> Result<Write, Fault>
+fn write_of<'a>(order: Order<'_, 'a>) -> Result<Write<'a>, Fault>
     ensures { IsReadingOf write_parts result
         (write_of order.entry.command (source_data order.entry.source)) }
 {
     let session = session_of(order)?;
     let w = order.optional_small(Name::W)?;
-    let context = match order.optional_text(Name::Context)? {
-        Some(text) => Some(Text::of(alloc, text)?),
-        None => None,
-    };
-    let key = Text::of(alloc, order.text(Name::Key)?)?;
+    let context = order.optional_text(Name::Context)?;
+    let key = order.text(Name::Key)?;
     Ok(Write {
         key,
         context,

@@ -11,6 +11,7 @@ ghost use Rattle.dy_script.specs.{
   inside.Readings.{IsReadingOf},
 };
 
+use crate::buffers::Buffers;
 use crate::commands::Command;
 use crate::documents::{WRONG_SCRIPT, value_of};
 use crate::members::{Members, list_of, taken_list, text_of};
@@ -24,36 +25,44 @@ use json::{Scratch, Value};
 use std::alloc::Global;
 
 /// The script that the bytes spell, or its first fault: that of the script itself before those of
-/// its commands.
-pub fn read(alloc: Global, bytes: &[u8]) -> Result<Script, Fault>
+/// its commands. It borrows from the bytes and the buffers.
+pub fn read<'a>(
+    alloc: Global,
+    buffers: &'a mut Buffers,
+    bytes: &'a [u8],
+) -> Result<Script<'a>, Fault>
     ensures ok { IfOk result (λ script. script_of_text bytes.now ≡ Ok (script_parts script)) }
     ensures err { IfErr result (λ fault. (fault ≡ Fault.OutOfMemory)
         ⊎ (script_of_text bytes.now ≡ Err fault)) }
     ensures memory { IfErr result (λ fault. fault ≡ Fault.OutOfMemory → 0 < length bytes.now) }
 {
-    match streamed(alloc, bytes) {
+    let Buffers { told, whole } = buffers;
+    match streamed(alloc, bytes, told) {
         Ok(script) => Ok(script),
         Err(Fault::OutOfMemory) => Err(Fault::OutOfMemory),
-        Err(_) => read_whole(alloc, bytes),
+        Err(_) => read_whole(alloc, bytes, whole),
     }
 }
 
 /// The same, by a tree of the whole.
 #[tactic(auto, unfolding(crate::specs::Reading::script_of_text))]
-fn read_whole(alloc: Global, bytes: &[u8]) -> Result<Script, Fault>
+fn read_whole<'a>(
+    alloc: Global,
+    bytes: &'a [u8],
+    scratch: &'a mut Scratch,
+) -> Result<Script<'a>, Fault>
     ensures ok { IfOk result (λ script. script_of_text bytes.now ≡ Ok (script_parts script)) }
     ensures err { IfErr result (λ fault. (fault ≡ Fault.OutOfMemory)
         ⊎ (script_of_text bytes.now ≡ Err fault)) }
     ensures memory { IfErr result (λ fault. fault ≡ Fault.OutOfMemory → 0 < length bytes.now) }
 {
-    let mut scratch = Scratch::new(alloc);
-    let value = value_of(alloc, bytes, &mut scratch)?;
+    let value = value_of(alloc, bytes, scratch)?;
     script_of(alloc, value)
 }
 
 /// The script that the value says.
 #[tactic(auto, unfolding(crate::specs::Reading::script_of))]
-pub(crate) fn script_of(alloc: Global, value: Value) -> Result<Script, Fault>
+pub(crate) fn script_of<'a>(alloc: Global, value: Value<'a>) -> Result<Script<'a>, Fault>
     ensures { IsReadingOf script_parts result (script_of (view value.entry)) }
 {
     let members = Members {
@@ -236,7 +245,7 @@ fn key_at(alloc: Global, value: &Value) -> Result<Key, Fault>
 
 /// The commands of a script, on a ring of so many nodes.
 #[tactic(auto, unfolding(crate::specs::Reading::run_of, crate::specs::Reading::run_given))]
-fn run_of(alloc: Global, value: Value, nodes: usize) -> Result<Vec<Command>, Fault>
+fn run_of<'a>(alloc: Global, value: Value<'a>, nodes: usize) -> Result<Vec<Command<'a>>, Fault>
     ensures { IsReadingOf (λ run. map command_parts run.items) result
         (run_of nodes (view value.entry)) }
 {
@@ -248,7 +257,11 @@ fn run_of(alloc: Global, value: Value, nodes: usize) -> Result<Vec<Command>, Fau
 
 /// The commands of a list, unless they are too many.
 #[tactic(auto, using(crate::proofs::ListsRead::items_len_view))]
-fn commands_given(alloc: Global, list: Vec<Value>, nodes: usize) -> Result<Vec<Command>, Fault>
+fn commands_given<'a>(
+    alloc: Global,
+    list: Vec<Value<'a>>,
+    nodes: usize,
+) -> Result<Vec<Command<'a>>, Fault>
     ensures { IsReadingOf (λ run. map command_parts run.items) result
         (commands_given nodes (items_view list.entry.items)) }
 {
@@ -259,7 +272,11 @@ fn commands_given(alloc: Global, list: Vec<Value>, nodes: usize) -> Result<Vec<C
 }
 
 /// The commands of a list, numbered from 1.
-fn commands_in(alloc: Global, list: Vec<Value>, nodes: usize) -> Result<Vec<Command>, Fault>
+fn commands_in<'a>(
+    alloc: Global,
+    list: Vec<Value<'a>>,
+    nodes: usize,
+) -> Result<Vec<Command<'a>>, Fault>
     requires { length list.items ≤ MAX_COMMANDS }
     ensures { IsReadingOf (λ run. map command_parts run.items) result
         (each_of (command_at nodes) 0 (items_view list.entry.items)) }

@@ -5,6 +5,7 @@ ghost use Rattle.dy_script.specs.{
   inside.Readings.{IsReadingOf},
 };
 
+use crate::buffers::Buffers;
 use crate::commands::Command;
 use crate::documents::{WRONG_SCRIPT, value_of};
 use crate::fields::Fields;
@@ -18,44 +19,45 @@ use std::alloc::Global;
 
 /// What a line asks of a store that serves lines.
 #[derive(Debug, Drop)]
-pub enum Request {
+pub enum Request<'a> {
     /// To do the command.
-    Do(Command),
+    Do(Command<'a>),
     /// To close the cluster, and to go on with a new one that has what was present.
     Renew,
 }
 
-/// What the line of this number asks of a store with so many nodes, or its first fault. The scratch
-/// is kept from line to line.
-pub fn read_request(
+/// What the line of this number asks of a store with so many nodes, or its first fault. The request
+/// borrows from the line and the buffers.
+pub fn read_request<'a>(
     alloc: Global,
-    scratch: &mut Scratch,
-    bytes: &[u8],
+    buffers: &'a mut Buffers,
+    bytes: &'a [u8],
     number: u32,
     nodes: usize,
-) -> Result<Request, Fault>
+) -> Result<Request<'a>, Fault>
     ensures ok { IfOk result (λ request.
         request_of_text nodes number bytes.now ≡ Ok (request_parts request)) }
     ensures err { IfErr result (λ fault. (fault ≡ Fault.OutOfMemory)
         ⊎ (request_of_text nodes number bytes.now ≡ Err fault)) }
     ensures memory { IfErr result (λ fault. fault ≡ Fault.OutOfMemory → 0 < length bytes.now) }
 {
-    match request_told(alloc, scratch, bytes, number, nodes) {
+    let Buffers { told, whole } = buffers;
+    match request_told(alloc, told, bytes, number, nodes) {
         Ok(request) => Ok(request),
         Err(Fault::OutOfMemory) => Err(Fault::OutOfMemory),
-        Err(_) => request_in_tree(alloc, scratch, bytes, number, nodes),
+        Err(_) => request_in_tree(alloc, whole, bytes, number, nodes),
     }
 }
 
 /// What the line asks for, its members read one by one. A refusal is for want of memory, or the
 /// line is to be read into a tree: something is bad, or more than a text or a whole number.
-fn request_told(
+fn request_told<'a>(
     alloc: Global,
-    scratch: &mut Scratch,
-    bytes: &[u8],
+    scratch: &'a mut Scratch,
+    bytes: &'a [u8],
     number: u32,
     nodes: usize,
-) -> Result<Request, Fault>
+) -> Result<Request<'a>, Fault>
     ensures ok { IfOk result (λ request.
         request_of_text nodes number bytes.now ≡ Ok (request_parts request)) }
     ensures memory { IfErr result (λ fault. fault ≡ Fault.OutOfMemory → 0 < length bytes.now) }
@@ -85,13 +87,13 @@ fn request_told(
 
 /// What the line asks for, by a tree of it.
 #[tactic(auto, unfolding(crate::specs::Requests::request_of_text))]
-fn request_in_tree(
+fn request_in_tree<'a>(
     alloc: Global,
-    scratch: &mut Scratch,
-    bytes: &[u8],
+    scratch: &'a mut Scratch,
+    bytes: &'a [u8],
     number: u32,
     nodes: usize,
-) -> Result<Request, Fault>
+) -> Result<Request<'a>, Fault>
     ensures ok { IfOk result (λ request.
         request_of_text nodes number bytes.now ≡ Ok (request_parts request)) }
     ensures err { IfErr result (λ fault. (fault ≡ Fault.OutOfMemory)
@@ -113,7 +115,7 @@ fn request_in_tree(
 
 /// What the members ask for.
 #[tactic(auto, unfolding(crate::specs::Requests::request_of, crate::specs::Requests::request_by))]
-fn request_of(alloc: Global, order: Order, nodes: usize) -> Result<Request, Fault>
+fn request_of<'a>(alloc: Global, order: Order<'_, 'a>, nodes: usize) -> Result<Request<'a>, Fault>
     ensures { IsReadingOf request_parts result
         (request_of nodes order.entry.command (source_data order.entry.source)) }
 {

@@ -39,9 +39,9 @@ pub struct Limits {
     pub steps: Option<u64>,
 }
 
-/// A whole script: the ring, the quorum, and the commands to run.
+/// A whole script: the ring, the quorum, and the commands to run, which borrow their texts.
 #[derive(Debug, Drop)]
-pub struct Script {
+pub struct Script<'a> {
     /// How many homes a key has.
     pub n: u8,
     /// How many homes must answer a get.
@@ -54,5 +54,5 @@ pub struct Script {
     pub keys: Vec<Key>,
     /// Whether the audit names the settled keys.
     pub settled: bool,
-    pub run: Vec<Command>,
+    pub run: Vec<Command<'a>>,
 }

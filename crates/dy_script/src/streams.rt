@@ -24,7 +24,11 @@ use std::alloc::Global;
 
 /// The script that the bytes spell, each command read by itself. A refusal, here and below, is for
 /// want of memory, or the whole is to be read: the commands don't stand last, or something is bad.
-pub(crate) fn streamed(alloc: Global, bytes: &[u8]) -> Result<Script, Fault>
+pub(crate) fn streamed<'a>(
+    alloc: Global,
+    bytes: &'a [u8],
+    scratch: &'a mut Scratch,
+) -> Result<Script<'a>, Fault>
     ensures ok { IfOk result (λ script. script_of_text bytes.now ≡ Ok (script_parts script)) }
     ensures memory { IfErr result (λ fault. fault ≡ Fault.OutOfMemory → 0 < length bytes.now) }
 {
@@ -34,12 +38,15 @@ pub(crate) fn streamed(alloc: Global, bytes: &[u8]) -> Result<Script, Fault>
     let Ok(text) = from_utf8(bytes) else {
         return Err(WRONG_SCRIPT);
     };
-    let mut scratch = Scratch::new(alloc);
-    script_in(alloc, text, &mut scratch)
+    script_in(alloc, text, scratch)
 }
 
 /// The script that the text spells.
-fn script_in<'a>(alloc: Global, text: &'a str, scratch: &'a mut Scratch) -> Result<Script, Fault>
+fn script_in<'a>(
+    alloc: Global,
+    text: &'a str,
+    scratch: &'a mut Scratch,
+) -> Result<Script<'a>, Fault>
     ensures { IfOk result (λ script. script_of_text text.now ≡ Ok (script_parts script)) }
 {
     let Ok(mut reader) = Reader::new(text, scratch) else {
@@ -76,7 +83,7 @@ fn own_members<'a>(
 }
 
 /// The script that has these members and no command.
-fn own_script<'a>(alloc: Global, own: Vec<(&'a str, Value<'a>)>) -> Result<Script, Fault>
+fn own_script<'a>(alloc: Global, own: Vec<(&'a str, Value<'a>)>) -> Result<Script<'a>, Fault>
     ensures { IfOk result (λ script. IsOwnScript own.entry.items (script_parts script)) }
 {
     if !are_members_in_range(own.as_slice()) {
@@ -86,7 +93,11 @@ fn own_script<'a>(alloc: Global, own: Vec<(&'a str, Value<'a>)>) -> Result<Scrip
 }
 
 /// The commands to the end of the script, on a ring of so many nodes.
-fn run_at(alloc: Global, reader: &mut Reader, nodes: usize) -> Result<Vec<Command>, Fault>
+fn run_at<'a>(
+    alloc: Global,
+    reader: &mut Reader<'a>,
+    nodes: usize,
+) -> Result<Vec<Command<'a>>, Fault>
     ensures { IfOk result (λ run. IsRun nodes reader.old (map command_parts run.items)) }
 {
     let run = commands_at(alloc, reader, nodes)?;
@@ -103,7 +114,7 @@ fn commands_at<'a>(
     alloc: Global,
     reader: &mut Reader<'a>,
     nodes: usize,
-) -> Result<Vec<Command>, Fault>
+) -> Result<Vec<Command<'a>>, Fault>
     ensures { IfOk result
         (λ run. AreCommands nodes reader.old (map command_parts run.items) reader.new) }
 {
@@ -128,7 +139,7 @@ fn command_at<'a>(
     fields: &mut Fields<'a>,
     number: u32,
     nodes: usize,
-) -> Result<Command, Fault>
+) -> Result<Command<'a>, Fault>
     ensures { IfOk result
         (λ command. IsCommand nodes number reader.old (command_parts command) reader.new) }
 {

@@ -27,7 +27,7 @@ use dy_cluster::OpenCluster;
 use dy_commands::run_command;
 use dy_dots::Fault;
 use dy_lines::{CommandLine, Outcome, ServedLine, Stopped, write_whole};
-use dy_script::{Command, Request, Scratch, read_request};
+use dy_script::{Buffers, Command, Request, read_request};
 use dy_shares::Naming;
 use std::alloc::Global;
 use std::io;
@@ -36,11 +36,11 @@ use std::sync::Wait;
 
 /// What a line asks for.
 #[derive(Debug, Drop)]
-enum LineAsked {
+enum LineAsked<'a> {
     /// Nothing: it is blank.
     Nothing,
     /// What it says, by this number.
-    Wanted { number: u32, request: Request },
+    Wanted { number: u32, request: Request<'a> },
     /// What can't be read, or is no request.
     Wrong { number: u32, fault: Fault },
 }
@@ -113,13 +113,13 @@ fn refuse<O: Write>(number: u32, fault: Fault, out: &mut O) -> io::Result<()>
 
 /// What the line asks for, of a store with so many nodes, and its number, which is behind this one
 /// unless the line is blank.
-fn asked_of_line(
+fn asked_of_line<'a>(
     alloc: Global,
-    scratch: &mut Scratch,
+    buffers: &'a mut Buffers,
     nodes: usize,
     count: u32,
-    line: &Line,
-) -> Result<LineAsked, Fault>
+    line: &'a Line,
+) -> Result<LineAsked<'a>, Fault>
     ensures asked { IfOk result (λ asked. (whole : List ℕ) →
         IsKept line.now.is_long line.now.bytes.items whole →
         AsksSo nodes count whole asked) }
@@ -134,7 +134,7 @@ fn asked_of_line(
         return Ok(LineAsked::Nothing);
     }
     let number = next_number(count)?;
-    match read_request(alloc, scratch, bytes, number, nodes) {
+    match read_request(alloc, buffers, bytes, number, nodes) {
         Ok(request) => Ok(LineAsked::Wanted { number, request }),
         Err(fault) => Ok(LineAsked::Wrong { number, fault }),
     }
@@ -153,6 +153,7 @@ pub(crate) struct Answered {
 pub(crate) fn answer_line<J: Naming, O: Write, R: Wait>(
     lent: &mut OpenCluster<'_, J, R>,
     opened: &mut ServedCluster<'_, J>,
+    buffers: &mut Buffers,
     line: &Line,
     count: u32,
     out: &mut O,
@@ -173,7 +174,7 @@ pub(crate) fn answer_line<J: Naming, O: Write, R: Wait>(
         (λ fault. (fault ≡ Fault.OutOfMemory) ⊎ HasNoNumber count fault)) }
 {
     let nodes = opened.terms.nodes;
-    match asked_of_line(lent.alloc, &mut opened.scratch, nodes, count, line)? {
+    match asked_of_line(lent.alloc, buffers, nodes, count, line)? {
         LineAsked::Nothing => Ok(Answered {
             count,
             renews: false,

@@ -18,7 +18,6 @@ use dy_cluster::{Closed, Cluster, Mark, OpenCluster, carry_over};
 use dy_commands::Runner;
 use dy_dots::Fault;
 use dy_lines::{Stopped, write_step_lines};
-use dy_script::Scratch;
 use dy_shares::Naming;
 use std::alloc::Global;
 use std::io::Write;
@@ -40,13 +39,12 @@ pub(crate) struct Terms {
     pub nodes: usize,
 }
 
-/// What lines are served with in a cluster that is open: what reads and runs the commands, and how
+/// What lines are served with in a cluster that is open: what runs the commands, and how
 /// far its steps were printed.
 #[derive(Drop)]
 pub(crate) struct ServedCluster<'a, J: Naming> {
     pub runner: Runner<'a, J>,
     pub mark: Mark<J>,
-    pub scratch: Scratch,
     pub terms: Terms,
 }
 
@@ -65,7 +63,6 @@ impl<'a, J: Naming> ServedCluster<'a, J> {
         Ok(ServedCluster {
             runner,
             mark: Mark::new(),
-            scratch: Scratch::new(alloc),
             terms,
         })
     }

@@ -23,7 +23,7 @@ use dy_cluster::{Closed, Mark, MarkedWork, OpenCluster};
 use dy_commands::Seats;
 use dy_dots::Fault;
 use dy_lines::{ServedLine, Stopped};
-use dy_script::Script;
+use dy_script::{Buffers, Script};
 use dy_shares::Naming;
 use std::io;
 use std::io::{BufRead, Write};
@@ -57,7 +57,7 @@ pub(crate) struct Progress {
 /// one that was closed; and then the lines of the input.
 #[derive(Drop)]
 pub(crate) struct Service<'s, 'p, 'i, 'o, I: BufRead, O: Write> {
-    pub script: &'s Script,
+    pub script: &'s Script<'s>,
     pub with_steps: bool,
     pub progress: &'p mut Progress,
     pub input: &'i mut I,
@@ -112,7 +112,6 @@ impl<I: BufRead, O: Write> MarkedWork for Service<'_, '_, '_, '_, I, O> {
         let ServedCluster {
             runner,
             mark: read,
-            scratch: _,
             terms: _,
         } = opened;
         self.progress.seats = runner.seats;
@@ -291,10 +290,11 @@ fn serve_lines<J: Naming, I: BufRead, O: Write, R: Wait>(
     ensures only { IfErr result (IsStoppedFor
         (StopsLines opened.old.terms.nodes count (I.remaining input.old))) }
 {
+    let mut buffers = Buffers::new(lent.alloc);
     let mut count = count;
     for _ in lent.rt.forever() {
         let is_last = line.read(input)?;
-        let answered = answer_line(lent, opened, line, count, out)?;
+        let answered = answer_line(lent, opened, &mut buffers, line, count, out)?;
         count = answered.count;
         let stop = Stop {
             count,

@@ -42,7 +42,7 @@ struct Setup<'a, R: Wait> {
     rt: &'a R,
     alloc: Global,
     plan: &'a Plan,
-    script: &'a Script,
+    script: &'a Script<'a>,
     with_steps: bool,
 }
 

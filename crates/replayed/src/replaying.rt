@@ -4,14 +4,15 @@ use dy_lines::Stopped;
 use dy_plans::{options_of, ring_of};
 use dy_replay::replay;
 use dy_runner::run_script;
-use dy_script::read;
+use dy_script::{Buffers, read};
 use std::alloc::Global;
 use std::sync::Wait;
 
 /// Runs the script on a cluster, which is closed then, plays its steps once more, and compares. May
 /// wait for locks.
 pub(crate) fn replayed<R: Wait>(rt: &R, alloc: Global, script: &[u8]) -> Result<Compared, Stopped> {
-    let script = read(alloc, script)?;
+    let mut buffers = Buffers::new(alloc);
+    let script = read(alloc, &mut buffers, script)?;
     let ring = ring_of(alloc, &script.layout)?;
     let options = options_of(&script)?;
     if options.n < 1 || options.n > ring.nodes() {

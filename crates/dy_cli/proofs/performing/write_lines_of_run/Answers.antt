@@ -21,9 +21,9 @@ returns-in-Ok-clause-only g c =
     cluster_only _ (script_parts c.in-Ok.script) c.write_run.result c.in-Ok.ensures.ok
     stopped.0 stopped.1 stopped.3
 
-pub returns-in-Err-clause-refused : goal.returns-in-Err-clause-refused
-returns-in-Err-clause-refused g c =
+pub returns-clause-refused : goal.returns-clause-refused
+returns-clause-refused g c =
     unread_halts RefusesCluster _ c.in-Err.fault _ c.in-Err.ensures.err
 
-pub returns-in-Err-clause-only : goal.returns-in-Err-clause-only
-returns-in-Err-clause-only g c = unread_only HasClusterFault _ c.in-Err.fault c.in-Err.ensures.err
+pub returns-clause-only : goal.returns-clause-only
+returns-clause-only g c = unread_only HasClusterFault _ c.in-Err.fault c.in-Err.ensures.err

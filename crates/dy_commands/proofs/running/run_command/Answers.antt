@@ -3,9 +3,8 @@ use Rattle.std.proofs.Common.{ℕ, List, subst}
 use Rattle.std.specs.Prelude.{option_map}
 use Rattle.dy_lines.specs.declared.outcomes.Word.TheVariants as word
 use Rattle.dy_commands.specs.Seats.{seat_of}
-use Rattle.dy_script.specs.Texts.{text_bytes}
-use Rattle.dy_commands.specs.Texts.{IsKeyJudged, IsPutJudged}
-use Rattle.dy_commands.specs.Writes.{ReadsJudged, RunsJudged}
+use Rattle.dy_commands.specs.Texts.{IsPutJudged}
+use Rattle.dy_commands.specs.Writes.{RunsJudged}
 use Rattle.dy_commands.proofs.Seating.{number_of_homes}
 use Rattle.dy_commands.proofs.running.run_command.Goals as goal
 
@@ -15,14 +14,14 @@ returns-in-Put-clause-done g c =
     let write = c.in-Put.write in
     let given = c.read_put.result in
     let after = c.run_write.new in
-    let Judged : List ℕ → Type 0 = λ v. IsPutJudged (text_bytes write.key)
-    (option_map text_bytes write.context) v given in
+    let Judged : List ℕ → Type 0 = λ v. IsPutJudged write.key.now
+    (option_map (λ s. s.now) write.context) v given in
     let Runs : ℕ → Type 0 = λ w. RunsJudged g.row.J.Denot g.J.Naming.ring g.J.Naming.n
     (seat_of write.session after.runner.seats.numbers.items) w word.Put c.run_write.result
     after.runner.seats.refused c.args.lent.now.sessions.items after.lent.sessions.items given in
     rw c.in-Put.is (
       given,
-      subst Judged c.as_slice.ensures (record {
+      subst Judged c.as_slice.ensures.value (record {
         ok = c.read_put.ensures.ok;
         key_size = c.read_put.ensures.key_size;
         value_size = c.read_put.ensures.value_size;
@@ -69,12 +68,6 @@ returns-in-Delete-clause-done g c =
 pub returns-in-Get-clause-done : goal.returns-in-Get-clause-done
 returns-in-Get-clause-done g c =
     let told = c.run_get.ensures.told in
-    let same = c.as_str-key.ensures in
-    let naming = g.J.Naming in
-    let Judged : List ℕ → Type 0 = λ k. IsKeyJudged k told.0 in
-    let Reads : List ℕ → Type 0 = λ k. ReadsJudged g.row.J.Denot naming.ring naming.n naming.r
-    (seat_of c.in-Get.session c.run_get.new.runner.seats.numbers.items) k c.run_get.result
-    c.run_get.new.runner.seats.refused c.args.lent.now.sessions.items c.run_get.new.lent.sessions.items told.0 in
     rw c.in-Get.is (record {
       opens = record {
         opened = c.run_get.ensures.opened;
@@ -82,6 +75,6 @@ returns-in-Get-clause-done g c =
         together = c.run_get.ensures.together;
       };
       judged = told.0;
-      judged_is = subst Judged same told.1;
-      told = subst Reads same told.2;
+      judged_is = told.1;
+      told = told.2;
     })
