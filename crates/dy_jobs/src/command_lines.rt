@@ -189,30 +189,53 @@ fn file_of(alloc: Global, matches: &ArgMatches) -> Result<Option<String>, AllocE
 
 /// What clap makes of the words.
 fn matches_of<'a>(alloc: Global, words: &'a [String]) -> Result<ArgMatches<'a>, Error> {
-    let run = Command::new(alloc, "run")
+    with_jobs(alloc, dynamo_command(alloc)?)?.try_get_matches_from(words)
+}
+
+/// The command of the program itself, without its jobs.
+fn dynamo_command<'a>(alloc: Global) -> Result<Command<'a>, AllocError> {
+    let dynamo = Command::new(alloc, "dynamo").bin_name("dynamo")?;
+    Ok(
+        dynamo
+            .about("An always-writable, replicated key-value store")
+            .version(VERSION)
+            .after_help(MORE_HELP)
+            .no_binary_name(true)
+            .subcommand_required(true),
+    )
+}
+
+/// The same, with the jobs. Each is a function of its own, so that no other has to be dropped where
+/// one is refused.
+fn with_jobs<'a>(alloc: Global, dynamo: Command<'a>) -> Result<Command<'a>, AllocError> {
+    dynamo
+        .subcommand(run_command(alloc)?)?
+        .subcommand(serve_command(alloc)?)?
+        .subcommand(ring_command(alloc)?)?
+        .subcommand(storm_command(alloc)?)
+}
+
+/// The command that runs a script.
+fn run_command<'a>(alloc: Global) -> Result<Command<'a>, AllocError> {
+    Command::new(alloc, "run")
         .about("Runs a script, prints a line for each command, and then the audit")
         .arg(script_arg(alloc))?
-        .arg(steps_arg(alloc))?;
-    let ring = Command::new(alloc, "ring")
-        .about("Prints the ring of a script, and the preference lists of its keys")
-        .arg(script_arg(alloc))?;
-    let serve = Command::new(alloc, "serve")
+        .arg(steps_arg(alloc))
+}
+
+/// The command that serves lines.
+fn serve_command<'a>(alloc: Global) -> Result<Command<'a>, AllocError> {
+    Command::new(alloc, "serve")
         .about("Does a script, and then each line of standard input as a command, and answers each")
         .arg(file_arg(alloc))?
-        .arg(steps_arg(alloc))?;
-    let storm = storm_command(alloc)?;
-    let dynamo = Command::new(alloc, "dynamo")
-        .bin_name("dynamo")?
-        .about("An always-writable, replicated key-value store")
-        .version(VERSION)
-        .after_help(MORE_HELP)
-        .no_binary_name(true)
-        .subcommand_required(true)
-        .subcommand(run)?
-        .subcommand(serve)?
-        .subcommand(ring)?
-        .subcommand(storm)?;
-    dynamo.try_get_matches_from(words)
+        .arg(steps_arg(alloc))
+}
+
+/// The command that prints a ring.
+fn ring_command<'a>(alloc: Global) -> Result<Command<'a>, AllocError> {
+    Command::new(alloc, "ring")
+        .about("Prints the ring of a script, and the preference lists of its keys")
+        .arg(script_arg(alloc))
 }
 
 /// The argument of a file with a script.
@@ -237,32 +260,47 @@ fn steps_arg<'a>(alloc: Global) -> Arg<'a> {
 }
 
 /// The command that plays a storm.
-fn storm_command<'a>(alloc: Global) -> Result<Command<'a>, Error> {
-    let seed = Arg::new(alloc, "seed")
+fn storm_command<'a>(alloc: Global) -> Result<Command<'a>, AllocError> {
+    Command::new(alloc, "storm")
+        .about("Gets and puts from many threads at once, and prints how many were answered")
+        .arg(seed_arg(alloc))?
+        .arg(threads_arg(alloc))?
+        .arg(puts_arg(alloc))?
+        .arg(faults_arg(alloc))?
+        .arg(steps_arg(alloc))
+}
+
+/// The argument of a storm's seed.
+fn seed_arg<'a>(alloc: Global) -> Arg<'a> {
+    Arg::new(alloc, "seed")
         .required(true)
         .value_name("SEED")
         .help("What the keys and the faults are drawn from")
-        .value_parser(clap::value_parser!(u64));
-    let threads = Arg::new(alloc, "threads")
+        .value_parser(clap::value_parser!(u64))
+}
+
+/// That of how many clients it has.
+fn threads_arg<'a>(alloc: Global) -> Arg<'a> {
+    Arg::new(alloc, "threads")
         .required(true)
         .value_name("THREADS")
         .help("How many clients there are, 1 to 32, each in a thread of its own")
-        .value_parser(clap::value_parser!(u8).range(1..=32));
-    let puts = Arg::new(alloc, "puts")
+        .value_parser(clap::value_parser!(u8).range(1..=32))
+}
+
+/// That of how many turns each client has.
+fn puts_arg<'a>(alloc: Global) -> Arg<'a> {
+    Arg::new(alloc, "puts")
         .required(true)
         .value_name("PUTS")
         .help("How often each client gets and puts, 1 to 1000")
-        .value_parser(clap::value_parser!(u32).range(1..=1000));
-    let faults = Arg::new(alloc, "faults")
+        .value_parser(clap::value_parser!(u32).range(1..=1000))
+}
+
+/// The flag that has nodes fail meanwhile.
+fn faults_arg<'a>(alloc: Global) -> Arg<'a> {
+    Arg::new(alloc, "faults")
         .long("faults")
         .help("Nodes go down, return, hand over and lose answers meanwhile")
-        .action(ArgAction::SetTrue);
-    let storm = Command::new(alloc, "storm")
-        .about("Gets and puts from many threads at once, and prints how many were answered")
-        .arg(seed)?
-        .arg(threads)?
-        .arg(puts)?
-        .arg(faults)?
-        .arg(steps_arg(alloc))?;
-    Ok(storm)
+        .action(ArgAction::SetTrue)
 }
