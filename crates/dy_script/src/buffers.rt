@@ -1,8 +1,8 @@
 use json::Scratch;
 use std::alloc::Global;
 
-/// What reading takes beside the bytes, to be kept from line to line: texts with escapes are written
-/// there, and what was read borrows them.
+/// What reading takes beside the bytes, to be kept from line to line. Texts with escapes are
+/// written there, and what was read borrows them.
 #[derive(Drop)]
 pub struct Buffers {
     // Of what is read member by member.

@@ -39,8 +39,8 @@ pub(crate) struct Terms {
     pub nodes: usize,
 }
 
-/// What lines are served with in a cluster that is open: what runs the commands, and how
-/// far its steps were printed.
+/// What lines are served with in a cluster that is open: what runs the commands, and how far its
+/// steps were printed.
 #[derive(Drop)]
 pub(crate) struct ServedCluster<'a, J: Naming> {
     pub runner: Runner<'a, J>,
