@@ -11,7 +11,7 @@ use Rattle.dy_dots.specs.declared.faults.Fault.{Fault}
 use Rattle.dy_script.specs.Members.{◌>>=◌, need}
 use Rattle.dy_script.specs.Reading.{data_of}
 use Rattle.dy_script.specs.Requests.{RequestParts, request_of, request_of_text}
-use Rattle.dy_script.specs.inside.Documents.{data_in, document}
+use Rattle.dy_script.specs.inside.Documents.{document}
 use Rattle.dy_script.specs.inside.Fields.{AreTold}
 use Rattle.dy_script.specs.inside.Readings.{IsReadingOf}
 use Rattle.dy_script.proofs.TextsRead.{data_read}

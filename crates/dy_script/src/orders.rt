@@ -1,7 +1,7 @@
 ghost use Rattle.std.specs.Prelude.{◌≡◌, ◌<◌, IfSome, vec_items};
 ghost use Rattle.std.specs.Cow.{cow_slice_items};
 ghost use Rattle.dy_script.specs.{
-  Members.{allow_only},
+  Members.{allow_only, seen},
   Orders.{command_parts, write_parts, put_names, node_named, lone_node, mode_of, session_of},
   Orders.{bytes_of, value_of, write_of, put_of, delete_of, get_of, set_mode_of, show_of, at_node},
   Orders.{command_of},
@@ -141,8 +141,8 @@ pub(crate) fn command_in<'a>(
 /// The command of this word that names a node alone.
 #[tactic(auto, unfolding(crate::specs::Orders::at_node))]
 fn at_node<'a>(word: &str, order: Order<'_, 'a>, nodes: usize) -> Result<Command<'a>, Fault>
-    ensures { IsReadingOf command_parts result
-        (at_node nodes order.entry.command (source_data order.entry.source) word.now) }
+    ensures { seen command_parts result
+        ≡ at_node nodes order.entry.command (source_data order.entry.source) word.now }
 {
     match word {
         "down" => Ok(Command::Down {
@@ -231,8 +231,8 @@ fn allow_put(order: Order) -> Result<(), Fault>
 /// A delete, which has no value.
 #[tactic(auto, unfolding(crate::specs::Orders::delete_of))]
 fn delete_of<'a>(order: Order<'_, 'a>) -> Result<Command<'a>, Fault>
-    ensures { IsReadingOf command_parts result
-        (delete_of order.entry.command (source_data order.entry.source)) }
+    ensures { seen command_parts result
+        ≡ delete_of order.entry.command (source_data order.entry.source) }
 {
     order.allow_only(&["do", "key", "context", "session", "w"])?;
     let write = write_of(order)?;
@@ -243,8 +243,8 @@ fn delete_of<'a>(order: Order<'_, 'a>) -> Result<Command<'a>, Fault>
 #[inline(always)]
 #[tactic(auto, unfolding(crate::specs::Orders::get_of))]
 fn get_of<'a>(order: Order<'_, 'a>) -> Result<Command<'a>, Fault>
-    ensures { IsReadingOf command_parts result
-        (get_of order.entry.command (source_data order.entry.source)) }
+    ensures { seen command_parts result
+        ≡ get_of order.entry.command (source_data order.entry.source) }
 {
     order.allow_only(&["do", "key", "session"])?;
     let session = session_of(order)?;
@@ -255,8 +255,8 @@ fn get_of<'a>(order: Order<'_, 'a>) -> Result<Command<'a>, Fault>
 /// A node's new mode.
 #[tactic(auto, unfolding(crate::specs::Orders::set_mode_of))]
 fn set_mode_of<'a>(order: Order<'_, 'a>, nodes: usize) -> Result<Command<'a>, Fault>
-    ensures { IsReadingOf command_parts result
-        (set_mode_of nodes order.entry.command (source_data order.entry.source)) }
+    ensures { seen command_parts result
+        ≡ set_mode_of nodes order.entry.command (source_data order.entry.source) }
 {
     order.allow_only(&["do", "node", "mode"])?;
     let node = node_named(order, nodes)?;
@@ -267,8 +267,8 @@ fn set_mode_of<'a>(order: Order<'_, 'a>, nodes: usize) -> Result<Command<'a>, Fa
 /// A question for what a node holds of a key.
 #[tactic(auto, unfolding(crate::specs::Orders::show_of))]
 fn show_of<'a>(order: Order<'_, 'a>, nodes: usize) -> Result<Command<'a>, Fault>
-    ensures { IsReadingOf command_parts result
-        (show_of nodes order.entry.command (source_data order.entry.source)) }
+    ensures { seen command_parts result
+        ≡ show_of nodes order.entry.command (source_data order.entry.source) }
 {
     order.allow_only(&["do", "node", "key"])?;
     let node = node_named(order, nodes)?;
@@ -307,8 +307,8 @@ fn bytes_of(alloc: Global, order: Order, digits: &str) -> Result<Vec<u8>, Fault>
 #[inline(always)]
 #[tactic(auto, unfolding(crate::specs::Orders::write_of))]
 fn write_of<'a>(order: Order<'_, 'a>) -> Result<Write<'a>, Fault>
-    ensures { IsReadingOf write_parts result
-        (write_of order.entry.command (source_data order.entry.source)) }
+    ensures { seen write_parts result
+        ≡ write_of order.entry.command (source_data order.entry.source) }
 {
     let session = session_of(order)?;
     let w = order.optional_small(Name::W)?;
