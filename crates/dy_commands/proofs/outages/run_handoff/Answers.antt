@@ -1,4 +1,4 @@
-use Rattle.std.specs.Prelude.{Ok, Err, IfOk, refl, ℕ}
+use Rattle.std.specs.Prelude.{Ok, Err, refl, ℕ}
 use Rattle.std.proofs.Common.{inl, subst}
 use Rattle.dy_dots.specs.declared.faults.Fault.TheVariants.{Down}
 use Rattle.dy_handoff.specs.Passes.{IsPass}
