@@ -12,7 +12,7 @@ use Rattle.dy_shares.specs.Shares.{with_ack}
 use Rattle.dy_shares.proofs.Sessions.{greatest-append}
 use Rattle.dy_transport.specs.Tellings.{IsAckTold}
 use Rattle.dy_transport.specs.Told.{Told}
-use Rattle.dy_transport.specs.declared.kinds.AnswerRead.{AnswerRead}
+use Rattle.dy_core.specs.declared.answers.AnswerRead.{AnswerRead}
 use Rattle.dy_transport.specs.declared.tries.Try.{Try}
 use Rattle.dy_coord.specs.PutDones.{IsPutDone}
 use Rattle.dy_coord.specs.PutEnds.{EndsAfter, PutRuns}

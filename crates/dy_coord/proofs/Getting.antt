@@ -20,7 +20,7 @@ use Rattle.dy_node.specs.declared.asks.Answer.TheVariants.{Stored, Rows, Down, N
 use Rattle.dy_transport.specs.Asking.{FitsWhat, IsSeenAt}
 use Rattle.dy_transport.specs.Snapshots.{snapshot_of}
 use Rattle.dy_transport.specs.Told.{Told}
-use Rattle.dy_transport.specs.declared.kinds.AnswerRead.{AnswerRead}
+use Rattle.dy_core.specs.declared.answers.AnswerRead.{AnswerRead}
 use Rattle.dy_transport.specs.declared.asked.Asked.{Asked}
 use Rattle.dy_transport.specs.declared.asked.What.{What}
 use Rattle.dy_transport.specs.declared.asked.What.TheVariants.{Fetch}

@@ -24,8 +24,8 @@ use Rattle.dy_node.specs.declared.asks.Answer.TheVariants.{Stored, Rows, Down, N
 use Rattle.dy_transport.specs.Kinds.{kind_of}
 use Rattle.dy_transport.specs.Refusals.{IsOfStep}
 use Rattle.dy_transport.specs.Told.{Told}
-use Rattle.dy_transport.specs.declared.kinds.AnswerKind.TheVariants as kind
-use Rattle.dy_transport.specs.declared.kinds.AnswerRead.{AnswerRead}
+use Rattle.dy_core.specs.declared.answers.AnswerKind.TheVariants as kind
+use Rattle.dy_core.specs.declared.answers.AnswerRead.{AnswerRead}
 use Rattle.dy_transport.specs.declared.replies.Reply.{Reply}
 use Rattle.dy_transport.specs.declared.tries.Try.{Try}
 use Rattle.dy_reads.specs.Rules.{as_read}

@@ -4,11 +4,10 @@ ghost use Rattle.dy_coord.specs.Sure.{IsSureOf};
 
 use crate::put_results::PutDone;
 use dy_book::Options;
-use dy_core::{Place, PlaceVec};
+use dy_core::{AnswerVec, Place, PlaceVec};
 use dy_dots::{Context, Dot, Fault};
 use dy_shares::{Naming, Receipt, Seen};
 use dy_siblings::{Key, Row, Value};
-use dy_transport::AnswerVec;
 use std::alloc::Global;
 
 /// A get that was answered. It has the merged row and its context, and how many steps its session

@@ -10,11 +10,11 @@ ghost use Rattle.dy_coord.specs.inside.GetParts.{Finishes};
 
 use crate::get_done::GetDone;
 use crate::get_faults::GetFault;
+use dy_core::AnswerVec;
 use dy_dots::{Context, Fault};
 use dy_quorum::{Gathering, merge_all};
 use dy_shares::{Naming, Seen, SessionShare};
 use dy_siblings::Row;
-use dy_transport::AnswerVec;
 use std::alloc::Global;
 
 // Merges the rows of these answers, and adds the get to the session's list.

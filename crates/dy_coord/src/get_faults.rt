@@ -1,7 +1,7 @@
 ghost use Rattle.std.specs.Prelude.{◌≡◌, []};
 
+use dy_core::AnswerVec;
 use dy_dots::Fault;
-use dy_transport::AnswerVec;
 use std::alloc::Global;
 
 /// A get that was refused. Where too few homes answered it lists every answer that was read; any

@@ -19,7 +19,7 @@ ghost use Rattle.dy_coord.specs.{
 };
 
 use crate::get_tasks::GetTask;
-use dy_core::Place;
+use dy_core::{AnswerKind, AnswerRead, AnswerVec, Place};
 use dy_dots::NodeId;
 use dy_node::Answer;
 use dy_preference::{Assign, Preference};
@@ -27,7 +27,7 @@ use dy_quorum::Gathering;
 use dy_reads::{Request, ask_homes, read_next};
 use dy_shares::{Naming, Seen, Since};
 use dy_siblings::Key;
-use dy_transport::{AnswerKind, AnswerRead, AnswerVec, Transport};
+use dy_transport::Transport;
 use std::sync::Wait;
 
 // The row of an answer, if it has one.

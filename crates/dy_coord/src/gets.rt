@@ -11,13 +11,14 @@ use crate::get_endings::finish;
 use crate::get_faults::GetFault;
 use crate::get_tasks::GetTask;
 use crate::put_reads::most_answers;
+use dy_core::AnswerVec;
 use dy_dots::Fault;
 use dy_preference::Preference;
 use dy_quorum::Gathering;
 use dy_reads::{Somewhere, look_somewhere};
 use dy_shares::{Naming, SessionShare};
 use dy_siblings::Key;
-use dy_transport::{AnswerVec, Transport};
+use dy_transport::Transport;
 use std::alloc::Global;
 use std::sync::Wait;
 

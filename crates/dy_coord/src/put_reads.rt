@@ -13,13 +13,14 @@ ghost use Rattle.dy_coord.specs.{
   inside.Reads.{MayRead},
 };
 
+use dy_core::AnswerVec;
 use dy_dots::Dot;
 use dy_node::{Answer, VouchedRow};
 use dy_preference::{Assign, Preference};
 use dy_quorum::Tally;
 use dy_reads::{Request, read_next};
 use dy_shares::{Naming, Receipt};
-use dy_transport::{AnswerVec, Transport};
+use dy_transport::Transport;
 use std::sync::Wait;
 
 // For how many answers a put or a get makes room: two of each node of the list.

@@ -1,9 +1,9 @@
 ghost use Rattle.std.specs.Prelude.{◌≡◌, [], None, length};
 ghost use Rattle.dy_shares.specs.Shares.{own_homes};
 
+use dy_core::AnswerVec;
 use dy_dots::{Dot, Fault};
 use dy_shares::{Naming, Receipt};
-use dy_transport::AnswerVec;
 use std::alloc::Global;
 
 /// A put that was acknowledged: its dot, the number of the ack's step, and the receipts that were

@@ -22,7 +22,7 @@ ghost use Rattle.dy_reads.specs.Lists.{homes_in};
 use crate::put_reads::{most_answers, read_put};
 use crate::put_results::{PutDone, PutFault};
 use crate::put_tasks::PutTask;
-use dy_core::Place;
+use dy_core::{AnswerKind, AnswerRead, AnswerVec, Place};
 use dy_dots::{Context, Dot, Fault, NodeId};
 use dy_node::Begun;
 use dy_preference::{Assign, Preference};
@@ -30,7 +30,7 @@ use dy_quorum::Tally;
 use dy_reads::{Request, Somewhere, ask_homes, begin_somewhere};
 use dy_shares::{Naming, SessionShare};
 use dy_siblings::{Key, Value};
-use dy_transport::{AnswerKind, AnswerRead, AnswerVec, Transport};
+use dy_transport::Transport;
 use std::alloc::Global;
 use std::sync::Wait;
 

@@ -4,4 +4,5 @@ pub mod Steps
 pub mod Logs
 pub mod Orders
 pub mod Listings
+pub mod Answers
 pub mod inside

@@ -3,6 +3,7 @@
 
 mod acks;
 mod allowing;
+mod answers;
 mod applying;
 mod holdings;
 mod issuing;
@@ -16,6 +17,7 @@ mod unknowns;
 mod worlds;
 
 pub use acks::Acked;
+pub use answers::{AnswerKind, AnswerRead, AnswerVec};
 pub use applying::run_steps;
 pub use holdings::Holding;
 pub use lists::{Ranked, put, put_reserved};

@@ -1,8 +1,8 @@
 -- The texts of places, and of answers.
 use Rattle.std.specs.Prelude.{ℕ, List, ◌++◌, codes, decimal}
 use Rattle.dy_core.specs.declared.places.Place.{Place}
-use Rattle.dy_transport.specs.Kinds.{kind_text}
-use Rattle.dy_transport.specs.declared.kinds.AnswerRead.{AnswerRead}
+use Rattle.dy_core.specs.Answers.{kind_text}
+use Rattle.dy_core.specs.declared.answers.AnswerRead.{AnswerRead}
 use Rattle.dy_lines.specs.Texts.{listed_text}
 
 -- a place is its holder, a stroke, and its home

@@ -5,10 +5,9 @@ use crate::keeping::{AllKept, Kept};
 use crate::listed::Listed;
 use crate::printed::Hex;
 use crate::refusals::Refusal;
-use dy_core::PlaceVec;
+use dy_core::{AnswerVec, PlaceVec};
 use dy_dots::{Context, Dot, Fault, NodeId};
 use dy_siblings::{Row, Version};
-use dy_transport::AnswerVec;
 use std::fmt;
 
 /// The word that a command's line begins with.

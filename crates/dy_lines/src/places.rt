@@ -3,9 +3,8 @@ ghost use Rattle.dy_core.specs.Steps.{place_for};
 ghost use Rattle.dy_lines.specs.Places.{answer_text, place_text};
 
 use crate::listed::Item;
-use dy_core::Place;
+use dy_core::{AnswerRead, Place};
 use dy_dots::NodeId;
-use dy_transport::AnswerRead;
 use std::fmt;
 
 /// A place that prints as its holder, a stroke, and its home: the one type that prints the two.

@@ -13,7 +13,7 @@ use Rattle.dy_node.specs.declared.asks.Answer.{Answer}
 use Rattle.dy_node.specs.declared.asks.Answer.TheVariants.{Down}
 use Rattle.dy_transport.specs.declared.asked.Asked.{Asked}
 use Rattle.dy_transport.specs.declared.asked.What.{What}
-use Rattle.dy_transport.specs.declared.kinds.AnswerRead.{AnswerRead}
+use Rattle.dy_core.specs.declared.answers.AnswerRead.{AnswerRead}
 use Rattle.dy_transport.specs.declared.replies.Reply.{Reply}
 use Rattle.dy_transport.specs.Told.{Told, reply}
 use Rattle.dy_reads.specs.Rules.{ask_of, nodes_asked, is_served, after_reply, after_all, as_read}

@@ -14,7 +14,7 @@ use Rattle.dy_transport.specs.Told.{AllAnswered, Answers, Told, reply}
 use Rattle.dy_transport.specs.declared.asked.Asked.{Asked}
 use Rattle.dy_transport.specs.declared.asked.What.{What}
 use Rattle.dy_transport.specs.declared.asked.What.TheVariants.{Store, Fetch}
-use Rattle.dy_transport.specs.declared.kinds.AnswerRead.{AnswerRead}
+use Rattle.dy_core.specs.declared.answers.AnswerRead.{AnswerRead}
 use Rattle.dy_transport.specs.declared.replies.Reply.{Reply}
 use Rattle.dy_reads.specs.Lists.{asked_homes, homes_in}
 use Rattle.dy_reads.specs.declared.requests.Request.{Request}

@@ -9,12 +9,12 @@ ghost use Rattle.dy_reads.specs.{
 };
 
 use crate::requests::Request;
-use dy_core::Place;
+use dy_core::{AnswerRead, AnswerVec, Place};
 use dy_dots::NodeId;
 use dy_node::Answer;
 use dy_preference::{Assign, Preference};
 use dy_shares::Naming;
-use dy_transport::{AnswerKind, AnswerRead, AnswerVec, Transport};
+use dy_transport::{Transport, kind_of};
 use std::sync::Wait;
 
 /// Asks each home for itself, but for the one that the coordinator holds for, before any answer is
@@ -103,7 +103,7 @@ pub fn read_next<J: Naming, T: Transport<J>, R: Wait>(
     };
     answers.push_reserved(AnswerRead {
         place: Place { holder, home },
-        kind: AnswerKind::of(&answer),
+        kind: kind_of(&answer),
     });
     if !request.is_served(&answer) {
         ask_next(rt, transport, request, assign, home);

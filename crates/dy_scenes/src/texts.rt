@@ -2,8 +2,8 @@
 use crate::calls::Got;
 use crate::rings::NODES;
 use dy_cluster::{Fault, NodeId, Row};
+use dy_core::AnswerRead;
 use dy_node::RowFor;
-use dy_transport::AnswerRead;
 use std::alloc::Global;
 use std::sync::{Mutex, Wait};
 

@@ -11,7 +11,7 @@ use Rattle.dy_quorum.specs.Gatherings.{first_answers}
 use Rattle.dy_transport.specs.Tellings.{IsAckTold}
 use Rattle.dy_transport.specs.Told.{Told}
 use Rattle.dy_transport.specs.declared.tries.Try.{Try}
-use Rattle.dy_transport.specs.declared.kinds.AnswerRead.{AnswerRead}
+use Rattle.dy_core.specs.declared.answers.AnswerRead.{AnswerRead}
 use Rattle.dy_coord.specs.PutEnds.{EndsAfter, PutEnds}
 use Rattle.dy_coord.specs.declared.put_results.PutDone.{PutDone}
 use Rattle.dy_coord.specs.declared.put_results.PutFault.{PutFault}

@@ -1,5 +1,5 @@
--- The kinds of answers, and how each is printed.
-use Rattle.std.specs.Prelude.{ℕ, List, ◌++◌, codes, decimal}
+-- The kinds of answers.
+use Rattle.std.specs.Prelude.{ℕ}
 use Rattle.dy_dots.specs.declared.faults.Fault.{Fault}
 use Rattle.dy_dots.specs.declared.faults.Fault.TheVariants.{OutOfMemory, ContextSyntax, KeySize}
 use Rattle.dy_dots.specs.declared.faults.Fault.TheVariants.{ValueSize, TokenClash}
@@ -9,11 +9,11 @@ use Rattle.dy_dots.specs.declared.faults.Fault.TheVariants.{SharesMissing, Steps
 use Rattle.dy_dots.specs.declared.faults.Fault.TheVariants.{NotEnough, BadQuorum, ScriptSyntax}
 use Rattle.dy_dots.specs.declared.faults.Fault.TheVariants.{UnknownCommand}
 use Rattle.dy_dots.specs.declared.faults.Fault.TheVariants as fault
+use Rattle.dy_core.specs.declared.answers.AnswerKind.{AnswerKind}
+use Rattle.dy_core.specs.declared.answers.AnswerKind.TheVariants.{Stored, Rows, Down, NoAnswer}
+use Rattle.dy_core.specs.declared.answers.AnswerKind.TheVariants.{Refused}
 use Rattle.dy_node.specs.declared.asks.Answer.{Answer}
 use Rattle.dy_node.specs.declared.asks.Answer.TheVariants as answer
-use Rattle.dy_transport.specs.declared.kinds.AnswerKind.{AnswerKind}
-use Rattle.dy_transport.specs.declared.kinds.AnswerKind.TheVariants.{Stored, Rows, Down, NoAnswer}
-use Rattle.dy_transport.specs.declared.kinds.AnswerKind.TheVariants.{Refused}
 
 -- the number of a refusal, with which its text begins
 abbrev pub fault_number : Fault → ℕ
@@ -36,14 +36,6 @@ fault_number NotEnough = 15
 fault_number BadQuorum = 16
 fault_number (ScriptSyntax command) = 17
 fault_number (UnknownCommand command) = 18
-
--- the text of a kind
-abbrev pub kind_text : AnswerKind → List ℕ
-kind_text Stored = codes "stored"
-kind_text Rows = codes "rows"
-kind_text Down = codes "down"
-kind_text NoAnswer = codes "noanswer"
-kind_text (Refused number) = codes "E" ++ decimal number
 
 module _ {J : Type 0} where
   -- the kind of an answer

@@ -15,7 +15,7 @@ mod tries;
 
 pub use asked::{Asked, What, home_asked};
 pub use directs::Direct;
-pub use kinds::{AnswerKind, AnswerRead, AnswerVec};
+pub use kinds::kind_of;
 pub use lines::{Line, Waiting};
 pub use locks::lock_soon;
 pub use reaches::Reach;

@@ -8,7 +8,7 @@ use Rattle.dy_quorum.specs.Gatherings.{answer_place, first_answers}
 use Rattle.dy_transport.specs.Snapshots.{snapshot_of}
 use Rattle.dy_transport.specs.Told.{Told}
 use Rattle.dy_transport.specs.declared.asked.What.TheVariants.{Fetch}
-use Rattle.dy_transport.specs.declared.kinds.AnswerRead.{AnswerRead}
+use Rattle.dy_core.specs.declared.answers.AnswerRead.{AnswerRead}
 use Rattle.dy_reads.specs.Lists.{homes_in}
 use Rattle.dy_reads.specs.Rules.{AllUsed, AsksByRule, IsReadOut, IsReplyTo, as_read}
 use Rattle.dy_coord.specs.Gets.{StopsSoon, own_read, seens_of}

@@ -3,7 +3,7 @@ use Rattle.std.proofs.Common.{◌≡◌, ◌∙◌, List, ℕ, length, arith, ap
 use Rattle.dy_core.specs.Logs.{Answer as SeenParts}
 use Rattle.dy_shares.specs.Shares.{since_of}
 use Rattle.dy_quorum.specs.Gatherings.{first_answers}
-use Rattle.dy_transport.specs.declared.kinds.AnswerRead.{AnswerRead}
+use Rattle.dy_core.specs.declared.answers.AnswerRead.{AnswerRead}
 use Rattle.dy_coord.proofs.Getting.{are_used, gathered, got, lacking, no_answers}
 use Rattle.dy_coord.proofs.gets.get.Goals as goal
 

@@ -65,4 +65,4 @@ returns-clause-none g c = tt
 
 -- it is listed with its node, its home and its kind
 pub returns-clause-listed : goal.returns-clause-listed
-returns-clause-listed g c = rw (c.push_reserved.ensures.items, c.of.ensures) refl
+returns-clause-listed g c = rw (c.push_reserved.ensures.items, c.kind_of.ensures) refl
